@@ -1,0 +1,76 @@
+-- 01, 'When the desk says no': what a call answers, in its order, and what it leaves. Assumes nothing.
+use Prim.Native.Nat.{ℕ, _+_, _*_, _^_}
+use mathlib.Core.Bool.{Bool, true, false, _&&_}
+use mathlib.Core.List.{List, []}
+use mathlib.Core.Option.{Option, none, some}
+use lib.ListN.{length}
+use lib.Dec.{leb, eqb}
+use Rattle.rules.specs.Limits.{mostStatements, mostTallies, lastClock}
+use Rattle.rules.specs.Messages.{Message, read, allowed, Effect, outgoing}
+use Rattle.rules.specs.Words.{Cause, full, split, clock, inView, waiting, stopped, State}
+use Rattle.rules.specs.Inputs.{Work, withPhase, handled, offered, ticked}
+
+-- the number of the answer (0 is done), what is left, and what is said
+pub record Outcome : Type 0 where
+  pub number : ℕ
+  pub next : State
+  pub out : List Effect
+
+unfoldable pub done : Work → Outcome
+done w = record { number = 0; next = w .now; out = w .out }
+
+-- "nothing" changes
+unfoldable pub refused : ℕ → State → Outcome
+refused k s = record { number = k; next = s; out = [] }
+
+-- "phase: stopped"
+unfoldable pub stopping : ℕ → Cause → State → Outcome
+unfolding refused withPhase
+stopping k why s = refused k (withPhase (stopped why) s)
+
+-- the tables have room for what was added
+unfoldable pub hasRoom : State → Bool
+hasRoom s = leb (length (s .statements)) mostStatements && leb (length (s .tallies)) mostTallies
+
+-- 6, "no record free for what this input must add"
+unfoldable pub ifRoom : State → Work → Outcome
+unfolding hasRoom done stopping
+ifRoom s w = elim (hasRoom (w .now)) [ true ↦ done w | false ↦ stopping 6 full s ]
+
+-- 3, "already stopped"
+unfoldable pub running : State → Bool
+running s = elim (s .phase) [ inView ↦ true | waiting q ↦ true | stopped c ↦ false ]
+
+-- a message: 3, then 4, "unreadable message", 5, "message not allowed", and 6
+unfoldable pub step : List ℕ → State → Outcome
+unfolding running refused read allowed ifRoom handled
+step bs s =
+    elim (running s) [
+      | false ↦ refused 3 s
+      | true ↦
+          elim (read bs) [
+            | none ↦ refused 4 s
+            | some m ↦ elim (allowed (s .settings) m) [ false ↦ refused 5 s | true ↦ ifRoom s (handled m s) ]
+          ]
+    ]
+
+-- an offer: 3, then 9, "offer not to be taken", and 6
+unfoldable pub offer : ℕ → State → Outcome
+unfolding running refused offered ifRoom handled
+offer b s = elim (running s) [ false ↦ refused 3 s | true ↦ elim (offered b s) [ none ↦ refused 9 s | some m ↦ ifRoom s (handled m s) ] ]
+
+-- a tick: 3, then 8, "tick at clock 4,000,000,000", 7, "a due commit differs from the log at a height", and 6
+unfoldable pub tick : State → Outcome
+unfolding running refused stopping ticked ifRoom
+tick s =
+    elim (running s) [
+      | false ↦ refused 3 s
+      | true ↦
+          elim (eqb (s .clock) lastClock)
+          [ true ↦ stopping 8 clock s | false ↦ elim (ticked s) [ none ↦ stopping 7 split s | some w ↦ ifRoom s w ] ]
+    ]
+
+-- what a host is told: the refusal times 2^32, and "the count of bytes written"
+unfoldable pub result : Outcome → ℕ
+unfolding outgoing
+result o = o .number * 2 ^ 32 + length (outgoing (o .out))

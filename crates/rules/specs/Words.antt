@@ -1,0 +1,159 @@
+-- 01, 'Words used': statement, same, tally, certified, rank, highest, conflict, and the state of a station. Assumes nothing.
+use Prim.Native.Nat.{ℕ, suc, _-_}
+use mathlib.Core.Bool.{Bool, true, false, not, _&&_, _||_}
+use mathlib.Core.List.{List, [], _∷_}
+use mathlib.Core.Option.{Option, none, some}
+use lib.ListN.{getD, replicate}
+use lib.Dec.{leb, ltb, eqb}
+use Rattle.rules.specs.Limits.{firstView, lastView}
+use Rattle.rules.specs.Lists.{iff}
+use Rattle.rules.specs.Sizes.{Settings, joined, quorum}
+use Rattle.rules.specs.Messages.{Message, newView, propose}
+
+-- "a statement is a new-view or propose"; its link is a new-view's certificate view, a propose's parent name.
+-- The mask is "as received"; the clock of the own vote is there once it was voted for.
+pub record Statement : Type 0 where
+  pub isNewView : Bool
+  pub view : ℕ
+  pub height : ℕ
+  pub name : ℕ
+  pub link : ℕ
+  pub mask : ℕ
+  pub author : ℕ
+  pub voted : Option ℕ
+
+-- the statement as it is sent: "the mask as received"
+unfoldable pub message : Statement → Message
+message x =
+    elim (x .isNewView) [
+      | true ↦ newView (x .view) (x .height) (x .name) (x .link) (x .mask) (x .author)
+      | false ↦ propose (x .view) (x .height) (x .name) (x .link) (x .mask) (x .author)
+    ]
+
+-- "two are the same when all but the mask agree"
+unfoldable pub sameStatement : Statement → Statement → Bool
+unfolding iff
+sameStatement x y =
+    iff (x .isNewView) (y .isNewView) && eqb (x .view) (y .view) && eqb (x .height) (y .height) && eqb (x .name) (y .name)
+    && eqb (x .link) (y .link) && eqb (x .author) (y .author)
+
+-- "two different statements of one view conflict when: both are new-views; both are proposes of one height with
+-- different names; or one is a new-view and the other a propose of no greater height"
+unfoldable pub conflict : Statement → Statement → Bool
+unfolding sameStatement
+conflict x y =
+    not (sameStatement x y) && eqb (x .view) (y .view)
+    && elim (x .isNewView) [
+      | true ↦ y .isNewView || leb (y .height) (x .height)
+      | false ↦
+          elim (y .isNewView)
+          [ true ↦ leb (x .height) (y .height) | false ↦ eqb (x .height) (y .height) && not (eqb (x .name) (y .name)) ]
+    ]
+
+-- "a tally is (view, height, name) with a mask"; a certificate has the same parts
+pub record Tally : Type 0 where
+  pub view : ℕ
+  pub height : ℕ
+  pub name : ℕ
+  pub mask : ℕ
+
+-- the statement's "own block in its view", with a mask
+unfoldable pub ownBlock : Statement → ℕ → Tally
+ownBlock x m = record { view = x .view; height = x .height; name = x .name; mask = m }
+
+-- the statement's certificate: of "its certified block". A propose's "mask certifies (view, height-1, parent)"
+unfoldable pub certificate : Statement → Tally
+certificate x =
+    elim (x .isNewView) [
+      | true ↦ record { view = x .link; height = x .height; name = x .name; mask = x .mask }
+      | false ↦ record { view = x .view; height = x .height - 1; name = x .link; mask = x .mask }
+    ]
+
+unfoldable pub sameBlock : Tally → Tally → Bool
+sameBlock t u = eqb (t .view) (u .view) && eqb (t .height) (u .height) && eqb (t .name) (u .name)
+
+-- "adding a voter to a tally gives back the grown tally"
+unfoldable pub grown : Tally → ℕ → Tally
+unfolding joined
+grown t m = record { view = t .view; height = t .height; name = t .name; mask = joined (t .mask) m }
+
+-- a mask joins its tally, "opened if missing"; to open a tally is to join no voters
+unfoldable pub join : Tally → List Tally → List Tally
+unfolding sameBlock grown
+join t [] = t ∷ []
+join t (u ∷ us) = elim (sameBlock t u) [ true ↦ grown u (t .mask) ∷ us | false ↦ u ∷ join t us ]
+
+-- "genesis is certified in view 0 and has no tally there"
+unfoldable pub joinCertificate : Tally → List Tally → List Tally
+unfolding join
+joinCertificate t us = elim (eqb (t .view) 0) [ true ↦ us | false ↦ join t us ]
+
+-- the voters that a block's tally has
+unfoldable pub voters : Tally → List Tally → ℕ
+unfolding sameBlock
+voters t [] = 0
+voters t (u ∷ us) = elim (sameBlock t u) [ true ↦ u .mask | false ↦ voters t us ]
+
+-- "it is certified at f+1 bits"
+unfoldable pub certified : Settings → Tally → Bool
+unfolding quorum
+certified g t = quorum g (t .mask)
+
+-- "rank is view, then height"
+unfoldable pub below : Tally → Tally → Bool
+below t u = ltb (t .view) (u .view) || eqb (t .view) (u .view) && ltb (t .height) (u .height)
+
+-- "'highest' breaks ties by the smaller name in byte order"
+unfoldable pub higher : Tally → Tally → Bool
+unfolding below
+higher t u = below u t || not (below t u) && ltb (t .name) (u .name)
+
+abbrev pub genesis : Tally
+genesis = record { view = 0; height = 0; name = 0; mask = 0 }
+
+-- the "highest certificate of an earlier view"
+unfoldable pub highest : Settings → ℕ → List Tally → Tally
+unfolding certified higher
+highest g v [] = genesis
+highest g v (t ∷ ts) =
+    let best = highest g v ts in
+    elim (ltb (t .view) v && certified g t && higher t best) [ true ↦ t | false ↦ best ]
+
+-- "a station is in a view, waiting after a quit, or stopped with a cause"
+pub data Cause : Type 0 where
+  full split clock : Cause
+
+pub data Phase : Type 0 where
+  inView : Phase
+  waiting : (quit : ℕ) → Phase
+  stopped : Cause → Phase
+
+-- The view is the one held or last quit; entry is the clock at which it was entered. The blame mask of view v stands at
+-- place v (nobody blames view 0), the name logged at height h at place h - 1.
+pub record State : Type 0 where
+  pub settings : Settings
+  pub phase : Phase
+  pub view : ℕ
+  pub entry : ℕ
+  pub clock : ℕ
+  pub lock : Tally
+  pub statements : List Statement
+  pub tallies : List Tally
+  pub blames : List ℕ
+  pub log : List ℕ
+
+-- "it starts in view 1, clock 0, lock on genesis"
+unfoldable pub fresh : Settings → State
+fresh g =
+    record {
+      settings = g;
+      phase = inView;
+      view = firstView;
+      entry = 0;
+      clock = 0;
+      lock = genesis;
+      statements = [];
+      tallies = [];
+      blames = replicate (suc lastView) 0;
+      log = [];
+    }
