@@ -1,5 +1,5 @@
 -- 01, 'Messages on the wire': the six kinds by one table, writing, reading, what is allowed, and the outgoing fields. Assumes nothing.
-use Prim.Native.Nat.{ℕ, zero, suc, _-_, _^_}
+use Prim.Native.Nat.{ℕ, zero, suc, _-_, _^_, _<_}
 use mathlib.Core.Bool.{Bool, true, false, _&&_}
 use mathlib.Core.List.{List, [], _∷_, _++_}
 use mathlib.Core.Option.{Option, none, some, Option·map}
@@ -78,6 +78,16 @@ writes (t ∷ ts) (v ∷ vs) = field t (unbe (width t) v) ++ writes ts vs
 unfoldable pub write : Message → List ℕ
 unfolding writes tagsOf kind values
 write m = writes (1 ∷ tagsOf (kind m)) (kind m ∷ values m)
+
+-- each number fits the bytes of its field
+abbrev pub InWidth : List ℕ → List ℕ → Type 0
+InWidth [] [] = Unit
+InWidth [] (v ∷ vs) = ⊥
+InWidth (t ∷ ts) [] = ⊥
+InWidth (t ∷ ts) (v ∷ vs) = (v < 256 ^ width t) × InWidth ts vs
+
+abbrev pub Fitting : Message → Type 0
+Fitting m = InWidth (tagsOf (kind m)) (values m)
 
 -- ---- reading
 

@@ -33,11 +33,10 @@ leader g v = v % g .n
 unfoldable pub only : ℕ → ℕ
 only i = 2 ^ i
 
-unfoldable pub bit : ℕ → ℕ → ℕ
+abbrev pub bit : ℕ → ℕ → ℕ
 bit m i = m / 2 ^ i % 2
 
 unfoldable pub holds : ℕ → ℕ → Bool
-unfolding bit
 holds m i = eqb (bit m i) 1
 
 -- two masks joined: nobody is lost, nobody is counted twice

@@ -1,0 +1,5 @@
+pub mod Tests
+pub mod Bytes
+pub mod Masks
+pub mod Written
+pub mod ReadBack
