@@ -35,8 +35,8 @@ impl Name {
         ensures { λ r. ⌜ r ≡ eqb (nameOf self) (nameOf other) ⌝ }
     {
         let high = (self.first ^ other.first) | (self.second ^ other.second);
-        let low = (self.third ^ other.third) | (self.fourth ^ other.fourth);
-        (high | low) == 0
+        let any = high | (self.third ^ other.third) | (self.fourth ^ other.fourth);
+        any == 0
     }
 
     // Whether this name comes before the other in byte order.
@@ -108,10 +108,11 @@ pub fn put_name(s: &mut [u8], at: usize, name: Name)
     requires { ⌜ at + 32 ≤ length (now s) ⌝ }
     ensures { λ _. ⌜ now (s .exit) ≡ written (now (s .entry)) at 32 (nameOf name) ⌝ }
 {
+    let first = name.first;
     put(s, at + 24, 8, name.fourth);
     put(s, at + 16, 8, name.third);
     put(s, at + 8, 8, name.second);
-    put(s, at, 8, name.first);
+    put(s, at, 8, first);
 }
 
 // Copies the name at a place to a place of another slice.

@@ -1,5 +1,5 @@
 -- `fields::all_zero` meets its contract: the or is 0 exactly where the bytes passed are. Assumes nothing.
-use Prim.Native.Nat.{_≤_, _-_}
+use Prim.Native.Nat.{_≤_, _-_, _+_}
 use mathlib.Core.Path.{_≡_, refl}
 use native.Mathlib.Omega.{arith}
 use Rattle.fields.specs.Places.{number}
@@ -32,7 +32,11 @@ loop-less : tie.Need-loop-less Inv-loop μ-loop
 loop-less c = search needs
 
 loop-again : tie.Need-loop-again Inv-loop μ-loop
-loop-again c = (omega arith, simp number-suc (zero-step _ _ _ (c .before .before .loop .inv .1)))
+loop-again c =
+    let a = c .before .before .before .args in
+    let l = c .before .before .loop in
+    let x = c .shared-slice-known .given (a .at + l .k) in
+    (omega arith, simp number-suc (zero-step 256 (l .any) _ _ (x .fits) (l .inv .1)))
 
 returns : tie.Need-returns Inv-loop μ-loop
 returns c =

@@ -20,7 +20,7 @@ same-length c = search needs
 
 -- src/lib.rt:118:1
 returns : tie.Need-returns
-returns c = ?
+returns c = rw (c .before .before .put-name .ensures, c .before .before .before .get-name .ensures .0)
 
 pub copy-name-spec : {M : Type 1} → statement M
 copy-name-spec = tie.close (tie.spec get-name-requires put-name-requires same-length returns)

@@ -1,3 +1,6 @@
+use mathlib.Core.Path.{sym}
+use Rattle.fields.specs.Names.{nameOf}
+use Rattle.fields.proofs.Names.{number-words, name-lt}
 use borrow.Author.Needs.{needs}
 use Rattle.fields.proofs.get_name.Statement.{statement}
 use Rattle.fields.proofs.get_name.Tie as tie
@@ -35,7 +38,10 @@ get-requires-4 c κs = search needs
 
 -- src/lib.rt:95:1
 returns : tie.Need-returns
-returns c = ?
+unfolding nameOf
+returns c =
+    let a = c .before .before .before .before .before .args in
+    (rw (c .before .before .before .get .ensures .0, c .before .before .get2 .ensures .0, c .before .get3 .ensures .0, c .get4 .ensures .0) (sym (number-words (a .s .now) (a .at))), name-lt _ (c .before .before .before .get .ensures .1) (c .before .before .get2 .ensures .1) (c .before .get3 .ensures .1) (c .get4 .ensures .1))
 
 pub get-name-spec : {M : Type 1} → statement M
 get-name-spec =

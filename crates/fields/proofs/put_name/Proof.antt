@@ -1,3 +1,4 @@
+use Rattle.fields.proofs.Names.{put-words}
 use borrow.Author.Needs.{needs}
 use Rattle.fields.proofs.put_name.Statement.{statement}
 use Rattle.fields.proofs.put_name.Tie as tie
@@ -39,7 +40,10 @@ same-length c = search needs
 
 -- src/lib.rt:107:1
 returns : tie.Need-returns
-returns c = ?
+returns c =
+    let start = c .before .before .before .before .before .before .before .before .before .before .before .before .before .before .before .before .before in
+    let a = start .args in
+    rw (c .before .before .put4 .ensures, c .before .before .before .before .before .before .put3 .ensures, c .before .before .before .before .before .before .before .before .before .before .put2 .ensures, c .before .before .before .before .before .before .before .before .before .before .before .before .before .before .put .ensures) (put-words (a .s .now) (a .at) (a .name) (start .good .1 .1 .0 .0))
 
 pub put-name-spec : {M : Type 1} → statement M
 put-name-spec =

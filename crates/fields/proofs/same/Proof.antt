@@ -43,7 +43,7 @@ loop-again c =
     let l = c .before .before .before .loop in
     let x = c .before .shared-slice-known .given (a .i + l .k) in
     let y = c .shared-slice-known2 .given (a .j + l .k) in
-    (omega arith, simp number-suc (same-step (l .any) _ _ _ _ (x .fits) (y .fits) (l .inv .1)))
+    (omega arith, simp number-suc (same-step 256 (l .any) _ _ _ _ (x .fits) (y .fits) (l .inv .1)))
 
 returns : tie.Need-returns Inv-loop μ-loop
 returns c =

@@ -1,11 +1,12 @@
+-- `fields::Name::same` meets its contract. Assumes nothing.
+use Rattle.fields.proofs.Names.{same-name}
 use Rattle.fields.proofs.Name.same.Statement.{statement}
 use Rattle.fields.proofs.Name.same.Tie as tie
-use Rattle.fields.proofs.Name.same.Reads as reads
-use Rattle.fields.proofs.Name.same.Lts as lts
 
--- src/lib.rt:34:5
 returns : tie.Need-returns
-returns c = ?
+returns c =
+    let a = c .before .before .before .before .before .before .before .before .args in
+    same-name (a .self) (a .other) (c .before .before .before .before .before .before .before .struct-known .given) (c .before .before .before .before .before .before .struct-known2 .given)
 
 pub same-spec : {M : Type 1} → statement M
 same-spec = tie.close (tie.spec returns)
