@@ -108,11 +108,10 @@ pub fn put_name(s: &mut [u8], at: usize, name: Name)
     requires { ⌜ at + 32 ≤ length (now s) ⌝ }
     ensures { λ _. ⌜ now (s .exit) ≡ written (now (s .entry)) at 32 (nameOf name) ⌝ }
 {
-    let first = name.first;
     put(s, at + 24, 8, name.fourth);
     put(s, at + 16, 8, name.third);
     put(s, at + 8, 8, name.second);
-    put(s, at, 8, first);
+    put(s, at, 8, name.first);
 }
 
 // Copies the name at a place to a place of another slice.

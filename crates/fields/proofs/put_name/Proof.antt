@@ -1,4 +1,4 @@
-use Rattle.fields.proofs.Names.{put-words}
+use Rattle.fields.proofs.Names.{Words, put-words}
 use borrow.Author.Needs.{needs}
 use Rattle.fields.proofs.put_name.Statement.{statement}
 use Rattle.fields.proofs.put_name.Tie as tie
@@ -43,7 +43,9 @@ returns : tie.Need-returns
 returns c =
     let start = c .before .before .before .before .before .before .before .before .before .before .before .before .before .before .before .before .before in
     let a = start .args in
-    rw (c .before .before .put4 .ensures, c .before .before .before .before .before .before .put3 .ensures, c .before .before .before .before .before .before .before .before .before .before .put2 .ensures, c .before .before .before .before .before .before .before .before .before .before .before .before .before .before .put .ensures) (put-words (a .s .now) (a .at) (a .name) (start .good .1 .1 .0 .0))
+    let g = start .good .1 .1 .0 .1 .1 in
+    let w : Words (a .name) = (record { fits = g .0 .1 }, (record { fits = g .1 .0 .1 }, (record { fits = g .1 .1 .0 .1 }, (record { fits = g .1 .1 .1 .0 .1 }, tt)))) in
+    rw (c .before .before .put4 .ensures, c .before .before .before .before .before .before .put3 .ensures, c .before .before .before .before .before .before .before .before .before .before .put2 .ensures, c .before .before .before .before .before .before .before .before .before .before .before .before .before .before .put .ensures) (put-words (a .s .now) (a .at) (a .name) w)
 
 pub put-name-spec : {M : Type 1} → statement M
 put-name-spec =
