@@ -1,0 +1,31 @@
+-- `fields::Name::less` meets its contract: the words before are equal. Assumes nothing.
+use Rattle.fields.proofs.Names.{less-first, less-second, less-third, less-fourth}
+use Rattle.fields.proofs.Name.less.Statement.{statement}
+use Rattle.fields.proofs.Name.less.Tie as tie
+
+returns : tie.Need-returns
+returns c =
+    let start = c .before .before .before in
+    let a = start .before .before .args in
+    less-first (a .self) (a .other) (start .before .struct-known .given) (start .struct-known2 .given) (c .before .before .if1 .taken)
+
+returns-2 : tie.Need-returns-2
+returns-2 c =
+    let start = c .before .before .before .before .before .before in
+    let a = start .before .before .args in
+    less-second (a .self) (a .other) (start .before .struct-known .given) (start .struct-known2 .given) (c .before .before .before .before .before .if1 .left) (c .before .before .if2 .taken)
+
+returns-3 : tie.Need-returns-3
+returns-3 c =
+    let start = c .before .before .before .before .before .before .before .before .before in
+    let a = start .before .before .args in
+    less-third (a .self) (a .other) (start .before .struct-known .given) (start .struct-known2 .given) (c .before .before .before .before .before .before .before .before .if1 .left) (c .before .before .before .before .before .if2 .left) (c .before .before .if3 .taken)
+
+returns-4 : tie.Need-returns-4
+returns-4 c =
+    let start = c .before .before .before .before .before .before .before .before .before in
+    let a = start .before .before .args in
+    less-fourth (a .self) (a .other) (start .before .struct-known .given) (start .struct-known2 .given) (c .before .before .before .before .before .before .before .before .if1 .left) (c .before .before .before .before .before .if2 .left) (c .before .before .if3 .left)
+
+pub less-spec : {M : Type 1} → statement M
+less-spec = tie.close (tie.spec returns returns-2 returns-3 returns-4)
