@@ -5,3 +5,4 @@ pub mod Messages
 pub mod Words
 pub mod Inputs
 pub mod Refusals
+pub mod WellFormed
