@@ -89,6 +89,9 @@ nameAt b i = number b (placeOf logTable i) 32
 unfoldable pub kindAt : List ℕ → ℕ → ℕ
 kindAt b i = number b (placeOf statementTable i + 40) 1
 
+unfoldable pub voteAt : List ℕ → ℕ → ℕ
+voteAt b i = number b (placeOf statementTable i + 76) 4
+
 -- n records from record i on
 unfoldable pub rows : {A : Type 0} → (ℕ → A) → ℕ → ℕ → List A
 rows f i zero = []

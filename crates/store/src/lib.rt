@@ -1,6 +1,80 @@
 // The lent store: one byte slice of one exact length, the bytes of a well-formed state in one way only.
+ghost use mathlib.Core.Path.{_≡_};
+ghost use Prim.Native.Nat.{_+_, _^_, _≤_, _<_};
+ghost use lib.ListN.{length};
+ghost use Rattle.rules.specs.Limits.{lastView, mostStatements, mostTallies};
+ghost use Rattle.fields.specs.Names.{nameOf};
+ghost use Rattle.fields.specs.Places.{number};
+ghost use Rattle.fields.specs.Records.{fields};
+ghost use Rattle.wire.specs.Meaning.{statementOf};
+ghost use Rattle.store.specs.Layout.{headerFormat, tallyFormat, storeLength};
+ghost use Rattle.store.specs.Decode.{phaseOf, tallyFrom, statementAt, tallyAt, blameAt, nameAt, kindAt, voteAt};
+ghost use Rattle.store.specs.Meaning.{courseOf, tallyOf, headerOf};
 use fields::Name;
 use settings::Settings;
+use wire::Statement;
+
+// The exact length of a store.
+pub const LENGTH: usize = 25_220;
+
+// Where the header's numbers are; the lock is a tally's record.
+const PHASE: usize = 0;
+
+const N: usize = 4;
+
+const DELAY: usize = 5;
+
+const OWN: usize = 7;
+
+const CURRENT: usize = 8;
+
+const ENTRY: usize = 12;
+
+const CLOCK: usize = 16;
+
+const LOCK: usize = 20;
+
+const STATEMENT_COUNT: usize = 62;
+
+const TALLY_COUNT: usize = 64;
+
+const LOG_COUNT: usize = 66;
+
+// Where each table begins, and the size of its records.
+const STATEMENTS: usize = 68;
+
+const STATEMENT_SIZE: usize = 80;
+
+const TALLIES: usize = 10_308;
+
+const TALLY_SIZE: usize = 42;
+
+const BLAMES: usize = 21_060;
+
+const BLAME_SIZE: usize = 2;
+
+const LOG: usize = 21_124;
+
+const NAME_SIZE: usize = 32;
+
+// Where the numbers of a record are: of a block, a tally's last, a statement's last.
+const VIEW: usize = 0;
+
+const HEIGHT: usize = 4;
+
+const NAME: usize = 8;
+
+const VOTERS: usize = 40;
+
+const KIND: usize = 40;
+
+const AUTHOR: usize = 41;
+
+const MASK: usize = 42;
+
+const LINK: usize = 44;
+
+const VOTE: usize = 76;
 
 // Why a station stopped.
 pub enum Cause {
@@ -41,4 +115,153 @@ pub struct Station {
 pub enum Found {
     At(usize),
     Nothing,
+}
+
+// The number of four bytes.
+fn get_four(store: &[u8], at: usize) -> u32
+    requires { ⌜ at + 4 ≤ length (now store) ⌝ }
+    ensures { λ r. ⌜ r ≡ number (now (store .entry)) at 4 ⌝ }
+{
+    fields::get(store, at, 4) as u32
+}
+
+// The number of two bytes.
+fn get_two(store: &[u8], at: usize) -> u16
+    requires { ⌜ at + 2 ≤ length (now store) ⌝ }
+    ensures { λ r. ⌜ r ≡ number (now (store .entry)) at 2 ⌝ }
+{
+    fields::get(store, at, 2) as u16
+}
+
+// How many records a table has in use.
+fn get_count(store: &[u8], at: usize) -> usize
+    requires { ⌜ at + 2 ≤ length (now store) ⌝ }
+    ensures { λ r. ⌜ (r ≡ number (now (store .entry)) at 2) × (r < 256 ^ 2) ⌝ }
+{
+    fields::get(store, at, 2) as usize
+}
+
+// The phase of a number: 0 in a view; 1, 2, 3 stopped; from 4 on waiting, with the quit clock.
+fn phase_of(number: u32) -> Phase
+    ensures { λ r. ⌜ courseOf r ≡ phaseOf number ⌝ }
+{
+    match number {
+        0 => Phase::InView,
+        1 => Phase::Stopped(Cause::Full),
+        2 => Phase::Stopped(Cause::Split),
+        3 => Phase::Stopped(Cause::Clock),
+        _ => Phase::Waiting(number - 4),
+    }
+}
+
+// The tally whose record is at a place.
+fn get_tally(store: &[u8], at: usize) -> Tally
+    requires { ⌜ at + 42 ≤ length (now store) ⌝ }
+    ensures { λ r. ⌜ tallyOf r ≡ tallyFrom (fields (now (store .entry)) at tallyFormat) ⌝ }
+{
+    let view = get_four(store, at + VIEW);
+    let height = get_four(store, at + HEIGHT);
+    let name = fields::get_name(store, at + NAME);
+    let mask = get_two(store, at + VOTERS);
+    Tally {
+        view,
+        height,
+        name,
+        mask,
+    }
+}
+
+// Tally i.
+pub fn tally_at(store: &[u8], i: usize) -> Tally
+    requires { ⌜ (length (now store) ≡ storeLength) × (i < mostTallies) ⌝ }
+    ensures { λ r. ⌜ tallyOf r ≡ tallyAt (now (store .entry)) i ⌝ }
+{
+    get_tally(store, TALLIES + TALLY_SIZE * i)
+}
+
+// The kind of statement i, as on the wire: 1 new-view, 2 propose.
+pub fn kind_at(store: &[u8], i: usize) -> u8
+    requires { ⌜ (length (now store) ≡ storeLength) × (i < mostStatements) ⌝ }
+    ensures { λ r. ⌜ r ≡ kindAt (now (store .entry)) i ⌝ }
+{
+    fields::get(store, STATEMENTS + STATEMENT_SIZE * i + KIND, 1) as u8
+}
+
+// Statement i; whatever is no new-view counts as a propose.
+pub fn statement_at(store: &[u8], i: usize) -> Statement
+    requires { ⌜ (length (now store) ≡ storeLength) × (i < mostStatements) ⌝ }
+    ensures { λ r. ⌜ statementOf r (statementAt (now (store .entry)) i .voted) ≡ statementAt (now (store .entry)) i ⌝ }
+{
+    let at = STATEMENTS + STATEMENT_SIZE * i;
+    let kind = fields::get(store, at + KIND, 1);
+    let view = get_four(store, at + VIEW);
+    let height = get_four(store, at + HEIGHT);
+    let name = fields::get_name(store, at + NAME);
+    let link = fields::get_name(store, at + LINK);
+    let mask = get_two(store, at + MASK);
+    let author = fields::get(store, at + AUTHOR, 1) as u8;
+    Statement {
+        is_new_view: kind == 1,
+        view,
+        height,
+        name,
+        link,
+        mask,
+        author,
+    }
+}
+
+// The number of the own vote for statement i: 0, or one more than its clock.
+pub fn voted_at(store: &[u8], i: usize) -> u32
+    requires { ⌜ (length (now store) ≡ storeLength) × (i < mostStatements) ⌝ }
+    ensures { λ r. ⌜ r ≡ voteAt (now (store .entry)) i ⌝ }
+{
+    get_four(store, STATEMENTS + STATEMENT_SIZE * i + VOTE)
+}
+
+// The blame mask of view i + 1.
+pub fn blame_at(store: &[u8], i: usize) -> u16
+    requires { ⌜ (length (now store) ≡ storeLength) × (i < lastView) ⌝ }
+    ensures { λ r. ⌜ r ≡ blameAt (now (store .entry)) i ⌝ }
+{
+    get_two(store, BLAMES + BLAME_SIZE * i)
+}
+
+// The name logged at height i + 1.
+pub fn name_at(store: &[u8], i: usize) -> Name
+    requires { ⌜ (length (now store) ≡ storeLength) × (i < mostStatements) ⌝ }
+    ensures { λ r. ⌜ nameOf r ≡ nameAt (now (store .entry)) i ⌝ }
+{
+    fields::get_name(store, LOG + NAME_SIZE * i)
+}
+
+impl Station {
+    // The station of the header's numbers.
+    pub fn load(store: &[u8]) -> Station
+        requires { ⌜ length (now store) ≡ storeLength ⌝ }
+        ensures { λ r. ⌜ headerOf r ≡ fields (now (store .entry)) 0 headerFormat ⌝ }
+    {
+        let phase = phase_of(get_four(store, PHASE));
+        let n = fields::get(store, N, 1);
+        let delay = fields::get(store, DELAY, 2);
+        let own = fields::get(store, OWN, 1);
+        let view = get_four(store, CURRENT);
+        let entry = get_four(store, ENTRY);
+        let clock = get_four(store, CLOCK);
+        let lock = get_tally(store, LOCK);
+        let statements = get_count(store, STATEMENT_COUNT);
+        let tallies = get_count(store, TALLY_COUNT);
+        let logged = get_count(store, LOG_COUNT);
+        Station {
+            settings: Settings { n, delay, own },
+            phase,
+            view,
+            entry,
+            clock,
+            lock,
+            statements,
+            tallies,
+            logged,
+        }
+    }
 }
