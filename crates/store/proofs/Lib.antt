@@ -1,2 +1,8 @@
 pub mod Values
 pub mod Loaded
+pub mod Rows
+pub mod Kept
+pub mod Tables
+pub mod Forms
+pub mod Pieces
+pub mod Encoded
