@@ -1,0 +1,201 @@
+/* Every call of station.h, and every refusal number that a host can meet, each with what it leaves. */
+#include <stdio.h>
+#include <stdlib.h>
+#include <string.h>
+
+#include "../include/station.h"
+
+static uint8_t store[STATION_STORE_LENGTH], kept[STATION_STORE_LENGTH], out[STATION_OUT_LENGTH];
+static unsigned looked, failed;
+
+static void expect(int holds, const char *what, int line)
+{
+    looked++;
+    if (!holds) {
+        failed++;
+        printf("tests/calls.c:%d: %s\n", line, what);
+    }
+}
+#define EXPECT(fact) expect((fact) != 0, #fact, __LINE__)
+
+static uint64_t refusal(uint64_t number) { return number << 32; }
+
+/* A message: its kind, then pairs of a tag and a number (names have the number in their last four bytes). */
+static size_t message(uint8_t *to, int kind, int fields, const uint32_t (*field)[2])
+{
+    static const uint8_t width[] = { 0, 1, 4, 4, 32, 32, 4, 2, 1 };
+    size_t at = 0;
+    for (int i = -1; i < fields; i++) {
+        uint32_t tag = i < 0 ? 1 : field[i][0], value = i < 0 ? (uint32_t)kind : field[i][1];
+        to[at++] = (uint8_t)tag;
+        to[at++] = 0;
+        to[at++] = width[tag];
+        for (int k = width[tag]; k-- > 0;)
+            to[at++] = k < 4 ? (uint8_t)(value >> 8 * k) : 0;
+    }
+    return at;
+}
+
+static uint8_t sent[128];
+
+static uint64_t propose(uint32_t view, uint32_t height, uint32_t name, uint32_t parent, uint32_t author)
+{
+    const uint32_t f[][2] = { { 2, view }, { 3, height }, { 4, name }, { 5, parent }, { 7, 3 }, { 8, author } };
+    return station_step(store, sizeof store, sent, message(sent, 2, 6, f), out, sizeof out);
+}
+
+static uint64_t vote(uint32_t view, uint32_t height, uint32_t name, uint32_t author)
+{
+    const uint32_t f[][2] = { { 2, view }, { 3, height }, { 4, name }, { 8, author } };
+    return station_step(store, sizeof store, sent, message(sent, 3, 4, f), out, sizeof out);
+}
+
+static uint64_t blame_set(uint32_t view, uint32_t mask)
+{
+    const uint32_t f[][2] = { { 2, view }, { 7, mask } };
+    return station_step(store, sizeof store, sent, message(sent, 5, 2, f), out, sizeof out);
+}
+
+static uint64_t tick(void) { return station_tick(store, sizeof store, out, sizeof out); }
+
+static uint64_t ticks(int count)
+{
+    uint64_t answer = 0;
+    while (count-- > 0)
+        answer = tick();
+    return answer;
+}
+
+static void fresh(uint64_t own) { EXPECT(station_fresh(store, sizeof store, 3, 2, own) == 0); }
+
+static void keep(void)
+{
+    memcpy(kept, store, sizeof store);
+    memset(out, 0x77, sizeof out);
+}
+
+static int untouched(void)
+{
+    for (size_t i = 0; i < sizeof out; i++)
+        if (out[i] != 0x77)
+            return 0;
+    return memcmp(kept, store, sizeof store) == 0;
+}
+
+static void lengths(void) /* 1 */
+{
+    uint8_t name[33] = { 1 };
+    fresh(1);
+    keep();
+    EXPECT(station_fresh(store, sizeof store - 1, 3, 2, 0) == refusal(1));
+    EXPECT(station_tick(store, sizeof store - 1, out, sizeof out) == refusal(1));
+    EXPECT(station_tick(store, sizeof store, out, sizeof out - 1) == refusal(1));
+    EXPECT(station_step(store, sizeof store - 1, name, 0, out, sizeof out) == refusal(1));
+    EXPECT(station_step(store, sizeof store, name, 0, out, sizeof out - 1) == refusal(1));
+    EXPECT(station_offer(store, sizeof store, name, 31, out, sizeof out) == refusal(1));
+    EXPECT(station_offer(store, sizeof store, name, 33, out, sizeof out) == refusal(1));
+    EXPECT(station_offer(store, sizeof store, name, 32, out, 0) == refusal(1));
+    EXPECT(untouched());
+}
+
+static void not_well_formed(void) /* 2 */
+{
+    uint8_t name[32] = { 1 };
+    for (int fill = 0; fill < 256; fill += 255) {
+        memset(store, fill, sizeof store);
+        keep();
+        EXPECT(tick() == refusal(2));
+        EXPECT(station_step(store, sizeof store, name, 32, out, sizeof out) == refusal(2));
+        EXPECT(station_offer(store, sizeof store, name, 32, out, sizeof out) == refusal(2));
+        EXPECT(untouched());
+    }
+}
+
+static void messages(void) /* 4, 5, then 0 */
+{
+    fresh(2);
+    keep();
+    EXPECT(station_step(store, sizeof store, sent, 0, out, sizeof out) == refusal(4));
+    EXPECT(vote(33, 1, 77, 0) == refusal(5));
+    EXPECT(vote(0, 1, 77, 0) == refusal(5));
+    EXPECT(blame_set(1, 11) == refusal(5));
+    EXPECT(untouched());
+    EXPECT(ticks(7) == 0);
+    EXPECT(propose(1, 1, 77, 0, 1) == 160);
+    EXPECT(ticks(4) == 0);
+    EXPECT(tick() == 39);
+}
+
+static void full(void) /* 6, then 3 */
+{
+    fresh(0);
+    for (uint32_t i = 0; i < 256; i++)
+        EXPECT(vote(1, 1, i + 1, 0) == 0);
+    EXPECT(vote(1, 1, 256, 1) == 0);
+    keep();
+    EXPECT(vote(1, 1, 257, 0) == refusal(6));
+    EXPECT(memcmp(kept, store, sizeof store) != 0 && memcmp(kept + 4, store + 4, sizeof store - 4) == 0);
+    keep();
+    EXPECT(vote(1, 1, 1, 1) == refusal(3) && tick() == refusal(3) && station_step(store, sizeof store, sent, 0, out, sizeof out) == refusal(3));
+    EXPECT(untouched());
+}
+
+static void split(void) /* 7 */
+{
+    fresh(0);
+    EXPECT(propose(1, 1, 77, 0, 1) == 160);
+    EXPECT(ticks(5) == 39);
+    EXPECT(blame_set(1, 3) == 19);
+    EXPECT(ticks(3) == 62);
+    EXPECT(propose(2, 1, 78, 0, 2) == 160);
+    EXPECT(ticks(4) == 0);
+    EXPECT(tick() == refusal(7) && tick() == refusal(3));
+}
+
+static void clock_end(void) /* 8 */
+{
+    fresh(2);
+    memcpy(store + 16, "\xee\x6b\x28\x00", 4);
+    EXPECT(tick() == refusal(8) && tick() == refusal(3));
+}
+
+static void offers(void) /* 9, then 0 */
+{
+    uint8_t name[32] = { 0 };
+    name[31] = 77;
+    fresh(1);
+    keep();
+    EXPECT(station_offer(store, sizeof store, name, 32, out, sizeof out) == refusal(9));
+    EXPECT(untouched());
+    EXPECT(ticks(5) == 132);
+    EXPECT(vote(1, 0, 0, 0) == 0);
+    EXPECT(station_offer(store, sizeof store, name, 32, out, sizeof out) == 160);
+}
+
+static void settings(void) /* 10 */
+{
+    fresh(0);
+    keep();
+    EXPECT(station_fresh(store, sizeof store, 4, 2, 0) == refusal(10));
+    EXPECT(station_fresh(store, sizeof store, 3, 0, 0) == refusal(10));
+    EXPECT(station_fresh(store, sizeof store, 3, 10001, 0) == refusal(10));
+    EXPECT(station_fresh(store, sizeof store, 3, 2, 3) == refusal(10));
+    EXPECT(station_fresh(store, sizeof store, 17, 2, 0) == refusal(10));
+    EXPECT(station_fresh(store, sizeof store, UINT64_MAX, UINT64_MAX, UINT64_MAX) == refusal(10));
+    EXPECT(untouched());
+    EXPECT(station_fresh(store, sizeof store, 15, 10000, 14) == 0);
+}
+
+int main(void)
+{
+    lengths();
+    not_well_formed();
+    messages();
+    full();
+    split();
+    clock_end();
+    offers();
+    settings();
+    printf("%u looked at, %u failed\n", looked, failed);
+    return failed != 0;
+}
