@@ -57,6 +57,6 @@ slips =
     ∷ ticks ⇒ says (toOne 2 (status 1 77 1 6) ∷ []) ∷ [])
     ∷ []
 
-the-bench : failing 1 (corners) ≡ []
+the-bench : failing 1 (bench ++ slips ++ corners) ≡ []
 unfolding failing bench slips corners
 the-bench = refl

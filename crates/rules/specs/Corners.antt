@@ -211,22 +211,22 @@ entries =
 
 -- ---- refusals
 
--- tallies of k names, and k statements of view 2 with their tallies, for a station in view 1
+-- tallies of k names; a chain of k blocks of view 2, the highest first, for a station in view 1
 tallied : ℕ → List Tally
 tallied zero = []
 tallied (suc k) = record { view = 1; height = 1; name = suc k; mask = 1 } ∷ tallied k
 
 many : ℕ → List Line
 many zero = []
-many (suc k) = hears (propose 2 (suc k + 1) (2 ^ 200 + k) (2 ^ 201 + k) 3 2) ⇒ bytes 0 ∷ many k
+many (suc k) = hears (propose 2 (suc k) (suc k) k 3 2) ⇒ bytes 0 ∷ many k
 
 refusals : List Bool
 unfolding goes fresh group withClock withTables withPhase tallied many result step tick write block
 refusals =
     -- "the 129th new statement: 6. A repeat of the first at 128: 0"
-    goes (fresh (group 0)) (many mostStatements ++ hears (propose 2 129 (2 ^ 200 + 127) (2 ^ 201 + 127) 3 2) ⇒ bytes 0
-    ∷ holds (λ s. eqb (length (s .statements)) mostStatements && eqb (length (s .tallies)) mostTallies)
-    ∷ hears (propose 2 1 5 0 3 2) ⇒ refuses 6 ∷ hears (propose 2 1 5 0 3 2) ⇒ refuses 3 ∷ [])
+    goes (fresh (group 0)) (many mostStatements ++ hears (propose 2 128 128 127 3 2) ⇒ bytes 0
+    ∷ holds (λ s. eqb (length (s .statements)) mostStatements && eqb (length (s .tallies)) 129)
+    ∷ hears (propose 2 129 129 128 3 2) ⇒ refuses 6 ∷ hears (propose 2 129 129 128 3 2) ⇒ refuses 3 ∷ [])
     -- the last free tally, and none
     ∷ goes (withTables [] (tallied 255) (fresh (group 0))) (hears (vote 1 2 9 0) ⇒ bytes 0 ∷ hears (vote 1 2 9 1) ⇒ bytes 0 ∷ hears (vote 1 3 8 0) ⇒ refuses 6 ∷ ticks ⇒ refuses 3 ∷ [])
     -- a statement that would make the station quit needs its records all the same
