@@ -75,9 +75,9 @@ same-digit x y = record { to = xor-zero x y; from = λ e. ap (bitXor x) (sym e) 
 pub same-step : (b any n m x y : ℕ) → x < b → y < b → Same any n m → Same (bitOr any (bitXor x y)) (n * b + x) (m * b + y)
 same-step b any n m x y hx hy h = record {
   to = λ e.
-    let z = or-zero any (bitXor x y) e in
-    ap₂ (λ (k d : ℕ). k * b + d) (h .to (z .0)) (xor-zero x y (z .1));
-  from = λ e. ap₂ bitOr (h .from (digit-high b n m x y hx hy e)) (same-digit x y .from (digit-low b n m x y hx hy e))
+      let z = or-zero any (bitXor x y) e in
+      ap₂ (λ (k d : ℕ). k * b + d) (h .to (z .0)) (xor-zero x y (z .1));
+  from = λ e. ap₂ bitOr (h .from (digit-high b n m x y hx hy e)) (same-digit x y .from (digit-low b n m x y hx hy e));
 }
 
 pub zero-step : (b any n x : ℕ) → x < b → Same any n 0 → Same (bitOr any x) (n * b + x) 0

@@ -69,7 +69,7 @@ number-put-same s at (suc w) v h l =
     let s′ = set s (at + w) (v % 256) in
     let hi : number (put s′ at w (v / 256)) at w ≡ v / 256 = number-put-same s′ at w (v / 256) (simp length-set (omega arith)) (omega (arith, pow-suc 256 w)) in
     let lo : getD (put s′ at w (v / 256)) (at + w) 0 ≡ v % 256 =
-            getD-put-above s′ at w (v / 256) (at + w) (omega arith) ∙ getD-set-same s (at + w) (v % 256) 0 (omega arith) in
+    getD-put-above s′ at w (v / 256) (at + w) (omega arith) ∙ getD-set-same s (at + w) (v % 256) 0 (omega arith) in
     omega arith
 
 -- what was read, written back, changes nothing
@@ -80,6 +80,9 @@ put-number s b at (suc w) =
     let lo : number s at (suc w) % 256 ≡ getD s (at + w) 0 = omega (arith, b (at + w)) in
     let hi : number s at (suc w) / 256 ≡ number s at w = omega (arith, b (at + w)) in
     rw (lo, hi, set-getD s (at + w) 0) (put-number s b at w)
+
+pub put-same : (s : List ℕ) → Bytes s → (at w v : ℕ) → number s at w ≡ v → put s at w v ≡ s
+put-same s b at w v e = rw (← e) (put-number s b at w)
 
 -- what is written is bytes again
 pub bytes-set : (s : List ℕ) → Bytes s → (i x : ℕ) → x < 256 → Bytes (set s i x)

@@ -20,7 +20,12 @@ impl Name {
     pub fn zero() -> Name
         ensures { λ r. ⌜ nameOf r ≡ 0 ⌝ }
     {
-        Name { first: 0, second: 0, third: 0, fourth: 0 }
+        Name {
+            first: 0,
+            second: 0,
+            third: 0,
+            fourth: 0,
+        }
     }
 
     // Whether all 32 bytes are zero.
@@ -100,7 +105,12 @@ pub fn get_name(s: &[u8], at: usize) -> Name
     let second = get(s, at + 8, 8);
     let third = get(s, at + 16, 8);
     let fourth = get(s, at + 24, 8);
-    Name { first, second, third, fourth }
+    Name {
+        first,
+        second,
+        third,
+        fourth,
+    }
 }
 
 // Writes a name to a place, the last word first.
