@@ -100,7 +100,7 @@ bytes-put s b at (suc w) v = bytes-put (set s (at + w) (v % 256)) (bytes-set s b
 -- a number in two parts
 pub number-split : (s : List ℕ) (at k m : ℕ) → number s at (k + m) ≡ number s at k * 256 ^ m + number s (at + k) m
 unfolding number
-number-split s at k zero = rw add-zero (omega arith)
+number-split s at k zero = rw (add-zero k) (omega arith)
 number-split s at k (suc m) =
     let h = number-split s at k m in
     let p : number s at k * 256 ^ suc m ≡ number s at k * 256 ^ m * 256 = rw (pow-suc 256 m, mul-assoc) in

@@ -85,7 +85,7 @@ getD-put d b i s at (suc w) k h l =
     rw (lo, hi)
     (⊎-elim
     (λ z. rw z (getD-put-above s′ at w (number d i w) (at + w) (omega arith) ∙ getD-set-same s (at + w) x 0 (omega arith)))
-    (λ m. getD-put d b i s′ at w k (simp length-set (omega arith)) m)
+    (λ (m : k < w). getD-put d b i s′ at w k (simp length-set (omega arith)) m)
     (eq-or-lt-of-le {n = k} {m = w} (omega arith)))
 
 pub piece-put : (d : List ℕ) → Bytes d → (s : List ℕ) (at : ℕ) → at + length d ≤ length s → take (length d) (drop at (put s at (length d) (number d 0 (length d)))) ≡ d
