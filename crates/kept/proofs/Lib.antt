@@ -1,0 +1,3 @@
+pub mod Truths
+pub mod Lists
+pub mod WellFormed
