@@ -1,3 +1,4 @@
 pub mod Truths
 pub mod Lists
 pub mod WellFormed
+pub mod Allowed
