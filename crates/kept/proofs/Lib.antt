@@ -2,3 +2,4 @@ pub mod Truths
 pub mod Lists
 pub mod WellFormed
 pub mod Allowed
+pub mod Sendable
