@@ -3,3 +3,4 @@ pub mod Lists
 pub mod WellFormed
 pub mod Allowed
 pub mod Sendable
+pub mod Tallies
