@@ -6,6 +6,7 @@ use native.Mathlib.Nat.{pow-le-pow-right, lt-of-lt-of-le, one-le-pow, mod-lt}
 use native.Mathlib.Omega.{arith}
 use mathlib.Core.Bool.{Bool, true, false, _&&_}
 use lib.Dec.{leb, ltb, eqb, lit≤}
+use lib.Pow.{pow-lt}
 use borrow.Author.Tests.{ltb-true, leb-true, eqb-true, eqb-false, lt-ltb, le-leb, eq-eqb, ne-eqb}
 use Rattle.rules.specs.Limits.{leastStations, mostStations, leastDelay, mostDelay, firstView, lastView, lastHeight}
 use Rattle.rules.specs.Lists.{iff, within}
@@ -61,6 +62,10 @@ mask-small s h = lt-of-lt-of-le h (pow-le-pow-right {n = 2} (omega arith) (s .mo
 
 pub none-lt : (g : Settings) → 0 < 2 ^ g .n
 none-lt g = one-le-pow (g .n) 2 (omega arith)
+
+pub only-lt : (g : Settings) (i : ℕ) → i < g .n → only i < 2 ^ g .n
+unfolding only
+only-lt g i h = pow-lt h
 
 -- ---- views, blocks, certificates
 

@@ -4,3 +4,5 @@ pub mod WellFormed
 pub mod Allowed
 pub mod Sendable
 pub mod Tallies
+pub mod Statements
+pub mod Tables

@@ -21,10 +21,10 @@ module _ {A : Type 0} (p : A → Bool) where
   all-mem {xs = y ∷ ys} h (here e) = ap p e ∙ and-2 (p y) (all p ys) h .0
   all-mem {xs = y ∷ ys} h (there m) = all-mem (and-2 (p y) (all p ys) h .1) m
 
-  pub all-append : (xs ys : List A) → all p xs ≡ true → all p ys ≡ true → all p (xs ++ ys) ≡ true
+  pub all-last : (xs : List A) (y : A) → all p xs ≡ true → p y ≡ true → all p (xs ++ y ∷ []) ≡ true
   unfolding all
-  all-append [] ys h k = k
-  all-append (x ∷ xs) ys h k = let t = and-2 (p x) (all p xs) h in both (t .0) (all-append xs ys (t .1) k)
+  all-last [] y h k = both k refl
+  all-last (x ∷ xs) y h k = let t = and-2 (p x) (all p xs) h in both (t .0) (all-last xs y (t .1) k)
 
   pub all-weaken : (q : A → Bool) → ((x : A) → p x ≡ true → q x ≡ true) → (xs : List A) → all p xs ≡ true → all q xs ≡ true
   unfolding all

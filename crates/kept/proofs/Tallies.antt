@@ -1,11 +1,12 @@
 -- The table of tallies: joining keeps it good and distinct and loses no block; the highest certificate is a certificate. Assumes nothing.
 use mathlib.Core.Path.{_≡_, refl, sym, ap, _∙_}
+use mathlib.Core.Logic.{_⊎_, inl, inr}
 use Prim.Native.Nat.{ℕ, zero, suc, _+_, _^_, _≤_, _<_}
 use native.Mathlib.Omega.{arith}
 use mathlib.Core.Bool.{Bool, true, false, not, _&&_, _||_}
 use mathlib.Core.List.{List, [], _∷_}
 use lib.Dec.{ltb, eqb, lit≤}
-use borrow.Author.Tests.{not-true, eqb-true, ltb-true, lt-ltb}
+use borrow.Author.Tests.{not-true, eqb-true, eqb-false, ltb-true, lt-ltb}
 use Rattle.rules.specs.Limits.{lastView}
 use Rattle.rules.specs.Lists.{any, all, distinct}
 use Rattle.rules.specs.Sizes.{Settings, joined, quorum}
@@ -15,7 +16,7 @@ use Rattle.rules.specs.WellFormed.{isName, isMask, lockGood, tallyGood}
 use Rattle.rules.proofs.Tests.{by-bool, no-bool, eqb-self}
 use Rattle.rules.proofs.Masks.{joined-lt}
 use Rattle.kept.proofs.Truths.{and-2, and-3, and-4, both, eqb-sym}
-use Rattle.kept.proofs.Allowed.{view-within, name-lt, lt-name, mask-lt, lt-mask, none-lt, mask-made, certificate-made}
+use Rattle.kept.proofs.Allowed.{view-within, name-lt, lt-name, mask-lt, lt-mask, none-lt, mask-parts, mask-made, certificate-cases, certificate-made, within-view}
 
 -- ---- one tally
 
@@ -106,6 +107,14 @@ module _ (t : Tally) where
 -- "genesis .. has no tally" in view 0: a certificate is joined where it is not of view 0
 abbrev pub Joinable : Settings → Tally → Type 0
 Joinable g t = eqb (t .view) 0 ≡ false → tallyGood g t ≡ true
+
+pub joinable : (g : Settings) (t : Tally) → blockAllowed (t .height) (t .name) ≡ true → t .name < 256 ^ 32
+    → certificateAllowed g (t .height) (t .view) (t .mask) ≡ true → Joinable g t
+joinable g t b n a q =
+    elim (certificate-cases g (t .mask) (t .height) (t .view) a) [
+      | inl k ↦ absurd (eqb-false (t .view) 0 q (k .0))
+      | inr k ↦ tally-made (record { view = within-view (t .view) (k .0) (k .1); block = b; name = n; mask = mask-parts g (t .mask) (k .2) .0 })
+    ]
 
 module _ (t : Tally) (us : List Tally) where
   pub certificate-good : (g : Settings) → Joinable g t → all (tallyGood g) us ≡ true → all (tallyGood g) (joinCertificate t us) ≡ true

@@ -1,0 +1,121 @@
+-- The rules that change the two tables keep a state formed: a certificate joined, a statement stored, a vote noted. Assumes nothing.
+use mathlib.Core.Path.{_≡_, refl, sym, ap, _∙_}
+use Prim.Native.Nat.{ℕ, zero, suc, _^_, _<_}
+use native.Mathlib.Omega.{arith}
+use mathlib.Core.Bool.{Bool, true, false, _&&_, _||_}
+use mathlib.Core.Logic.{_⊎_, inl, inr}
+use mathlib.Core.List.{List, [], _∷_, _++_}
+use mathlib.Core.Option.{Option, none, some}
+use lib.Dec.{eqb}
+use Rattle.rules.specs.Lists.{any, all, alter, distinct}
+use Rattle.rules.specs.Sizes.{Settings, only}
+use Rattle.rules.specs.Words.{Statement, message, sameStatement, Tally, ownBlock, certificate, sameBlock, join, joinCertificate, State}
+use Rattle.rules.specs.Inputs.{withTables, noted, votedFor, certificateJoined, stored, isBlock}
+use Rattle.rules.specs.WellFormed.{clocksInOrder, lockGood, statementGood, tallyGood, talliesThere, linked}
+use Rattle.rules.proofs.Tests.{by-bool}
+use Rattle.kept.specs.Parts.{Formed}
+use Rattle.kept.specs.Said.{Sendable}
+use Rattle.kept.proofs.Truths.{and-2, both, or-2, or-left, or-right}
+use Rattle.kept.proofs.Lists.{all-last, all-weaken, all-alter, any-append, any-alter, distinct-append, distinct-alter}
+use Rattle.kept.proofs.Allowed.{sizes, none-lt, only-lt}
+use Rattle.kept.proofs.Tallies.{Joinable, block-self, join-good, join-any, join-there, join-distinct, certificate-good, certificate-any, certificate-there, certificate-distinct}
+use Rattle.kept.proofs.Statements.{stated, own-good, new-good, noted-good, same-sym, noted-left, noted-right, noted-there}
+
+-- every logged block found before is found now
+pub linked-mono : (xs ys : List Statement)
+    → ((h b parent : ℕ) → any (λ x. isBlock h b x && eqb parent (x .link)) xs ≡ true → any (λ x. isBlock h b x && eqb parent (x .link)) ys ≡ true)
+    → (h parent : ℕ) (l : List ℕ) → linked xs h parent l ≡ true → linked ys h parent l ≡ true
+unfolding linked
+linked-mono xs ys f h parent [] e = refl
+linked-mono xs ys f h parent (b ∷ l) e =
+    let t = and-2 (any (λ x. isBlock (suc h) b x && eqb parent (x .link)) xs) (linked xs (suc h) b l) e in
+    both (f (suc h) b parent (t .0)) (linked-mono xs ys f (suc h) b l (t .1))
+
+noted-block : (c h b parent : ℕ) (x : Statement) → (isBlock h b (noted c x) && eqb parent (noted c x .link)) ≡ (isBlock h b x && eqb parent (x .link))
+unfolding isBlock noted
+noted-block c h b parent x = refl
+
+-- tallies that are there stay there
+there-mono : (ts us : List Tally) → ((t : Tally) → any (sameBlock t) ts ≡ true → any (sameBlock t) us ≡ true) → (x : Statement)
+    → talliesThere ts x ≡ true → talliesThere us x ≡ true
+unfolding talliesThere
+there-mono ts us f x e =
+    let o = eqb (certificate x .view) 0 in
+    let t = and-2 (any (sameBlock (ownBlock x 0)) ts) (o || any (sameBlock (certificate x)) ts) e in
+    both (f (ownBlock x 0) (t .0))
+    (elim (or-2 o (any (sameBlock (certificate x)) ts) (t .1)) [ inl p ↦ or-left (any (sameBlock (certificate x)) us) p | inr p ↦ or-right o (f (certificate x) p) ])
+
+new-there : (x : Statement) (us : List Tally) → talliesThere (join (ownBlock x 0) (joinCertificate (certificate x) us)) x ≡ true
+unfolding talliesThere
+new-there x us =
+    let ts = joinCertificate (certificate x) us in
+    both (join-there (ownBlock x 0) (ownBlock x 0) ts (block-self (ownBlock x 0)))
+    (by-bool (eqb (certificate x .view) 0) (λ q. or-left (any (sameBlock (certificate x)) (join (ownBlock x 0) ts)) q)
+    (λ q. or-right (eqb (certificate x .view) 0) (join-any (ownBlock x 0) (certificate x) ts (certificate-there (certificate x) us q))))
+
+module _ {s : State} (f : Formed s) where
+  tabled : (xs : List Statement) (ts : List Tally) → all (statementGood s) xs ≡ true → distinct sameStatement xs ≡ true
+      → all (tallyGood (s .settings)) ts ≡ true → distinct sameBlock ts ≡ true → all (talliesThere ts) xs ≡ true → linked xs 0 0 (s .log) ≡ true
+      → Formed (withTables xs ts s)
+  unfolding withTables clocksInOrder lockGood statementGood
+  tabled xs ts a b c d e l =
+      record {
+        settings = f .settings;
+        view = f .view;
+        clocks = f .clocks;
+        lock = f .lock;
+        statements = a;
+        statementsDiffer = b;
+        tallies = c;
+        talliesDiffer = d;
+        opened = e;
+        blames = f .blames;
+        log = l;
+      }
+
+  pub tallied-formed : (t : Tally) → Joinable (s .settings) t → Formed (withTables (s .statements) (joinCertificate t (s .tallies)) s)
+  tallied-formed t j =
+      let ts = joinCertificate t (s .tallies) in
+      tabled (s .statements) ts (f .statements) (f .statementsDiffer) (certificate-good t (s .tallies) (s .settings) j (f .tallies))
+      (certificate-distinct t (s .tallies) (f .talliesDiffer))
+      (all-weaken (talliesThere (s .tallies)) (talliesThere ts) (there-mono (s .tallies) ts (certificate-any t (s .tallies))) (s .statements) (f .opened))
+      (f .log)
+
+  module _ (x : Statement) (m : Sendable (s .settings) (message x)) where
+    pub certificateJoined-formed : Formed (certificateJoined x s)
+    unfolding certificateJoined
+    certificateJoined-formed = tallied-formed (certificate x) (stated (s .settings) x m .certified)
+
+    module _ (v : x .voted ≡ none) (n : any (sameStatement x) (s .statements) ≡ false) where
+      pub stored-formed : Formed (stored x s)
+      unfolding stored
+      stored-formed =
+          let us = joinCertificate (certificate x) (s .tallies) in
+          let ts = join (ownBlock x 0) us in
+          let k = stated (s .settings) x m .certified in
+          let keeps : (t : Tally) → any (sameBlock t) (s .tallies) ≡ true → any (sameBlock t) ts ≡ true =
+          λ t h. join-any (ownBlock x 0) t us (certificate-any (certificate x) (s .tallies) t h) in
+          tabled (s .statements ++ x ∷ []) ts
+          (all-last (statementGood s) (s .statements) x (f .statements) (new-good s x m v))
+          (distinct-append sameStatement same-sym (s .statements) x (f .statementsDiffer) n)
+          (join-good (ownBlock x 0) (s .settings) us (own-good (s .settings) x m 0 (none-lt (s .settings))) (certificate-good (certificate x) (s .tallies) (s .settings) k (f .tallies)))
+          (join-distinct (ownBlock x 0) us (certificate-distinct (certificate x) (s .tallies) (f .talliesDiffer)))
+          (all-last (talliesThere ts) (s .statements) x (all-weaken (talliesThere (s .tallies)) (talliesThere ts) (there-mono (s .tallies) ts keeps) (s .statements) (f .opened)) (new-there x (s .tallies)))
+          (linked-mono (s .statements) (s .statements ++ x ∷ []) (λ h b p. any-append (λ y. isBlock h b y && eqb p (y .link)) (s .statements) (x ∷ [])) 0 0 (s .log) (f .log))
+
+    pub votedFor-formed : Formed (votedFor x s)
+    unfolding votedFor
+    votedFor-formed =
+        let t = ownBlock x (only (s .settings .own)) in
+        let ts = join t (s .tallies) in
+        let c = s .clock in
+        let own = sizes (s .settings) (f .settings) .own in
+        tabled (alter (sameStatement x) (noted c) (s .statements)) ts
+        (all-alter (statementGood s) (sameStatement x) (noted c) (noted-good s) (s .statements) (f .statements))
+        (distinct-alter sameStatement (sameStatement x) (noted c) (noted-left c) (noted-right c) (s .statements) ∙ f .statementsDiffer)
+        (join-good t (s .settings) (s .tallies) (own-good (s .settings) x m (only (s .settings .own)) (only-lt (s .settings) (s .settings .own) own)) (f .tallies))
+        (join-distinct t (s .tallies) (f .talliesDiffer))
+        (all-alter (talliesThere ts) (sameStatement x) (noted c) (λ y h. noted-there c ts y ∙ h) (s .statements)
+        (all-weaken (talliesThere (s .tallies)) (talliesThere ts) (there-mono (s .tallies) ts (λ u. join-any t u (s .tallies))) (s .statements) (f .opened)))
+        (linked-mono (s .statements) (alter (sameStatement x) (noted c) (s .statements))
+        (λ h b p e. any-alter (λ y. isBlock h b y && eqb p (y .link)) (sameStatement x) (noted c) (λ y. noted-block c h b p y) (s .statements) ∙ e) 0 0 (s .log) (f .log))
