@@ -16,7 +16,7 @@ use Rattle.rules.specs.WellFormed.{isName, isMask}
 use Rattle.rules.proofs.Tests.{by-bool, no-bool}
 use Rattle.kept.proofs.Truths.{and-2, and-4, both}
 
-within-le : (a b x : ℕ) → within a b x ≡ true → (a ≤ x) × (x ≤ b)
+pub within-le : (a b x : ℕ) → within a b x ≡ true → (a ≤ x) × (x ≤ b)
 unfolding within
 within-le a b x e = let h = and-2 (leb a x) (leb x b) e in (leb-true a x (h .0), leb-true x b (h .1))
 

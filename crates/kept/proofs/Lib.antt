@@ -6,3 +6,4 @@ pub mod Sendable
 pub mod Tallies
 pub mod Statements
 pub mod Tables
+pub mod Phases

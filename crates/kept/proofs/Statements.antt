@@ -107,6 +107,13 @@ module _ (s : State) (x : Statement) where
   unfolding inTime
   voted-le c e v = let t = statement-parts e in leb-true c (s .clock) (rw (v, inTime) at (t .3))
 
+-- a later clock with the same settings
+pub later-good : (s t : State) (x : Statement) → t .settings ≡ s .settings → s .clock ≤ t .clock → statementGood s x ≡ true → statementGood t x ≡ true
+unfolding statementGood inTime
+later-good s t x g l e =
+    let (a, n, k, v) = statement-parts s x e in
+    rw (g, a, n, k) (by-option (x .voted) (λ o. rw (o, inTime) refl) (λ c o. rw (o, inTime) (let m = voted-le s x c e o in le-leb c (t .clock) (omega arith))))
+
 -- ---- the same
 
 pub same-sym : (x y : Statement) → sameStatement x y ≡ sameStatement y x
