@@ -7,3 +7,4 @@ pub mod Tallies
 pub mod Statements
 pub mod Tables
 pub mod Phases
+pub mod Blames
