@@ -8,3 +8,4 @@ pub mod Statements
 pub mod Tables
 pub mod Phases
 pub mod Blames
+pub mod Logs

@@ -1,6 +1,6 @@
 -- The searches of the rules' lists: all, any, first, keep, alter, sorted, distinct, said once over the predicate. Assumes nothing.
 use mathlib.Core.Path.{_≡_, refl, sym, ap, _∙_}
-use Prim.Native.Nat.{ℕ, zero, suc, _+_, _≤_}
+use Prim.Native.Nat.{ℕ, zero, suc, _+_, _≤_, _<_}
 use native.Mathlib.Omega.{arith}
 use mathlib.Core.Bool.{Bool, true, false, not, _&&_}
 use mathlib.Core.List.{List, [], _∷_, _++_, List·Memᴰ as Mem, List·Memᴰ·head as here, List·Memᴰ·tail as there, List·Memᴰ·not-nil as not-nil, List·Memᴰ·cases-cons as cases-cons}
@@ -108,6 +108,25 @@ module _ {A : Type 0} (p : A → Bool) where
   unfolding keep
   keep-length [] = omega arith
   keep-length (x ∷ xs) = let h = keep-length xs in by-bool (p x) (λ q. rw (q, keep) (omega arith)) (λ q. rw (q, keep) (omega arith))
+
+-- a weaker test keeps no fewer, and one more where some element passes it alone
+module _ {A : Type 0} (p q : A → Bool) (f : (x : A) → p x ≡ true → q x ≡ true) where
+  pub keep-fewer : (xs : List A) → length (keep p xs) ≤ length (keep q xs)
+  unfolding keep
+  keep-fewer [] = omega arith
+  keep-fewer (x ∷ xs) =
+      let h = keep-fewer xs in
+      by-bool (p x) (λ a. rw (a, f x a, keep) (omega arith))
+      (λ a. by-bool (q x) (λ b. rw (a, b, keep) (omega arith)) (λ b. rw (a, b, keep) (omega arith)))
+
+  pub keep-fewer-by : {x : A} (xs : List A) → Mem x xs → p x ≡ false → q x ≡ true → length (keep p xs) < length (keep q xs)
+  unfolding keep
+  keep-fewer-by [] m a b = absurd (not-nil m)
+  keep-fewer-by (y ∷ ys) (here e) a b = let h = keep-fewer ys in rw (ap p (sym e) ∙ a, ap q (sym e) ∙ b, keep) (omega arith)
+  keep-fewer-by (y ∷ ys) (there m) a b =
+      let h = keep-fewer-by ys m a b in
+      by-bool (p y) (λ c. rw (c, f y c, keep) (omega arith))
+      (λ c. by-bool (q y) (λ d. rw (c, d, keep) (omega arith)) (λ d. rw (c, d, keep) (omega arith)))
 
 -- ---- in order
 
