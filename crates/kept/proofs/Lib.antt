@@ -9,3 +9,4 @@ pub mod Tables
 pub mod Phases
 pub mod Blames
 pub mod Logs
+pub mod Reports

@@ -11,7 +11,23 @@ use lib.ListN.{length, getD, set}
 use borrow.Author.Tests.{not-true}
 use Rattle.rules.specs.Lists.{first, any, all, keep, alter, distinct, insert, sorted}
 use Rattle.rules.proofs.Tests.{by-bool, no-bool, no-some}
+use Rattle.kept.specs.Said.{Each}
 use Rattle.kept.proofs.Truths.{and-2, both}
+
+-- ---- a claim of each element, or of every member
+
+module _ {A : Type 0} (P : A → Type 0) where
+  pub mem-each : (xs : List A) → ((x : A) → Mem x xs → P x) → Each P xs
+  mem-each [] f = tt
+  mem-each (x ∷ xs) f = (f x (here refl), mem-each xs (λ y m. f y (there m)))
+
+  pub each-mem : {x : A} {xs : List A} → Each P xs → Mem x xs → P x
+  each-mem {xs = y ∷ ys} h (here e) = rw e (h .0)
+  each-mem {xs = y ∷ ys} h (there m) = each-mem (h .1) m
+
+  pub each-append : (xs ys : List A) → Each P xs → Each P ys → Each P (xs ++ ys)
+  each-append [] ys h k = k
+  each-append (x ∷ xs) ys h k = (h .0, each-append xs ys (h .1) k)
 
 module _ {A : Type 0} (p : A → Bool) where
   -- ---- all

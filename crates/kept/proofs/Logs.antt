@@ -37,7 +37,7 @@ block-self x e = rw (e, eqb-self (x .height), eqb-self (x .name))
 abbrev pub isAbove : ℕ → ℕ → ℕ → Statement → Bool
 isAbove h b parent x = isBlock h b x && eqb parent (x .link)
 
-linked-cons : (xs : List Statement) (h parent b : ℕ) (l : List ℕ) → linked xs h parent (b ∷ l) ≡ true
+pub linked-cons : (xs : List Statement) (h parent b : ℕ) (l : List ℕ) → linked xs h parent (b ∷ l) ≡ true
     → (any (isAbove (suc h) b parent) xs ≡ true) × (linked xs (suc h) b l ≡ true)
 unfolding linked
 linked-cons xs h parent b l e = and-2 (any (isAbove (suc h) b parent) xs) (linked xs (suc h) b l) e
@@ -107,7 +107,7 @@ module _ (xs : List Statement) where
 -- ---- chains and commits
 
 module _ {s : State} (f : Formed s) where
-  stored-stated : (x : Statement) → Mem x (s .statements) → Stated (s .settings) x
+  pub stored-stated : (x : Statement) → Mem x (s .statements) → Stated (s .settings) x
   stored-stated x m = stated (s .settings) x (stored-sendable s x (sizes (s .settings) (f .settings)) (all-mem (statementGood s) (f .statements) m))
 
   chainTo-linked : (h b : ℕ) (above l : List ℕ) → blockAllowed h b ≡ true → linked (s .statements) h b above ≡ true

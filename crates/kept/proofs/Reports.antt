@@ -1,0 +1,71 @@
+-- What a commit says and leaves: the due ones are stored proposes, each report is of a stored block, and the state stays formed. Assumes nothing.
+use mathlib.Core.Path.{_≡_, refl, sym, ap, _∙_}
+use Prim.Native.Nat.{ℕ, zero, suc, _+_, _-_, _*_, _^_, _≤_, _<_}
+use native.Mathlib.Omega.{arith}
+use mathlib.Core.Bool.{Bool, true, false, not, _&&_}
+use mathlib.Core.List.{List, [], _∷_, _++_, List·Memᴰ as Mem, List·Memᴰ·head as here, List·Memᴰ·tail as there}
+use mathlib.Core.Option.{Option, none, some}
+use lib.Dec.{leb, eqb}
+use lib.ListN.{length, drop}
+use borrow.Author.Tests.{not-true}
+use Rattle.rules.specs.Limits.{lastHeight}
+use Rattle.rules.specs.Lists.{keep}
+use Rattle.rules.specs.Messages.{Effect, committed}
+use Rattle.rules.specs.Words.{Statement, State}
+use Rattle.rules.specs.Inputs.{isIn, isDue, due, isBlock, reports, withLog}
+use Rattle.rules.specs.WellFormed.{clocksInOrder, lockGood, statementGood, linked}
+use Rattle.rules.proofs.Tests.{by-bool, no-bool}
+use Rattle.kept.specs.Parts.{Formed}
+use Rattle.kept.specs.Said.{Each, Sayable}
+use Rattle.kept.proofs.Truths.{and-2, and-3}
+use Rattle.kept.proofs.Lists.{mem-each, any-find, keep-mem, sorted-mem}
+use Rattle.kept.proofs.Allowed.{height-le}
+use Rattle.kept.proofs.Logs.{isAbove, block-parts, linked-cons, stored-stated}
+
+-- "every propose of this view voted for"
+due-propose : (s : State) (x : Statement) → isDue s x ≡ true → x .isNewView ≡ false
+unfolding isDue
+due-propose s x e = by-bool (x .isNewView) (λ q. no-bool (sym (rw (q, isDue) at e))) (λ q. q)
+
+pub due-stored : (s : State) → Each (λ x. Mem x (s .statements) × (x .isNewView ≡ false)) (due s)
+unfolding due
+due-stored s =
+    mem-each (λ x. Mem x (s .statements) × (x .isNewView ≡ false)) (due s)
+    (λ x m. let t = keep-mem (isDue s) (s .statements) (sorted-mem (λ x. x .height) (keep (isDue s) (s .statements)) m) in (t .0, due-propose s x (t .1)))
+
+module _ {s : State} (f : Formed s) where
+  reports-said : (h parent : ℕ) (l : List ℕ) → linked (s .statements) h parent l ≡ true → Each (Sayable (s .settings)) (reports (suc h) l)
+  unfolding reports
+  reports-said h parent [] e = tt
+  reports-said h parent (b ∷ l) e =
+      let t = linked-cons (s .statements) h parent b l e in
+      let (x, m, k) = any-find (isAbove (suc h) b parent) (s .statements) (t .0) in
+      let (_, o, n) = block-parts (suc h) b x (and-2 (isBlock (suc h) b x) (eqb parent (x .link)) k .0) in
+      let d = stored-stated f x m in
+      let z = height-le (x .height) (x .name) (d .block) in
+      ((omega arith, rw n (d .name)), reports-said (suc h) b l (t .1))
+
+  -- from any height on
+  pub later-said : (k h parent : ℕ) (l : List ℕ) → linked (s .statements) h parent l ≡ true → Each (Sayable (s .settings)) (reports (suc (h + k)) (drop k l))
+  unfolding reports
+  later-said zero h parent l e = let z : h + 0 ≡ h = omega arith in rw z (reports-said h parent l e)
+  later-said (suc k) h parent [] e = tt
+  later-said (suc k) h parent (b ∷ l) e =
+      let z : h + suc k ≡ suc h + k = omega arith in rw z (later-said k (suc h) b l (linked-cons (s .statements) h parent b l e .1))
+
+  pub logged-formed : (l : List ℕ) → linked (s .statements) 0 0 l ≡ true → Formed (withLog l s)
+  unfolding withLog clocksInOrder lockGood statementGood
+  logged-formed l e =
+      record {
+        settings = f .settings;
+        view = f .view;
+        clocks = f .clocks;
+        lock = f .lock;
+        statements = f .statements;
+        statementsDiffer = f .statementsDiffer;
+        tallies = f .tallies;
+        talliesDiffer = f .talliesDiffer;
+        opened = f .opened;
+        blames = f .blames;
+        log = e;
+      }
