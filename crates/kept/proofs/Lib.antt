@@ -10,3 +10,4 @@ pub mod Phases
 pub mod Blames
 pub mod Logs
 pub mod Reports
+pub mod Keeps
