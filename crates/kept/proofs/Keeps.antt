@@ -39,10 +39,10 @@ silent f = record { settings = refl; formed = f; said = tt }
 pub onward : (s : State) {t : State} {w : Work} → t .settings ≡ s .settings → Keeps t w → Keeps s w
 onward s {t} {w} e k = record { settings = k .settings ∙ e; formed = k .formed; said = rw e at (k .said) }
 
-pub then-keeps : {s : State} {w : Work} (r : State → Work) → Keeps s w → ((t : State) → Formed t → Keeps t (r t)) → Keeps s (w ▸ r)
+pub then-keeps : {s : State} {w : Work} (r : State → Work) → Keeps s w → ((t : State) → t .settings ≡ s .settings → Formed t → Keeps t (r t)) → Keeps s (w ▸ r)
 unfolding _▸_
 then-keeps {s} {w} r k h =
-    let n = onward s {t = w .now} (k .settings) (h (w .now) (k .formed)) in
+    let n = onward s {t = w .now} (k .settings) (h (w .now) (k .settings) (k .formed)) in
     record { settings = n .settings; formed = n .formed; said = each-append (Sayable (s .settings)) (w .out) (r (w .now) .out) (k .said) (n .said) }
 
 -- ---- statement

@@ -11,3 +11,4 @@ pub mod Blames
 pub mod Logs
 pub mod Reports
 pub mod Keeps
+pub mod Ticks

@@ -46,12 +46,16 @@ module _ {s : State} (f : Formed s) where
       ((omega arith, rw n (d .name)), reports-said (suc h) b l (t .1))
 
   -- from any height on
-  pub later-said : (k h parent : ℕ) (l : List ℕ) → linked (s .statements) h parent l ≡ true → Each (Sayable (s .settings)) (reports (suc (h + k)) (drop k l))
+  later-said : (k h parent : ℕ) (l : List ℕ) → linked (s .statements) h parent l ≡ true → Each (Sayable (s .settings)) (reports (suc (h + k)) (drop k l))
   unfolding reports
   later-said zero h parent l e = let z : h + 0 ≡ h = omega arith in rw z (reports-said h parent l e)
   later-said (suc k) h parent [] e = tt
   later-said (suc k) h parent (b ∷ l) e =
       let z : h + suc k ≡ suc h + k = omega arith in rw z (later-said k (suc h) b l (linked-cons (s .statements) h parent b l e .1))
+
+  -- what a log gained over one of length k
+  pub gained-said : (k : ℕ) (l : List ℕ) → linked (s .statements) 0 0 l ≡ true → Each (Sayable (s .settings)) (reports (suc k) (drop k l))
+  gained-said k l e = let z : 0 + k ≡ k = omega arith in rw z at (later-said k 0 0 l e)
 
   pub logged-formed : (l : List ℕ) → linked (s .statements) 0 0 l ≡ true → Formed (withLog l s)
   unfolding withLog clocksInOrder lockGood statementGood
