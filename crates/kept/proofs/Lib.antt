@@ -12,3 +12,5 @@ pub mod Logs
 pub mod Reports
 pub mod Keeps
 pub mod Ticks
+pub mod Offers
+pub mod Calls

@@ -29,6 +29,14 @@ use Rattle.kept.proofs.Logs.{commits-linked}
 use Rattle.kept.proofs.Reports.{due-stored, gained-said, logged-formed}
 use Rattle.kept.proofs.Keeps.{Keeps, silent, onward, then-keeps, quit-keeps, voting-keeps, full-sendable, blaming-keeps, handled-keeps}
 
+-- "leads it"
+pub leads-own : (s : State) → leads s ≡ true → s .settings .own ≡ leader (s .settings) (s .view)
+unfolding leads
+leads-own s e =
+    sym
+    (eqb-true (leader (s .settings) (s .view)) (s .settings .own)
+    (and-2 (isIn (s .view) s) (eqb (leader (s .settings) (s .view)) (s .settings .own)) e .1))
+
 module _ {s : State} (f : Formed s) where
   -- ---- commit
 
@@ -56,16 +64,12 @@ module _ {s : State} (f : Formed s) where
 
   -- ---- the leader's new-view
 
-  leads-own : leads s ≡ true → s .settings .own ≡ leader (s .settings) (s .view)
-  unfolding leads
-  leads-own e = sym (eqb-true (leader (s .settings) (s .view)) (s .settings .own) (and-2 (isIn (s .view) s) (eqb (leader (s .settings) (s .view)) (s .settings .own)) e .1))
-
   ownNewView-sendable : leads s ≡ true → Sendable (s .settings) (ownNewView s)
   unfolding ownNewView allowed
   ownNewView-sendable e =
       let t = highest (s .settings) (s .view) (s .tallies) in
       let c = highest-good (s .settings) (s .view) (s .tallies) (view-within (s .view) (f .view) .0) (f .tallies) in
-      let o = eq-eqb (s .settings .own) (leader (s .settings) (s .view)) (leads-own e) in
+      let o = eq-eqb (s .settings .own) (leader (s .settings) (s .view)) (leads-own s e) in
       sendable (newView (s .view) (t .height) (t .name) (t .view) (t .mask) (s .settings .own)) (sizes (s .settings) (f .settings))
       (both (both (both (both (f .view) (c .block)) (lt-ltb (t .view) (s .view) (c .earlier))) (c .isAllowed)) o) (c .name)
 
