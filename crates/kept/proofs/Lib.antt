@@ -14,3 +14,4 @@ pub mod Keeps
 pub mod Ticks
 pub mod Offers
 pub mod Calls
+pub mod Lengths
