@@ -15,3 +15,5 @@ pub mod Ticks
 pub mod Offers
 pub mod Calls
 pub mod Lengths
+pub mod Room
+pub mod Ticking

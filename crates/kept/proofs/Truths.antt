@@ -27,6 +27,10 @@ and-6 a b c d f g e = let p = and-2 (a && b && c && d && f) g e in let q = and-5
 pub both : {a b : Bool} → a ≡ true → b ≡ true → (a && b) ≡ true
 both p q = rw (p, q)
 
+pub and-false : (a : Bool) → (a && false) ≡ false
+and-false true = refl
+and-false false = refl
+
 pub or-2 : (a b : Bool) → (a || b) ≡ true → (a ≡ true) ⊎ (b ≡ true)
 or-2 true b e = inl refl
 or-2 false b e = inr e
