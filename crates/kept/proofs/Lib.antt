@@ -17,3 +17,4 @@ pub mod Calls
 pub mod Lengths
 pub mod Room
 pub mod Ticking
+pub mod Outs
