@@ -18,3 +18,4 @@ pub mod Lengths
 pub mod Room
 pub mod Ticking
 pub mod Outs
+pub mod Facts

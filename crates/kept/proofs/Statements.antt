@@ -11,7 +11,7 @@ use lib.Dec.{leb, eqb}
 use borrow.Author.Tests.{eqb-false, leb-true, le-leb}
 use Rattle.rules.specs.Limits.{firstView, lastView}
 use Rattle.rules.specs.Lists.{iff}
-use Rattle.rules.specs.Sizes.{Settings}
+use Rattle.rules.specs.Sizes.{Settings, leader}
 use Rattle.rules.specs.Messages.{Message, newView, propose, Fitting, allowed, viewAllowed, blockAllowed}
 use Rattle.rules.specs.Words.{Statement, message, sameStatement, Tally, ownBlock, certificate, State}
 use Rattle.rules.specs.Inputs.{noted, isBlock}
@@ -19,7 +19,7 @@ use Rattle.rules.specs.WellFormed.{isName, statementGood, tallyGood, talliesThe
 use Rattle.rules.proofs.Tests.{by-bool, by-option, no-bool}
 use Rattle.kept.specs.Said.{Sendable}
 use Rattle.kept.proofs.Truths.{and-2, and-4, eqb-sym, iff-sym}
-use Rattle.kept.proofs.Allowed.{Sizes, view-within, within-view, view-name, name-lt, lt-name, mask-parts, certificate-cases}
+use Rattle.kept.proofs.Allowed.{Sizes, view-within, within-view, view-name, name-lt, lt-name, mask-parts, certificate-mask}
 use Rattle.kept.proofs.Sendable.{Named, named, sendable, newView-parts, propose-parts}
 use Rattle.kept.proofs.Tallies.{Joinable, joinable, tally-made}
 
@@ -28,6 +28,8 @@ pub record Stated (g : Settings) (x : Statement) : Type 0 where
   pub block : blockAllowed (x .height) (x .name) ≡ true
   pub name : x .name < 256 ^ 32
   pub link : x .link < 256 ^ 32
+  pub mask : x .mask < 2 ^ g .n
+  pub author : x .author ≡ leader g (x .view)
   pub certified : Joinable g (certificate x)
   -- a propose stands above its parent
   pub parent : x .isNewView ≡ false → (1 ≤ x .height) × (blockAllowed (x .height - 1) (x .link) ≡ true)
@@ -36,7 +38,7 @@ module _ (g : Settings) (x : Statement) (e : Sendable g (message x)) where
   newView-stated : x .isNewView ≡ true → Stated g x
   unfolding message certificate
   newView-stated k =
-      let (v, b, c, d, _) = newView-parts g (x .view) (x .height) (x .name) (x .link) (x .mask) (x .author) (rw (k, message) at (e .isAllowed)) in
+      let (v, b, c, d, a) = newView-parts g (x .view) (x .height) (x .name) (x .link) (x .mask) (x .author) (rw (k, message) at (e .isAllowed)) in
       let n = named (newView (x .view) (x .height) (x .name) (x .link) (x .mask) (x .author)) (rw (k, message) at (e .fits)) in
       let w = view-within (x .view) v in
       record {
@@ -44,6 +46,8 @@ module _ (g : Settings) (x : Statement) (e : Sendable g (message x)) where
         block = b;
         name = n;
         link = view-name (omega arith);
+        mask = certificate-mask g (x .mask) (x .height) (x .link) d;
+        author = a;
         certified = rw (k, certificate) (joinable g (record { view = x .link; height = x .height; name = x .name; mask = x .mask }) b n d);
         parent = λ q. no-bool (sym k ∙ q);
       }
@@ -51,13 +55,15 @@ module _ (g : Settings) (x : Statement) (e : Sendable g (message x)) where
   propose-stated : x .isNewView ≡ false → Stated g x
   unfolding message certificate
   propose-stated k =
-      let (v, h, b, c, m, _) = propose-parts g (x .view) (x .height) (x .name) (x .link) (x .mask) (x .author) (rw (k, message) at (e .isAllowed)) in
+      let (v, h, b, c, m, a) = propose-parts g (x .view) (x .height) (x .name) (x .link) (x .mask) (x .author) (rw (k, message) at (e .isAllowed)) in
       let n = named (propose (x .view) (x .height) (x .name) (x .link) (x .mask) (x .author)) (rw (k, message) at (e .fits)) in
       record {
         view = v;
         block = b;
         name = n .0;
         link = n .1;
+        mask = mask-parts g (x .mask) m .0;
+        author = a;
         certified = rw (k, certificate) (λ q. tally-made (record { view = v; block = c; name = n .1; mask = mask-parts g (x .mask) m .0 }));
         parent = λ q. (h, c);
       }
