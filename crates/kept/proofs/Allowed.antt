@@ -1,19 +1,19 @@
 -- The tests of what is allowed, as facts on numbers: settings, views, blocks, masks, certificates. Assumes nothing.
-use mathlib.Core.Path.{_≡_, refl, sym, ap, _∙_}
+use mathlib.Core.Path.{_≡_}
 use mathlib.Core.Logic.{_⊎_, inl, inr}
-use Prim.Native.Nat.{ℕ, zero, suc, _+_, _-_, _/_, _%_, _^_, _≤_, _<_}
+use Prim.Native.Nat.{ℕ, suc, _%_, _^_, _≤_, _<_}
 use native.Mathlib.Nat.{pow-le-pow-right, lt-of-lt-of-le, one-le-pow, mod-lt}
 use native.Mathlib.Omega.{arith}
-use mathlib.Core.Bool.{Bool, true, false, _&&_}
+use mathlib.Core.Bool.{true}
 use lib.Dec.{leb, ltb, eqb, lit≤}
 use lib.Pow.{pow-lt}
-use borrow.Author.Tests.{ltb-true, leb-true, eqb-true, eqb-false, lt-ltb, le-leb, eq-eqb, ne-eqb}
+use borrow.Author.Tests.{ltb-true, leb-true, eqb-true, eqb-false, lt-ltb, le-leb, ne-eqb}
 use Rattle.rules.specs.Limits.{leastStations, mostStations, leastDelay, mostDelay, firstView, lastView, lastHeight}
 use Rattle.rules.specs.Lists.{iff, within}
 use Rattle.rules.specs.Sizes.{Settings, goodSettings, leader, only, quorum}
 use Rattle.rules.specs.Messages.{viewAllowed, blockAllowed, maskAllowed, certificateAllowed}
 use Rattle.rules.specs.WellFormed.{isName, isMask}
-use Rattle.rules.proofs.Tests.{by-bool, no-bool}
+use Rattle.rules.proofs.Tests.{by-bool}
 use Rattle.kept.proofs.Truths.{and-2, and-4, both}
 
 pub within-le : (a b x : ℕ) → within a b x ≡ true → (a ≤ x) × (x ≤ b)

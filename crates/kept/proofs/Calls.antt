@@ -1,24 +1,27 @@
 -- Every call leaves a well-formed state well formed, its settings as they were, and says only what may be said. Assumes nothing.
-use mathlib.Core.Path.{_≡_, refl, sym, ap, _∙_}
+use mathlib.Core.Path.{_≡_, refl}
 use Prim.Native.Nat.{ℕ, _^_, _≤_, _<_}
 use native.Mathlib.Omega.{arith}
-use mathlib.Core.Bool.{Bool, true, false, _&&_}
-use mathlib.Core.List.{List, [], _∷_, List·Memᴰ as Mem}
-use mathlib.Core.Option.{Option, none, some}
+use mathlib.Core.Bool.{true}
+use mathlib.Core.List.{List, List·Memᴰ as Mem}
+use mathlib.Core.Option.{some}
 use lib.Dec.{leb, eqb}
 use lib.ListN.{length}
 use borrow.Author.Tests.{eqb-false, leb-true}
-use Rattle.rules.specs.Limits.{mostStatements, mostTallies, lastClock}
-use Rattle.rules.specs.Messages.{Message, read, allowed, Effect, toAll, toOne, committed}
+use Rattle.rules.specs.Limits.{mostStatements, mostTallies, lastClock, lastHeight}
+use Rattle.rules.specs.Sizes.{Settings}
+use Rattle.rules.specs.Messages.{Message, read, write, allowed, toAll, toOne, committed}
 use Rattle.rules.specs.Words.{Cause, full, split, clock, State}
 use Rattle.rules.specs.Inputs.{Work, withPhase, handled, offered, ticked}
 use Rattle.rules.specs.Refusals.{Outcome, done, refused, stopping, hasRoom, ifRoom, running, step, offer, tick}
 use Rattle.rules.specs.WellFormed.{wellFormed}
 use Rattle.rules.proofs.Tests.{by-bool, by-option}
 use Rattle.rules.proofs.Bytes.{Bytes}
-use Rattle.kept.specs.Parts.{Formed, WellFormed}
-use Rattle.kept.specs.Said.{Each, Sayable}
+use Rattle.rules.proofs.Written.{read-write}
+use Rattle.kept.specs.Parts.{WellFormed}
+use Rattle.kept.specs.Said.{Each, Sendable, Sayable}
 use Rattle.kept.proofs.Truths.{and-2}
+use Rattle.kept.proofs.Lists.{each-mem}
 use Rattle.kept.proofs.WellFormed.{parts, whole}
 use Rattle.kept.proofs.Sendable.{read-sendable}
 use Rattle.kept.proofs.Phases.{clocks-parts, stopped-formed}
@@ -104,3 +107,19 @@ offer-whole b s h e = whole (offer-kept (parts s e) b h .formed)
 
 pub tick-whole : (s : State) → wellFormed s ≡ true → wellFormed (tick s .next) ≡ true
 tick-whole s e = whole (tick-kept (parts s e) .formed)
+
+-- ---- what is said
+
+module _ {s : State} {o : Outcome} (k : Kept s o) where
+  pub sent-all : (m : Message) → Mem (toAll m) (o .out) → Sendable (s .settings) m
+  sent-all m i = each-mem (Sayable (s .settings)) (k .said) i
+
+  pub sent-one : (to : ℕ) (m : Message) → Mem (toOne to m) (o .out) → (to < s .settings .n) × Sendable (s .settings) m
+  sent-one to m i = each-mem (Sayable (s .settings)) (k .said) i
+
+  pub reported : (h b : ℕ) → Mem (committed h b) (o .out) → (h ≤ lastHeight) × (b < 256 ^ 32)
+  reported h b i = each-mem (Sayable (s .settings)) (k .said) i
+
+-- and is read as it was sent
+pub sent-read : {g : Settings} {m : Message} → Sendable g m → read (write m) ≡ some m
+sent-read {m = m} e = read-write m (e .fits)

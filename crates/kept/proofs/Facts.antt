@@ -1,17 +1,16 @@
 -- What code may take from a well-formed state: its numbers are within their limits, and a whole chain is no longer than the table. Assumes nothing.
-use mathlib.Core.Path.{_≡_, refl, sym, ap, _∙_}
+use mathlib.Core.Path.{_≡_, ap}
 use Prim.Native.Nat.{ℕ, zero, suc, _+_, _-_, _^_, _≤_, _<_}
 use native.Mathlib.Omega.{arith}
-use native.Mathlib.Decide.{decLt}
-use mathlib.Core.Bool.{Bool, true, false}
+use mathlib.Core.Bool.{false}
 use mathlib.Core.List.{List, [], _∷_, List·Memᴰ as Mem}
-use mathlib.Core.Option.{Option, none, some, Option·some-injective}
+use mathlib.Core.Option.{none, some, Option·some-injective}
 use lib.ListN.{length, getD}
 use Rattle.rules.specs.Limits.{firstView, lastView, lastHeight, mostStations, mostStatements}
 use Rattle.rules.specs.Lists.{first}
 use Rattle.rules.specs.Words.{Statement, Tally, State}
 use Rattle.rules.specs.Inputs.{isBlock, chainTo, chain}
-use Rattle.rules.specs.WellFormed.{statementGood, tallyGood, wellFormed}
+use Rattle.rules.specs.WellFormed.{statementGood, tallyGood}
 use Rattle.rules.proofs.Tests.{by-option, no-some}
 use Rattle.kept.specs.Parts.{Formed, WellFormed}
 use Rattle.kept.proofs.Lists.{all-mem}

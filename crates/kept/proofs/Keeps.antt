@@ -1,15 +1,14 @@
 -- What a rule keeps: the settings, a formed state, and that all it says may be said. The rules on a message, composed. Assumes nothing.
-use mathlib.Core.Path.{_≡_, refl, sym, ap, _∙_}
-use Prim.Native.Nat.{ℕ, zero, suc, _^_, _<_}
-use mathlib.Core.Bool.{Bool, true, false, _&&_}
-use mathlib.Core.List.{List, [], _∷_, _++_}
-use mathlib.Core.Option.{Option, none, some}
-use lib.Dec.{ltb}
+use mathlib.Core.Path.{_≡_, refl, _∙_}
+use Prim.Native.Nat.{ℕ, _^_, _<_}
+use mathlib.Core.Bool.{true, false, _&&_}
+use mathlib.Core.List.{List, [], _∷_}
+use mathlib.Core.Option.{none}
 use borrow.Author.Tests.{lt-ltb}
 use Rattle.rules.specs.Lists.{first, any}
-use Rattle.rules.specs.Sizes.{Settings, only, quorum}
-use Rattle.rules.specs.Messages.{Message, newView, propose, vote, blame, blameSet, status, viewAllowed, maskAllowed, allowed, Effect, toAll}
-use Rattle.rules.specs.Words.{Statement, message, sameStatement, conflict, Tally, certificate, State}
+use Rattle.rules.specs.Sizes.{only}
+use Rattle.rules.specs.Messages.{Message, newView, propose, vote, blame, blameSet, status, viewAllowed, allowed, Effect, toAll}
+use Rattle.rules.specs.Words.{Statement, message, sameStatement, conflict, Tally, State}
 use Rattle.rules.specs.Inputs.{Work, saying, _▸_, withPhase, withTables, withBlames, isIn, quit, belowLock, votedFor, ballot, voting, certificateJoined, stored, statement, tallied, blamesOf, blamed, blameFull, blaming, handled}
 use Rattle.rules.specs.WellFormed.{statementGood}
 use Rattle.rules.proofs.Tests.{by-bool, by-option}
@@ -17,7 +16,7 @@ use Rattle.kept.specs.Parts.{Formed}
 use Rattle.kept.specs.Said.{Each, Sendable, Sayable}
 use Rattle.kept.proofs.Truths.{and-2, both}
 use Rattle.kept.proofs.Lists.{each-append, all-mem, first-mem}
-use Rattle.kept.proofs.Allowed.{Sizes, sizes, only-lt, mask-parts, mask-made}
+use Rattle.kept.proofs.Allowed.{sizes, only-lt, mask-parts, mask-made}
 use Rattle.kept.proofs.Sendable.{named, sendable, vote-parts, blame-parts, blameSet-parts, status-parts}
 use Rattle.kept.proofs.Tallies.{Joinable, joinable, tally-made}
 use Rattle.kept.proofs.Statements.{stated, stored-sendable}

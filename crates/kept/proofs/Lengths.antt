@@ -1,9 +1,8 @@
 -- How many bytes a message, an effect and a list of effects take: 01's column 'bytes'. Assumes nothing.
-use mathlib.Core.Path.{_≡_, refl, sym, ap, _∙_}
-use Prim.Native.Nat.{ℕ, zero, suc, _+_, _*_, _≤_}
+use mathlib.Core.Path.{_≡_, refl, ap, _∙_}
+use Prim.Native.Nat.{ℕ, suc, _+_, _*_, _≤_}
 use native.Mathlib.Omega.{arith}
-use mathlib.Core.Bool.{Bool, true, false}
-use mathlib.Core.List.{List, [], _∷_, _++_, append-assoc}
+use mathlib.Core.List.{List, [], _∷_, _++_}
 use lib.ListN.{length, length-append}
 use Rattle.rules.specs.Lists.{unbe}
 use Rattle.rules.specs.Messages.{Message, newView, propose, vote, blame, blameSet, status, field, width, rowOf, tagsOf, kind, values, writes, write, Effect, toAll, toOne, committed, effect, outgoing}

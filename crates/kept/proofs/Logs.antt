@@ -1,26 +1,25 @@
 -- The log: a commit leaves it linked, every logged block is stored, and it is no longer than the proposes that are stored. Assumes nothing.
-use mathlib.Core.Path.{_≡_, refl, sym, ap, _∙_}
-use Prim.Native.Nat.{ℕ, zero, suc, _+_, _-_, _^_, _≤_, _<_}
+use mathlib.Core.Path.{_≡_, refl}
+use Prim.Native.Nat.{ℕ, zero, suc, _+_, _-_, _≤_, _<_}
 use native.Mathlib.Omega.{arith}
 use mathlib.Core.Bool.{Bool, true, false, not, _&&_}
-use mathlib.Core.List.{List, [], _∷_, _++_, List·Memᴰ as Mem, List·Memᴰ·head as here, List·Memᴰ·tail as there}
-use mathlib.Core.Option.{Option, none, some, Option·map, Option·some-injective, map-eq-some-iff}
+use mathlib.Core.List.{List, [], _∷_, List·Memᴰ as Mem}
+use mathlib.Core.Option.{some, Option·some-injective, map-eq-some-iff}
 use lib.Dec.{leb, eqb}
-use lib.ListN.{length, drop}
+use lib.ListN.{length}
 use borrow.Author.Tests.{eqb-true, leb-true, le-leb, lt-leb, not-true}
-use Rattle.rules.specs.Limits.{lastHeight}
-use Rattle.rules.specs.Lists.{first, any, all, keep}
-use Rattle.rules.specs.Sizes.{Settings}
-use Rattle.rules.specs.Messages.{blockAllowed, Effect}
+use Rattle.rules.specs.Lists.{first, any, keep}
+use Rattle.rules.specs.Messages.{blockAllowed}
 use Rattle.rules.specs.Words.{Statement, State}
-use Rattle.rules.specs.Inputs.{isBlock, chainTo, chain, merge, commit, commits, reports}
+use Rattle.rules.specs.Inputs.{isBlock, chainTo, chain, merge, commit, commits}
 use Rattle.rules.specs.WellFormed.{statementGood, linked}
-use Rattle.rules.proofs.Tests.{by-bool, by-option, no-bool, no-some, eqb-self}
+use Rattle.rules.proofs.Tests.{by-bool, by-option, no-some, eqb-self}
 use Rattle.kept.specs.Parts.{Formed}
-use Rattle.kept.specs.Said.{Each, Sayable}
+use Rattle.kept.specs.Said.{Each}
 use Rattle.kept.proofs.Truths.{and-2, and-3, both}
 use Rattle.kept.proofs.Lists.{all-mem, any-mem, any-find, first-mem, keep-length, keep-fewer, keep-fewer-by}
-use Rattle.kept.proofs.Allowed.{sizes, genesis-zero, height-le}
+use Rattle.kept.proofs.Allowed.{sizes, genesis-zero}
+use Rattle.kept.proofs.Tables.{isAbove}
 use Rattle.kept.proofs.Statements.{Stated, stated, stored-sendable}
 
 pub block-parts : (h b : ℕ) (x : Statement) → isBlock h b x ≡ true → (x .isNewView ≡ false) × (h ≡ x .height) × (b ≡ x .name)
@@ -32,10 +31,6 @@ block-parts h b x e =
 pub block-self : (x : Statement) → x .isNewView ≡ false → isBlock (x .height) (x .name) x ≡ true
 unfolding isBlock
 block-self x e = rw (e, eqb-self (x .height), eqb-self (x .name))
-
--- a block of that height and name above that parent
-abbrev pub isAbove : ℕ → ℕ → ℕ → Statement → Bool
-isAbove h b parent x = isBlock h b x && eqb parent (x .link)
 
 pub linked-cons : (xs : List Statement) (h parent b : ℕ) (l : List ℕ) → linked xs h parent (b ∷ l) ≡ true
     → (any (isAbove (suc h) b parent) xs ≡ true) × (linked xs (suc h) b l ≡ true)
@@ -60,13 +55,19 @@ upTo h x = not (x .isNewView) && leb (x .height) h
 abbrev pub proposes : List Statement → List Statement
 proposes xs = keep (λ x. not (x .isNewView)) xs
 
+upTo-suc : (h : ℕ) (x : Statement) → upTo h x ≡ true → upTo (suc h) x ≡ true
+unfolding upTo
+upTo-suc h x e =
+    let t = and-2 (not (x .isNewView)) (leb (x .height) h) e in
+    let l = leb-true (x .height) h (t .1) in
+    both (t .0) (le-leb (x .height) (suc h) (omega arith))
+
 module _ (xs : List Statement) where
   upTo-more : (h b : ℕ) {x : Statement} → Mem x xs → isBlock (suc h) b x ≡ true → length (keep (upTo h) xs) < length (keep (upTo (suc h)) xs)
   unfolding upTo
   upTo-more h b {x} m e =
       let (k, l, _) = block-parts (suc h) b x e in
-      keep-fewer-by (upTo h) (upTo (suc h))
-      (λ y t. let u = and-2 (not (y .isNewView)) (leb (y .height) h) t in let v = leb-true (y .height) h (u .1) in both (u .0) (le-leb (y .height) (suc h) (omega arith))) xs m
+      keep-fewer-by (upTo h) (upTo (suc h)) (upTo-suc h) xs m
       (rw (k, lt-leb (x .height) h (omega arith))) (rw (k, le-leb (x .height) (suc h) (omega arith)))
 
   linked-upTo : (h parent : ℕ) (l : List ℕ) → linked xs h parent l ≡ true → length (keep (upTo h) xs) + length l ≤ length (proposes xs)

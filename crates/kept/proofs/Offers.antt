@@ -1,21 +1,21 @@
 -- The propose that an offer makes may be sent. Assumes nothing.
-use mathlib.Core.Path.{_≡_, refl, sym, ap, _∙_}
-use Prim.Native.Nat.{ℕ, zero, suc, _+_, _-_, _^_, _≤_, _<_}
+use mathlib.Core.Path.{_≡_, sym, _∙_}
+use Prim.Native.Nat.{ℕ, _+_, _-_, _^_, _<_}
 use native.Mathlib.Omega.{arith}
-use mathlib.Core.Bool.{Bool, true, false, not, _&&_}
+use mathlib.Core.Bool.{true, false, not, _&&_}
 use mathlib.Core.List.{List, [], _∷_, List·Memᴰ as Mem, List·Memᴰ·head as here, List·Memᴰ·tail as there}
-use mathlib.Core.Option.{Option, none, some, Option·some-injective}
-use lib.Dec.{leb, ltb, eqb}
-use borrow.Author.Tests.{eqb-true, eqb-false, eq-eqb, ltb-true, le-leb, not-true}
+use mathlib.Core.Option.{some, Option·some-injective}
+use lib.Dec.{ltb, eqb}
+use borrow.Author.Tests.{eqb-false, eq-eqb, ltb-true, le-leb, not-true}
 use Rattle.rules.specs.Limits.{lastHeight}
 use Rattle.rules.specs.Sizes.{leader, quorum}
-use Rattle.rules.specs.Messages.{Message, propose, viewAllowed, blockAllowed, maskAllowed, allowed}
+use Rattle.rules.specs.Messages.{Message, propose, allowed}
 use Rattle.rules.specs.Words.{Statement, ownBlock, voters, State}
 use Rattle.rules.specs.Inputs.{leads, isOpened, isUsed, top, extendable, above, offered}
 use Rattle.rules.proofs.Tests.{by-bool, by-option, no-some}
 use Rattle.kept.specs.Parts.{Formed}
 use Rattle.kept.specs.Said.{Sendable}
-use Rattle.kept.proofs.Truths.{and-2, and-4, both}
+use Rattle.kept.proofs.Truths.{and-2, and-4}
 use Rattle.kept.proofs.Allowed.{sizes, block-made, mask-made}
 use Rattle.kept.proofs.Sendable.{sendable}
 use Rattle.kept.proofs.Tallies.{voters-mask}

@@ -1,11 +1,10 @@
 -- "Out buffer: at least 32,768 bytes" is room for every call: a message or an offer says at most 200 bytes, a tick at most 20,542.
 -- Assumes nothing.
-use mathlib.Core.Path.{_≡_, refl, sym, ap, _∙_}
-use Prim.Native.Nat.{ℕ, _^_, _≤_, _<_}
+use mathlib.Core.Path.{_≡_}
+use Prim.Native.Nat.{ℕ, _≤_}
 use native.Mathlib.Omega.{arith}
-use mathlib.Core.Bool.{Bool, true, false}
-use mathlib.Core.List.{List, []}
-use mathlib.Core.Option.{Option, none, some}
+use mathlib.Core.Bool.{true}
+use mathlib.Core.List.{List}
 use lib.Dec.{eqb}
 use lib.ListN.{length}
 use borrow.Author.Tests.{eqb-false}
@@ -13,7 +12,7 @@ use Rattle.rules.specs.Limits.{lastClock, leastOut}
 use Rattle.rules.specs.Messages.{read, allowed, outgoing}
 use Rattle.rules.specs.Words.{Cause, full, split, clock, State}
 use Rattle.rules.specs.Inputs.{Work, handled, offered, ticked}
-use Rattle.rules.specs.Refusals.{Outcome, done, refused, stopping, hasRoom, ifRoom, running, step, offer, tick}
+use Rattle.rules.specs.Refusals.{done, refused, stopping, hasRoom, ifRoom, running, step, offer, tick}
 use Rattle.rules.specs.WellFormed.{wellFormed}
 use Rattle.rules.proofs.Tests.{by-bool, by-option}
 use Rattle.kept.specs.Parts.{WellFormed}

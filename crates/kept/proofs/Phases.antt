@@ -1,21 +1,19 @@
 -- Quitting, stopping, the clock's next tick and entering a view keep a state formed. Assumes nothing.
-use mathlib.Core.Path.{_≡_, refl, sym, ap, _∙_}
-use Prim.Native.Nat.{ℕ, zero, suc, _+_, _≤_, _<_}
+use mathlib.Core.Path.{_≡_, refl}
+use Prim.Native.Nat.{ℕ, _+_, _≤_, _<_}
 use native.Mathlib.Omega.{arith}
-use mathlib.Core.Bool.{Bool, true, false, _&&_}
-use mathlib.Core.Option.{Option, none, some}
+use mathlib.Core.Bool.{Bool, true}
 use lib.Dec.{leb}
-use borrow.Author.Tests.{leb-true, le-leb, ltb-true, eqb-true}
+use borrow.Author.Tests.{leb-true, le-leb}
 use Rattle.rules.specs.Limits.{firstView, lastView, lastClock}
-use Rattle.rules.specs.Lists.{all, within}
-use Rattle.rules.specs.Words.{Statement, Cause, Tally, Phase, inView, waiting, stopped, State}
+use Rattle.rules.specs.Lists.{within}
+use Rattle.rules.specs.Words.{Cause, Tally, Phase, inView, waiting, stopped, State}
 use Rattle.rules.specs.Inputs.{withPhase, withClock, entering}
 use Rattle.rules.specs.WellFormed.{clocksInOrder, lockGood, statementGood}
-use Rattle.rules.proofs.Tests.{no-bool}
 use Rattle.kept.specs.Parts.{Formed}
-use Rattle.kept.proofs.Truths.{and-2, and-3, both}
+use Rattle.kept.proofs.Truths.{and-3}
 use Rattle.kept.proofs.Lists.{all-weaken}
-use Rattle.kept.proofs.Allowed.{le-within, within-le, view-within, within-view}
+use Rattle.kept.proofs.Allowed.{le-within, within-le, within-view}
 use Rattle.kept.proofs.Tallies.{Certificate, lock-made}
 use Rattle.kept.proofs.Statements.{later-good}
 

@@ -1,26 +1,23 @@
 -- What a commit says and leaves: the due ones are stored proposes, each report is of a stored block, and the state stays formed. Assumes nothing.
-use mathlib.Core.Path.{_≡_, refl, sym, ap, _∙_}
-use Prim.Native.Nat.{ℕ, zero, suc, _+_, _-_, _*_, _^_, _≤_, _<_}
+use mathlib.Core.Path.{_≡_, sym}
+use Prim.Native.Nat.{ℕ, zero, suc, _+_}
 use native.Mathlib.Omega.{arith}
-use mathlib.Core.Bool.{Bool, true, false, not, _&&_}
-use mathlib.Core.List.{List, [], _∷_, _++_, List·Memᴰ as Mem, List·Memᴰ·head as here, List·Memᴰ·tail as there}
-use mathlib.Core.Option.{Option, none, some}
-use lib.Dec.{leb, eqb}
-use lib.ListN.{length, drop}
-use borrow.Author.Tests.{not-true}
-use Rattle.rules.specs.Limits.{lastHeight}
+use mathlib.Core.Bool.{true, false}
+use mathlib.Core.List.{List, [], _∷_, List·Memᴰ as Mem}
+use lib.Dec.{eqb}
+use lib.ListN.{drop}
 use Rattle.rules.specs.Lists.{keep}
-use Rattle.rules.specs.Messages.{Effect, committed}
 use Rattle.rules.specs.Words.{Statement, State}
-use Rattle.rules.specs.Inputs.{isIn, isDue, due, isBlock, reports, withLog}
+use Rattle.rules.specs.Inputs.{isDue, due, isBlock, reports, withLog}
 use Rattle.rules.specs.WellFormed.{clocksInOrder, lockGood, statementGood, linked}
 use Rattle.rules.proofs.Tests.{by-bool, no-bool}
 use Rattle.kept.specs.Parts.{Formed}
 use Rattle.kept.specs.Said.{Each, Sayable}
-use Rattle.kept.proofs.Truths.{and-2, and-3}
+use Rattle.kept.proofs.Truths.{and-2}
 use Rattle.kept.proofs.Lists.{mem-each, any-find, keep-mem, sorted-mem}
 use Rattle.kept.proofs.Allowed.{height-le}
-use Rattle.kept.proofs.Logs.{isAbove, block-parts, linked-cons, stored-stated}
+use Rattle.kept.proofs.Tables.{isAbove}
+use Rattle.kept.proofs.Logs.{block-parts, linked-cons, stored-stated}
 
 -- "every propose of this view voted for"
 due-propose : (s : State) (x : Statement) → isDue s x ≡ true → x .isNewView ≡ false

@@ -1,18 +1,18 @@
 -- How much one rule says at most: a message 200 bytes, a blame 37, the entry of a view 62 and 160 for each stored statement of it.
 -- Assumes nothing.
-use mathlib.Core.Path.{_≡_, refl, sym, ap, _∙_}
-use Prim.Native.Nat.{ℕ, zero, suc, _+_, _*_, _≤_, _<_}
+use mathlib.Core.Path.{_≡_}
+use Prim.Native.Nat.{ℕ, suc, _+_, _*_, _≤_}
 use native.Mathlib.Omega.{arith}
-use mathlib.Core.Bool.{Bool, true, false, _&&_}
-use mathlib.Core.List.{List, [], _∷_, _++_}
-use mathlib.Core.Option.{Option, none, some}
+use mathlib.Core.Bool.{true, false, _&&_}
+use mathlib.Core.List.{List, [], _∷_}
+use mathlib.Core.Option.{none}
 use lib.Dec.{eqb}
 use lib.ListN.{length}
 use Rattle.rules.specs.Lists.{first, any}
 use Rattle.rules.specs.Sizes.{leader, only}
 use Rattle.rules.specs.Messages.{Message, newView, propose, vote, blame, blameSet, status, Effect, toAll, toOne}
 use Rattle.rules.specs.Words.{Statement, message, sameStatement, conflict, Tally, State}
-use Rattle.rules.specs.Inputs.{Work, saying, _▸_, isIn, quit, belowLock, ballot, voting, certificateJoined, stored, statement, tallied, blamesOf, blamed, blameFull, blaming, handled, overdue, complain, leadsNow, ownNewView, lead, nextLock, report, entering, entered, current, pair, inOrder, votingAll, arrive, entersNow, enter}
+use Rattle.rules.specs.Inputs.{Work, saying, _▸_, isIn, quit, belowLock, ballot, voting, stored, statement, tallied, blamesOf, blamed, blameFull, blaming, handled, overdue, complain, leadsNow, ownNewView, lead, nextLock, report, entering, entered, current, pair, inOrder, votingAll, arrive, entersNow, enter}
 use Rattle.rules.proofs.Tests.{by-bool, by-option}
 use Rattle.kept.proofs.Lists.{keep-length, sorted-length}
 use Rattle.kept.proofs.Lengths.{size, weight, bytes, bytes-cons, bytes-append, bytes-none, statement-size}

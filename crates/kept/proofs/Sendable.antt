@@ -1,19 +1,18 @@
 -- Messages that are allowed and whose names are names fit their fields; what was read fits them too. Assumes nothing.
-use mathlib.Core.Path.{_≡_, refl, sym, ap, _∙_}
-use Prim.Native.Nat.{ℕ, zero, suc, _+_, _-_, _*_, _/_, _%_, _^_, _≤_, _<_}
+use mathlib.Core.Path.{_≡_, refl}
+use Prim.Native.Nat.{ℕ, zero, suc, _-_, _^_, _≤_, _<_}
 use native.Mathlib.Nat.{pow-suc, mul-comm, div-lt-iff-lt-mul}
 use native.Mathlib.Omega.{arith}
-use mathlib.Core.Bool.{Bool, true, false, _&&_}
+use mathlib.Core.Bool.{true}
 use mathlib.Core.List.{List, [], _∷_, _++_}
-use mathlib.Core.Option.{Option, none, some}
+use mathlib.Core.Option.{none, some}
 use lib.Dec.{leb, ltb, eqb}
 use lib.ListN.{length}
 use borrow.Author.Tests.{ltb-true, leb-true, eqb-true}
-use Rattle.rules.specs.Limits.{firstView, lastView, lastHeight}
 use Rattle.rules.specs.Lists.{unbe}
-use Rattle.rules.specs.Sizes.{Settings, leader, quorum}
-use Rattle.rules.specs.Messages.{Message, newView, propose, vote, blame, blameSet, status, InWidth, Fitting, field, width, rowOf, table, tagsOf, kind, values, writes, write, read, viewAllowed, blockAllowed, maskAllowed, certificateAllowed, allowed}
-use Rattle.rules.proofs.Bytes.{Bytes, one, pow-pos, length-unbe}
+use Rattle.rules.specs.Sizes.{Settings, leader}
+use Rattle.rules.specs.Messages.{Message, newView, propose, vote, blame, blameSet, status, InWidth, Fitting, field, width, rowOf, tagsOf, kind, values, writes, write, read, viewAllowed, blockAllowed, maskAllowed, certificateAllowed, allowed}
+use Rattle.rules.proofs.Bytes.{Bytes, one, pow-pos}
 use Rattle.rules.proofs.Written.{write-eq, writes-cons}
 use Rattle.rules.proofs.ReadBack.{write-read}
 use Rattle.kept.specs.Said.{Each, Sendable}

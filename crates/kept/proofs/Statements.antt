@@ -1,26 +1,22 @@
 -- What a statement that may be sent, or is stored, says of its view, its block and its certificate. Assumes nothing.
-use mathlib.Core.Path.{_≡_, refl, sym, ap, _∙_}
-use mathlib.Core.Logic.{_⊎_, inl, inr}
-use Prim.Native.Nat.{ℕ, zero, suc, _+_, _-_, _^_, _≤_, _<_}
-use native.Mathlib.Nat.{lt-of-lt-of-le}
+use mathlib.Core.Path.{_≡_, refl, sym, _∙_}
+use Prim.Native.Nat.{ℕ, _-_, _^_, _≤_, _<_}
 use native.Mathlib.Omega.{arith}
-use mathlib.Core.Bool.{Bool, true, false, not, _&&_}
+use mathlib.Core.Bool.{Bool, true, false}
 use mathlib.Core.List.{List}
-use mathlib.Core.Option.{Option, none, some}
-use lib.Dec.{leb, eqb}
-use borrow.Author.Tests.{eqb-false, leb-true, le-leb}
-use Rattle.rules.specs.Limits.{firstView, lastView}
-use Rattle.rules.specs.Lists.{iff}
+use mathlib.Core.Option.{none, some}
+use lib.Dec.{leb}
+use borrow.Author.Tests.{leb-true, le-leb}
 use Rattle.rules.specs.Sizes.{Settings, leader}
-use Rattle.rules.specs.Messages.{Message, newView, propose, Fitting, allowed, viewAllowed, blockAllowed}
+use Rattle.rules.specs.Messages.{newView, propose, allowed, viewAllowed, blockAllowed}
 use Rattle.rules.specs.Words.{Statement, message, sameStatement, Tally, ownBlock, certificate, State}
-use Rattle.rules.specs.Inputs.{noted, isBlock}
+use Rattle.rules.specs.Inputs.{noted}
 use Rattle.rules.specs.WellFormed.{isName, statementGood, tallyGood, talliesThere}
 use Rattle.rules.proofs.Tests.{by-bool, by-option, no-bool}
 use Rattle.kept.specs.Said.{Sendable}
-use Rattle.kept.proofs.Truths.{and-2, and-4, eqb-sym, iff-sym}
-use Rattle.kept.proofs.Allowed.{Sizes, view-within, within-view, view-name, name-lt, lt-name, mask-parts, certificate-mask}
-use Rattle.kept.proofs.Sendable.{Named, named, sendable, newView-parts, propose-parts}
+use Rattle.kept.proofs.Truths.{and-4, eqb-sym, iff-sym}
+use Rattle.kept.proofs.Allowed.{Sizes, view-within, view-name, name-lt, lt-name, mask-parts, certificate-mask}
+use Rattle.kept.proofs.Sendable.{named, sendable, newView-parts, propose-parts}
 use Rattle.kept.proofs.Tallies.{Joinable, joinable, tally-made}
 
 pub record Stated (g : Settings) (x : Statement) : Type 0 where

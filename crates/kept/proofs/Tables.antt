@@ -1,14 +1,13 @@
 -- The rules that change the two tables keep a state formed: a certificate joined, a statement stored, a vote noted. Assumes nothing.
-use mathlib.Core.Path.{_≡_, refl, sym, ap, _∙_}
-use Prim.Native.Nat.{ℕ, zero, suc, _^_, _<_}
-use native.Mathlib.Omega.{arith}
+use mathlib.Core.Path.{_≡_, refl, _∙_}
+use Prim.Native.Nat.{ℕ, suc}
 use mathlib.Core.Bool.{Bool, true, false, _&&_, _||_}
-use mathlib.Core.Logic.{_⊎_, inl, inr}
+use mathlib.Core.Logic.{inl, inr}
 use mathlib.Core.List.{List, [], _∷_, _++_}
-use mathlib.Core.Option.{Option, none, some}
+use mathlib.Core.Option.{none}
 use lib.Dec.{eqb}
 use Rattle.rules.specs.Lists.{any, all, alter, distinct}
-use Rattle.rules.specs.Sizes.{Settings, only}
+use Rattle.rules.specs.Sizes.{only}
 use Rattle.rules.specs.Words.{Statement, message, sameStatement, Tally, ownBlock, certificate, sameBlock, join, joinCertificate, State}
 use Rattle.rules.specs.Inputs.{withTables, noted, votedFor, certificateJoined, stored, isBlock}
 use Rattle.rules.specs.WellFormed.{clocksInOrder, lockGood, statementGood, tallyGood, talliesThere, linked}
@@ -21,19 +20,22 @@ use Rattle.kept.proofs.Allowed.{sizes, none-lt, only-lt}
 use Rattle.kept.proofs.Tallies.{Joinable, block-self, join-good, join-any, join-there, join-distinct, certificate-good, certificate-any, certificate-there, certificate-distinct}
 use Rattle.kept.proofs.Statements.{stated, own-good, new-good, noted-good, same-sym, noted-left, noted-right, noted-there}
 
--- every logged block found before is found now
-pub linked-mono : (xs ys : List Statement)
-    → ((h b parent : ℕ) → any (λ x. isBlock h b x && eqb parent (x .link)) xs ≡ true → any (λ x. isBlock h b x && eqb parent (x .link)) ys ≡ true)
-    → (h parent : ℕ) (l : List ℕ) → linked xs h parent l ≡ true → linked ys h parent l ≡ true
+-- a block of that height and name above that parent
+abbrev pub isAbove : ℕ → ℕ → ℕ → Statement → Bool
+isAbove h b parent x = isBlock h b x && eqb parent (x .link)
+
+-- a log stays linked where every block found before is found now
+linked-mono : (xs ys : List Statement) → ((h b parent : ℕ) → any (isAbove h b parent) xs ≡ true → any (isAbove h b parent) ys ≡ true) → (h parent : ℕ)
+    (l : List ℕ) → linked xs h parent l ≡ true → linked ys h parent l ≡ true
 unfolding linked
 linked-mono xs ys f h parent [] e = refl
 linked-mono xs ys f h parent (b ∷ l) e =
-    let t = and-2 (any (λ x. isBlock (suc h) b x && eqb parent (x .link)) xs) (linked xs (suc h) b l) e in
+    let t = and-2 (any (isAbove (suc h) b parent) xs) (linked xs (suc h) b l) e in
     both (f (suc h) b parent (t .0)) (linked-mono xs ys f (suc h) b l (t .1))
 
-noted-block : (c h b parent : ℕ) (x : Statement) → (isBlock h b (noted c x) && eqb parent (noted c x .link)) ≡ (isBlock h b x && eqb parent (x .link))
+noted-above : (c h b parent : ℕ) (x : Statement) → isAbove h b parent (noted c x) ≡ isAbove h b parent x
 unfolding isBlock noted
-noted-block c h b parent x = refl
+noted-above c h b parent x = refl
 
 -- tallies that are there stay there
 there-mono : (ts us : List Tally) → ((t : Tally) → any (sameBlock t) ts ≡ true → any (sameBlock t) us ≡ true) → (x : Statement)
@@ -44,6 +46,10 @@ there-mono ts us f x e =
     let t = and-2 (any (sameBlock (ownBlock x 0)) ts) (o || any (sameBlock (certificate x)) ts) e in
     both (f (ownBlock x 0) (t .0))
     (elim (or-2 o (any (sameBlock (certificate x)) ts) (t .1)) [ inl p ↦ or-left (any (sameBlock (certificate x)) us) p | inr p ↦ or-right o (f (certificate x) p) ])
+
+opened-mono : (ts us : List Tally) → ((t : Tally) → any (sameBlock t) ts ≡ true → any (sameBlock t) us ≡ true) → (xs : List Statement)
+    → all (talliesThere ts) xs ≡ true → all (talliesThere us) xs ≡ true
+opened-mono ts us f xs h = all-weaken (talliesThere ts) (talliesThere us) (there-mono ts us f) xs h
 
 new-there : (x : Statement) (us : List Tally) → talliesThere (join (ownBlock x 0) (joinCertificate (certificate x) us)) x ≡ true
 unfolding talliesThere
@@ -78,7 +84,7 @@ module _ {s : State} (f : Formed s) where
       let ts = joinCertificate t (s .tallies) in
       tabled (s .statements) ts (f .statements) (f .statementsDiffer) (certificate-good t (s .tallies) (s .settings) j (f .tallies))
       (certificate-distinct t (s .tallies) (f .talliesDiffer))
-      (all-weaken (talliesThere (s .tallies)) (talliesThere ts) (there-mono (s .tallies) ts (certificate-any t (s .tallies))) (s .statements) (f .opened))
+      (opened-mono (s .tallies) ts (certificate-any t (s .tallies)) (s .statements) (f .opened))
       (f .log)
 
   module _ (x : Statement) (m : Sendable (s .settings) (message x)) where
@@ -91,17 +97,17 @@ module _ {s : State} (f : Formed s) where
       unfolding stored
       stored-formed =
           let us = joinCertificate (certificate x) (s .tallies) in
-          let ts = join (ownBlock x 0) us in
-          let k = stated (s .settings) x m .certified in
-          let keeps : (t : Tally) → any (sameBlock t) (s .tallies) ≡ true → any (sameBlock t) ts ≡ true =
-          λ t h. join-any (ownBlock x 0) t us (certificate-any (certificate x) (s .tallies) t h) in
-          tabled (s .statements ++ x ∷ []) ts
-          (all-last (statementGood s) (s .statements) x (f .statements) (new-good s x m v))
+          let own = ownBlock x 0 in
+          let ts = join own us in
+          let good = certificate-good (certificate x) (s .tallies) (s .settings) (stated (s .settings) x m .certified) (f .tallies) in
+          let still =
+          opened-mono (s .tallies) ts (λ t h. join-any own t us (certificate-any (certificate x) (s .tallies) t h)) (s .statements) (f .opened) in
+          tabled (s .statements ++ x ∷ []) ts (all-last (statementGood s) (s .statements) x (f .statements) (new-good s x m v))
           (distinct-append sameStatement same-sym (s .statements) x (f .statementsDiffer) n)
-          (join-good (ownBlock x 0) (s .settings) us (own-good (s .settings) x m 0 (none-lt (s .settings))) (certificate-good (certificate x) (s .tallies) (s .settings) k (f .tallies)))
-          (join-distinct (ownBlock x 0) us (certificate-distinct (certificate x) (s .tallies) (f .talliesDiffer)))
-          (all-last (talliesThere ts) (s .statements) x (all-weaken (talliesThere (s .tallies)) (talliesThere ts) (there-mono (s .tallies) ts keeps) (s .statements) (f .opened)) (new-there x (s .tallies)))
-          (linked-mono (s .statements) (s .statements ++ x ∷ []) (λ h b p. any-append (λ y. isBlock h b y && eqb p (y .link)) (s .statements) (x ∷ [])) 0 0 (s .log) (f .log))
+          (join-good own (s .settings) us (own-good (s .settings) x m 0 (none-lt (s .settings))) good)
+          (join-distinct own us (certificate-distinct (certificate x) (s .tallies) (f .talliesDiffer)))
+          (all-last (talliesThere ts) (s .statements) x still (new-there x (s .tallies)))
+          (linked-mono (s .statements) (s .statements ++ x ∷ []) (λ h b p. any-append (isAbove h b p) (s .statements) (x ∷ [])) 0 0 (s .log) (f .log))
 
     pub votedFor-formed : Formed (votedFor x s)
     unfolding votedFor
@@ -109,13 +115,13 @@ module _ {s : State} (f : Formed s) where
         let t = ownBlock x (only (s .settings .own)) in
         let ts = join t (s .tallies) in
         let c = s .clock in
-        let own = sizes (s .settings) (f .settings) .own in
-        tabled (alter (sameStatement x) (noted c) (s .statements)) ts
-        (all-alter (statementGood s) (sameStatement x) (noted c) (noted-good s) (s .statements) (f .statements))
+        let xs = alter (sameStatement x) (noted c) (s .statements) in
+        let own = only-lt (s .settings) (s .settings .own) (sizes (s .settings) (f .settings) .own) in
+        let still = opened-mono (s .tallies) ts (λ u. join-any t u (s .tallies)) (s .statements) (f .opened) in
+        tabled xs ts (all-alter (statementGood s) (sameStatement x) (noted c) (noted-good s) (s .statements) (f .statements))
         (distinct-alter sameStatement (sameStatement x) (noted c) (noted-left c) (noted-right c) (s .statements) ∙ f .statementsDiffer)
-        (join-good t (s .settings) (s .tallies) (own-good (s .settings) x m (only (s .settings .own)) (only-lt (s .settings) (s .settings .own) own)) (f .tallies))
+        (join-good t (s .settings) (s .tallies) (own-good (s .settings) x m (only (s .settings .own)) own) (f .tallies))
         (join-distinct t (s .tallies) (f .talliesDiffer))
-        (all-alter (talliesThere ts) (sameStatement x) (noted c) (λ y h. noted-there c ts y ∙ h) (s .statements)
-        (all-weaken (talliesThere (s .tallies)) (talliesThere ts) (there-mono (s .tallies) ts (λ u. join-any t u (s .tallies))) (s .statements) (f .opened)))
-        (linked-mono (s .statements) (alter (sameStatement x) (noted c) (s .statements))
-        (λ h b p e. any-alter (λ y. isBlock h b y && eqb p (y .link)) (sameStatement x) (noted c) (λ y. noted-block c h b p y) (s .statements) ∙ e) 0 0 (s .log) (f .log))
+        (all-alter (talliesThere ts) (sameStatement x) (noted c) (λ y h. noted-there c ts y ∙ h) (s .statements) still)
+        (linked-mono (s .statements) xs
+        (λ h b p e. any-alter (isAbove h b p) (sameStatement x) (noted c) (noted-above c h b p) (s .statements) ∙ e) 0 0 (s .log) (f .log))

@@ -1,17 +1,16 @@
 -- The table of tallies: joining keeps it good and distinct and loses no block; the highest certificate is a certificate. Assumes nothing.
-use mathlib.Core.Path.{_≡_, refl, sym, ap, _∙_}
-use mathlib.Core.Logic.{_⊎_, inl, inr}
-use Prim.Native.Nat.{ℕ, zero, suc, _+_, _^_, _≤_, _<_}
+use mathlib.Core.Path.{_≡_, refl, sym, _∙_}
+use mathlib.Core.Logic.{inl, inr}
+use Prim.Native.Nat.{ℕ, _^_, _≤_, _<_}
 use native.Mathlib.Omega.{arith}
-use mathlib.Core.Bool.{Bool, true, false, not, _&&_, _||_}
+use mathlib.Core.Bool.{true, false, not, _&&_}
 use mathlib.Core.List.{List, [], _∷_}
 use lib.Dec.{ltb, eqb, lit≤}
 use borrow.Author.Tests.{not-true, eqb-true, eqb-false, ltb-true, lt-ltb}
-use Rattle.rules.specs.Limits.{lastView}
 use Rattle.rules.specs.Lists.{any, all, distinct}
-use Rattle.rules.specs.Sizes.{Settings, joined, quorum}
-use Rattle.rules.specs.Messages.{viewAllowed, blockAllowed, maskAllowed, certificateAllowed}
-use Rattle.rules.specs.Words.{Tally, sameBlock, grown, join, joinCertificate, voters, certified, higher, genesis, highest, State}
+use Rattle.rules.specs.Sizes.{Settings}
+use Rattle.rules.specs.Messages.{viewAllowed, blockAllowed, certificateAllowed}
+use Rattle.rules.specs.Words.{Tally, sameBlock, grown, join, joinCertificate, voters, certified, higher, highest, State}
 use Rattle.rules.specs.WellFormed.{isName, isMask, lockGood, tallyGood}
 use Rattle.rules.proofs.Tests.{by-bool, no-bool, eqb-self}
 use Rattle.rules.proofs.Masks.{joined-lt}

@@ -1,28 +1,27 @@
 -- The largest tick: one that enters a view was waiting and says nothing before; one that was in a view doesn't enter. Assumes nothing.
 use mathlib.Core.Path.{_≡_, refl, sym, ap, _∙_}
 use mathlib.Core.Logic.{_⊎_, inl, inr}
-use Prim.Native.Nat.{ℕ, zero, suc, _+_, _-_, _*_, _≤_, _<_}
+use Prim.Native.Nat.{ℕ, suc, _+_, _-_, _*_, _≤_, _<_}
 use native.Mathlib.Omega.{arith}
-use mathlib.Core.Bool.{Bool, true, false, not, _&&_}
-use mathlib.Core.List.{List, [], _∷_, _++_, append-nil}
-use mathlib.Core.Option.{Option, none, some, map-eq-some-iff, Option·some-injective}
-use lib.Dec.{ltb, eqb, leb}
+use mathlib.Core.Bool.{true, false, _&&_}
+use mathlib.Core.List.{List, [], _∷_, append-nil}
+use mathlib.Core.Option.{none, some, map-eq-some-iff, Option·some-injective}
+use lib.Dec.{ltb}
 use lib.ListN.{length, drop, length-drop}
 use borrow.Author.Tests.{ne-eqb}
 use Rattle.rules.specs.Limits.{lastView, mostStatements, lastClock}
 use Rattle.rules.specs.Lists.{first, any, keep, sorted}
-use Rattle.rules.specs.Sizes.{leader, holds, only}
-use Rattle.rules.specs.Messages.{Message, newView, propose, vote, blame, blameSet, status}
-use Rattle.rules.specs.Words.{Statement, sameStatement, conflict, Tally, Phase, inView, waiting, stopped, State}
-use Rattle.rules.specs.Inputs.{Work, saying, _▸_, withPhase, withClock, withTables, withBlames, withLog, isIn, quit, belowLock, votedFor, voting, certificateJoined, stored, statement, tallied, blamesOf, blamed, blameFull, blaming, handled, isDue, due, commits, reports, logging, votes, overdue, complain, leads, leadsNow, ownNewView, lead, entersNow, enter, ticked}
+use Rattle.rules.specs.Sizes.{only}
+use Rattle.rules.specs.Words.{Statement, sameStatement, conflict, Phase, inView, waiting, stopped, State}
+use Rattle.rules.specs.Inputs.{Work, saying, _▸_, withPhase, withClock, withTables, withBlames, withLog, isIn, quit, belowLock, votedFor, voting, certificateJoined, stored, statement, blamed, blameFull, blaming, handled, isDue, due, commits, logging, overdue, complain, leads, leadsNow, ownNewView, lead, entersNow, enter, ticked}
 use Rattle.rules.specs.Refusals.{running}
 use Rattle.rules.proofs.Tests.{by-bool, by-option, no-bool}
-use Rattle.kept.specs.Parts.{Formed, WellFormed}
+use Rattle.kept.specs.Parts.{WellFormed}
 use Rattle.kept.proofs.Truths.{and-false}
 use Rattle.kept.proofs.Phases.{clock-formed}
 use Rattle.kept.proofs.Logs.{linked-length, proposes-length, commits-linked}
 use Rattle.kept.proofs.Reports.{due-stored}
-use Rattle.kept.proofs.Lengths.{bytes, bytes-none, reports-bytes}
+use Rattle.kept.proofs.Lengths.{bytes, reports-bytes}
 use Rattle.kept.proofs.Room.{then-bytes, complain-bytes, lead-bytes, enter-bytes}
 
 -- a rule that does nothing
@@ -98,7 +97,10 @@ lead-settled s h =
 no-entry : (s : State) → Settled s → enter s ≡ saying s []
 unfolding enter entersNow
 no-entry s (inl p) = let n : entersNow s ≡ false = rw (p, entersNow) in rw (n, enter)
-no-entry s (inr p) = let n : entersNow s ≡ false = rw (p, entersNow, ne-eqb (s .clock) (s .clock + s .settings .D + 1) (λ e. omega arith)) (and-false (ltb (s .view) lastView)) in rw (n, enter)
+no-entry s (inr p) =
+    let d = ne-eqb (s .clock) (s .clock + s .settings .D + 1) (λ e. omega arith) in
+    let n : entersNow s ≡ false = rw (p, entersNow, d) (and-false (ltb (s .view) lastView)) in
+    rw (n, enter)
 
 -- ---- the whole tick
 
@@ -156,6 +158,6 @@ ticked-bytes {s} {w} f r c e =
         → bytes ((logging l (withClock (s .clock + 1) s) ▸ complain ▸ lead ▸ enter) .out) ≤ largestTick
     go inView p l d h m = let a = in-bytes l (withClock (s .clock + 1) s) p h in omega arith
     go (waiting q) p l d h m =
-        waited-bytes l (withClock (s .clock + 1) s) q p
-        (sym (Option·some-injective (s .log) l (ap (λ (ds : List Statement). commits (s .statements) ds (s .log)) (sym (nothing-due (withClock (s .clock + 1) s) q p)) ∙ d))) m
+        let none-due = ap (λ (ds : List Statement). commits (s .statements) ds (s .log)) (sym (nothing-due (withClock (s .clock + 1) s) q p)) in
+        waited-bytes l (withClock (s .clock + 1) s) q p (sym (Option·some-injective (s .log) l (none-due ∙ d))) m
     go (stopped x) p l d h m = no-bool (sym (rw (p, running) at r))

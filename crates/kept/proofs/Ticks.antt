@@ -1,19 +1,19 @@
 -- The rules of a tick keep what a rule keeps: commit, blame, the leader's new-view, entering a view. Assumes nothing.
-use mathlib.Core.Path.{_≡_, refl, sym, ap, _∙_}
-use Prim.Native.Nat.{ℕ, zero, suc, _+_, _*_, _^_, _≤_, _<_}
+use mathlib.Core.Path.{_≡_, refl, sym, _∙_}
+use Prim.Native.Nat.{ℕ, suc, _+_, _*_, _<_}
 use native.Mathlib.Omega.{arith}
-use mathlib.Core.Bool.{Bool, true, false, _&&_}
+use mathlib.Core.Bool.{true, false}
 use mathlib.Core.List.{List, [], _∷_, List·Memᴰ as Mem, List·Memᴰ·head as here, List·Memᴰ·tail as there}
-use mathlib.Core.Option.{Option, none, some, map-eq-some-iff, Option·some-injective}
+use mathlib.Core.Option.{some, map-eq-some-iff, Option·some-injective}
 use lib.Dec.{ltb, eqb}
-use lib.ListN.{length, drop}
+use lib.ListN.{length}
 use borrow.Author.Tests.{eqb-true, eq-eqb, ltb-true, lt-ltb}
-use Rattle.rules.specs.Limits.{firstView, lastView, lastClock}
-use Rattle.rules.specs.Lists.{first, sorted, keep}
+use Rattle.rules.specs.Limits.{lastView, lastClock}
+use Rattle.rules.specs.Lists.{first}
 use Rattle.rules.specs.Sizes.{Settings, leader, only}
-use Rattle.rules.specs.Messages.{Message, newView, blame, blameSet, status, allowed, Effect, toAll, toOne}
-use Rattle.rules.specs.Words.{Statement, message, conflict, Tally, highest, Phase, inView, waiting, stopped, State}
-use Rattle.rules.specs.Inputs.{Work, saying, _▸_, withClock, withLog, quit, isIn, voting, blamesOf, blameFull, blaming, handled, leads, due, commits, reports, logging, overdue, complain, leadsNow, ownNewView, lead, entersNow, nextLock, report, entering, entered, current, pair, inOrder, votingAll, arrive, enter, ticked}
+use Rattle.rules.specs.Messages.{newView, blame, blameSet, status, allowed, toAll}
+use Rattle.rules.specs.Words.{Statement, message, conflict, highest, Phase, inView, waiting, stopped, State}
+use Rattle.rules.specs.Inputs.{Work, saying, _▸_, withClock, withLog, isIn, blamesOf, blameFull, leads, due, commits, logging, overdue, complain, leadsNow, ownNewView, lead, entersNow, nextLock, report, entering, entered, current, pair, inOrder, votingAll, arrive, enter, ticked}
 use Rattle.rules.specs.WellFormed.{statementGood, linked}
 use Rattle.rules.proofs.Tests.{by-bool, by-option, no-bool, no-some}
 use Rattle.kept.specs.Parts.{Formed}

@@ -1,11 +1,11 @@
 -- Tests that hold together, taken apart and put together; equality of numbers tested either way round. Assumes nothing.
 use mathlib.Core.Path.{_≡_, refl, sym, _∙_}
 use Prim.Native.Nat.{ℕ}
-use mathlib.Core.Bool.{Bool, true, false, not, _&&_, _||_}
+use mathlib.Core.Bool.{Bool, true, false, _&&_, _||_}
 use mathlib.Core.Logic.{_⊎_, inl, inr}
 use lib.Dec.{eqb}
 use Rattle.rules.specs.Lists.{iff}
-use Rattle.rules.proofs.Tests.{by-bool, no-bool, eqb-eq, eqb-self}
+use Rattle.rules.proofs.Tests.{by-bool, no-bool, eqb-eq}
 
 pub and-2 : (a b : Bool) → (a && b) ≡ true → (a ≡ true) × (b ≡ true)
 and-2 true b e = (refl, e)
@@ -51,8 +51,3 @@ iff-sym true true = refl
 iff-sym true false = refl
 iff-sym false true = refl
 iff-sym false false = refl
-
-pub iff-self : (a : Bool) → iff a a ≡ true
-unfolding iff
-iff-self true = refl
-iff-self false = refl

@@ -1,12 +1,12 @@
 -- The test wellFormed and the record of its parts say the same; a fresh state is well formed. Assumes nothing.
 use mathlib.Core.Path.{_≡_, refl}
-use Prim.Native.Nat.{ℕ, zero, suc, _≤_, _<_, _^_}
+use Prim.Native.Nat.{ℕ, zero, suc, _^_}
 use native.Mathlib.Omega.{arith}
 use native.Mathlib.Nat.{one-le-pow}
-use mathlib.Core.Bool.{Bool, true, false, _&&_}
+use mathlib.Core.Bool.{Bool, true, _&&_}
 use mathlib.Core.List.{List, [], _∷_}
-use lib.Dec.{leb, ltb}
-use lib.ListN.{length, replicate, length-replicate}
+use lib.Dec.{leb}
+use lib.ListN.{length, replicate}
 use borrow.Author.Tests.{lt-ltb}
 use Rattle.rules.specs.Limits.{mostStatements, mostTallies, lastView}
 use Rattle.rules.specs.Lists.{all, distinct}
@@ -15,7 +15,7 @@ use Rattle.rules.specs.Messages.{viewAllowed}
 use Rattle.rules.specs.Words.{sameStatement, sameBlock, State, fresh}
 use Rattle.rules.specs.WellFormed.{isMask, clocksInOrder, lockGood, statementGood, tallyGood, talliesThere, blamesGood, linked, wellFormed}
 use Rattle.rules.proofs.Tests.{leb-le, le-leb}
-use Rattle.kept.specs.Parts.{Formed, WellFormed}
+use Rattle.kept.specs.Parts.{WellFormed}
 use Rattle.kept.specs.Said.{Each}
 use Rattle.kept.proofs.Truths.{and-2, both}
 
@@ -62,7 +62,9 @@ pub whole : {s : State} → WellFormed s → wellFormed s ≡ true
 unfolding wellFormed
 whole {s} w =
     let f = w .formed in
-    simp (f .settings, f .view, f .clocks, f .lock, le-leb _ _ (w .fewStatements), le-leb _ _ (w .fewTallies), f .statements, f .statementsDiffer, f .tallies, f .talliesDiffer, f .opened, f .blames, f .log)
+    let n = le-leb (length (s .statements)) mostStatements (w .fewStatements) in
+    let m = le-leb (length (s .tallies)) mostTallies (w .fewTallies) in
+    simp (f .settings, f .view, f .clocks, f .lock, n, m, f .statements, f .statementsDiffer, f .tallies, f .talliesDiffer, f .opened, f .blames, f .log)
 
 -- ---- a fresh state
 
