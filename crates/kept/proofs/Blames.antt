@@ -63,11 +63,6 @@ module _ {s : State} (f : Formed s) (v : ℕ) where
         view = f .view;
         clocks = f .clocks;
         lock = f .lock;
-        statements = f .statements;
-        statementsDiffer = f .statementsDiffer;
-        tallies = f .tallies;
-        talliesDiffer = f .talliesDiffer;
-        opened = f .opened;
+        tables = f .tables;
         blames = blames-set (s .settings) (s .blames) v (joined (blamesOf v s) m) (w .0) (joined-lt (s .settings .n) (blamesOf v s) m blamesOf-mask h) (f .blames);
-        log = f .log;
       }

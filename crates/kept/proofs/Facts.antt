@@ -50,13 +50,13 @@ module _ {s : State} (f : Formed s) where
         (v .0, v .1, height-le (x .height) (x .name) (d .block), rw (d .author) a, mask-small sizes-of (d .mask))
 
     pub vote-clock : (c : ℕ) → x .voted ≡ some c → c ≤ s .clock
-    vote-clock c v = voted-le s x c (all-mem (statementGood s) (f .statements) m) v
+    vote-clock c v = voted-le s x c (all-mem (statementGood s) (f .tables .statements) m) v
 
   -- ---- a tally
 
   module _ (t : Tally) (m : Mem t (s .tallies)) where
     pub tally-of : TallyGood (s .settings) t
-    tally-of = tally-parts (s .settings) t (all-mem (tallyGood (s .settings)) (f .tallies) m)
+    tally-of = tally-parts (s .settings) t (all-mem (tallyGood (s .settings)) (f .tables .tallies) m)
 
     pub tally-limits : (firstView ≤ t .view) × (t .view ≤ lastView) × (t .height ≤ lastHeight) × (t .mask < 2 ^ mostStations)
     tally-limits =
@@ -90,7 +90,7 @@ chainTo-length xs (suc h) b above l e =
 module _ {s : State} (w : WellFormed s) where
   pub log-length : length (s .log) ≤ mostStatements
   log-length =
-      let h = linked-length (s .statements) (s .log) (w .formed .log) in
+      let h = linked-length (s .statements) (s .log) (w .formed .tables .log) in
       let k = proposes-length (s .statements) in
       let l = w .fewStatements in
       omega arith

@@ -78,7 +78,7 @@ module _ {s : State} (f : Formed s) (x : Statement) (m : Sendable (s .settings) 
       (λ i.
       by-option (first (conflict x) (s .statements)) (λ o. rw (q, i, o, statement) (onward s refl (voting-keeps t x m)))
       (λ y o.
-      let g = all-mem (statementGood s) (f .statements) (first-mem (conflict x) (s .statements) o .0) in
+      let g = all-mem (statementGood s) (f .tables .statements) (first-mem (conflict x) (s .statements) o .0) in
       rw (q, i, o, statement)
       (onward s refl (quit-keeps t (toAll (message y) ∷ toAll (message x) ∷ []) (stored-sendable s y (sizes (s .settings) (f .settings)) g, (m, tt))))))
       (λ i. rw (q, i, statement) (record { settings = refl; formed = t; said = tt })))

@@ -109,7 +109,7 @@ module _ (xs : List Statement) where
 
 module _ {s : State} (f : Formed s) where
   pub stored-stated : (x : Statement) → Mem x (s .statements) → Stated (s .settings) x
-  stored-stated x m = stated (s .settings) x (stored-sendable s x (sizes (s .settings) (f .settings)) (all-mem (statementGood s) (f .statements) m))
+  stored-stated x m = stated (s .settings) x (stored-sendable s x (sizes (s .settings) (f .settings)) (all-mem (statementGood s) (f .tables .statements) m))
 
   chainTo-linked : (h b : ℕ) (above l : List ℕ) → blockAllowed h b ≡ true → linked (s .statements) h b above ≡ true
       → chainTo (s .statements) h b above ≡ some l → linked (s .statements) 0 0 l ≡ true

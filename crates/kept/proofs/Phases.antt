@@ -56,13 +56,8 @@ module _ {s : State} (f : Formed s) where
         view = f .view;
         clocks = clocks-made (withPhase p s) k;
         lock = f .lock;
-        statements = f .statements;
-        statementsDiffer = f .statementsDiffer;
-        tallies = f .tallies;
-        talliesDiffer = f .talliesDiffer;
-        opened = f .opened;
+        tables = f .tables;
         blames = f .blames;
-        log = f .log;
       }
 
   -- a station quits at its clock
@@ -89,13 +84,16 @@ module _ {s : State} (f : Formed s) where
         view = f .view;
         clocks = clocks-made t (record { entered = omega arith; last = omega arith; waited = λ q e. let w = k .waited q e in omega arith });
         lock = f .lock;
-        statements = all-weaken (statementGood s) (statementGood t) (λ x. later-good s t x refl (omega arith)) (s .statements) (f .statements);
-        statementsDiffer = f .statementsDiffer;
-        tallies = f .tallies;
-        talliesDiffer = f .talliesDiffer;
-        opened = f .opened;
+        tables =
+            record {
+              statements = all-weaken (statementGood s) (statementGood t) (λ x. later-good s t x refl (omega arith)) (s .statements) (f .tables .statements);
+              statementsDiffer = f .tables .statementsDiffer;
+              tallies = f .tables .tallies;
+              talliesDiffer = f .tables .talliesDiffer;
+              opened = f .tables .opened;
+              log = f .tables .log;
+            };
         blames = f .blames;
-        log = f .log;
       }
 
   -- a view is entered with a lock on a certificate of an earlier one
@@ -109,11 +107,6 @@ module _ {s : State} (f : Formed s) where
         view = within-view v l m;
         clocks = clocks-made u (record { entered = omega arith; last = k .last; waited = λ q e. let z : _≡_ {A = ℕ} 0 1 = cc in absurd (omega arith) });
         lock = lock-made u c;
-        statements = f .statements;
-        statementsDiffer = f .statementsDiffer;
-        tallies = f .tallies;
-        talliesDiffer = f .talliesDiffer;
-        opened = f .opened;
+        tables = f .tables;
         blames = f .blames;
-        log = f .log;
       }

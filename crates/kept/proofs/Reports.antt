@@ -62,11 +62,14 @@ module _ {s : State} (f : Formed s) where
         view = f .view;
         clocks = f .clocks;
         lock = f .lock;
-        statements = f .statements;
-        statementsDiffer = f .statementsDiffer;
-        tallies = f .tallies;
-        talliesDiffer = f .talliesDiffer;
-        opened = f .opened;
+        tables =
+            record {
+              statements = f .tables .statements;
+              statementsDiffer = f .tables .statementsDiffer;
+              tallies = f .tables .tallies;
+              talliesDiffer = f .tables .talliesDiffer;
+              opened = f .tables .opened;
+              log = e;
+            };
         blames = f .blames;
-        log = e;
       }

@@ -6,13 +6,13 @@ use mathlib.Core.Logic.{inl, inr}
 use mathlib.Core.List.{List, [], _∷_, _++_}
 use mathlib.Core.Option.{none}
 use lib.Dec.{eqb}
-use Rattle.rules.specs.Lists.{any, all, alter, distinct}
+use Rattle.rules.specs.Lists.{any, all, alter}
 use Rattle.rules.specs.Sizes.{only}
 use Rattle.rules.specs.Words.{Statement, message, sameStatement, Tally, ownBlock, certificate, sameBlock, join, joinCertificate, State}
 use Rattle.rules.specs.Inputs.{withTables, noted, votedFor, certificateJoined, stored, isBlock}
-use Rattle.rules.specs.WellFormed.{clocksInOrder, lockGood, statementGood, tallyGood, talliesThere, linked}
+use Rattle.rules.specs.WellFormed.{clocksInOrder, lockGood, statementGood, talliesThere, linked}
 use Rattle.rules.proofs.Tests.{by-bool}
-use Rattle.kept.specs.Parts.{Formed}
+use Rattle.kept.specs.Parts.{Tables, Formed}
 use Rattle.kept.specs.Said.{Sendable}
 use Rattle.kept.proofs.Truths.{and-2, both, or-2, or-left, or-right}
 use Rattle.kept.proofs.Lists.{all-last, all-weaken, all-alter, any-append, any-alter, distinct-append, distinct-alter}
@@ -60,32 +60,23 @@ new-there x us =
     (λ q. or-right (eqb (certificate x .view) 0) (join-any (ownBlock x 0) (certificate x) ts (certificate-there (certificate x) us q))))
 
 module _ {s : State} (f : Formed s) where
-  tabled : (xs : List Statement) (ts : List Tally) → all (statementGood s) xs ≡ true → distinct sameStatement xs ≡ true
-      → all (tallyGood (s .settings)) ts ≡ true → distinct sameBlock ts ≡ true → all (talliesThere ts) xs ≡ true → linked xs 0 0 (s .log) ≡ true
-      → Formed (withTables xs ts s)
+  tabled : (xs : List Statement) (ts : List Tally) → Tables (statementGood s) (s .settings) xs ts (s .log) → Formed (withTables xs ts s)
   unfolding withTables clocksInOrder lockGood statementGood
-  tabled xs ts a b c d e l =
-      record {
-        settings = f .settings;
-        view = f .view;
-        clocks = f .clocks;
-        lock = f .lock;
-        statements = a;
-        statementsDiffer = b;
-        tallies = c;
-        talliesDiffer = d;
-        opened = e;
-        blames = f .blames;
-        log = l;
-      }
+  tabled xs ts t = record { settings = f .settings; view = f .view; clocks = f .clocks; lock = f .lock; tables = t; blames = f .blames }
 
   pub tallied-formed : (t : Tally) → Joinable (s .settings) t → Formed (withTables (s .statements) (joinCertificate t (s .tallies)) s)
   tallied-formed t j =
+      let old = f .tables in
       let ts = joinCertificate t (s .tallies) in
-      tabled (s .statements) ts (f .statements) (f .statementsDiffer) (certificate-good t (s .tallies) (s .settings) j (f .tallies))
-      (certificate-distinct t (s .tallies) (f .talliesDiffer))
-      (opened-mono (s .tallies) ts (certificate-any t (s .tallies)) (s .statements) (f .opened))
-      (f .log)
+      tabled (s .statements) ts
+      (record {
+        statements = old .statements;
+        statementsDiffer = old .statementsDiffer;
+        tallies = certificate-good t (s .tallies) (s .settings) j (old .tallies);
+        talliesDiffer = certificate-distinct t (s .tallies) (old .talliesDiffer);
+        opened = opened-mono (s .tallies) ts (certificate-any t (s .tallies)) (s .statements) (old .opened);
+        log = old .log;
+      })
 
   module _ (x : Statement) (m : Sendable (s .settings) (message x)) where
     pub certificateJoined-formed : Formed (certificateJoined x s)
@@ -96,32 +87,43 @@ module _ {s : State} (f : Formed s) where
       pub stored-formed : Formed (stored x s)
       unfolding stored
       stored-formed =
+          let old = f .tables in
           let us = joinCertificate (certificate x) (s .tallies) in
           let own = ownBlock x 0 in
           let ts = join own us in
-          let good = certificate-good (certificate x) (s .tallies) (s .settings) (stated (s .settings) x m .certified) (f .tallies) in
+          let xs = s .statements ++ x ∷ [] in
+          let good = certificate-good (certificate x) (s .tallies) (s .settings) (stated (s .settings) x m .certified) (old .tallies) in
           let still =
-          opened-mono (s .tallies) ts (λ t h. join-any own t us (certificate-any (certificate x) (s .tallies) t h)) (s .statements) (f .opened) in
-          tabled (s .statements ++ x ∷ []) ts (all-last (statementGood s) (s .statements) x (f .statements) (new-good s x m v))
-          (distinct-append sameStatement same-sym (s .statements) x (f .statementsDiffer) n)
-          (join-good own (s .settings) us (own-good (s .settings) x m 0 (none-lt (s .settings))) good)
-          (join-distinct own us (certificate-distinct (certificate x) (s .tallies) (f .talliesDiffer)))
-          (all-last (talliesThere ts) (s .statements) x still (new-there x (s .tallies)))
-          (linked-mono (s .statements) (s .statements ++ x ∷ []) (λ h b p. any-append (isAbove h b p) (s .statements) (x ∷ [])) 0 0 (s .log) (f .log))
+          opened-mono (s .tallies) ts (λ t h. join-any own t us (certificate-any (certificate x) (s .tallies) t h)) (s .statements) (old .opened) in
+          tabled xs ts
+          (record {
+            statements = all-last (statementGood s) (s .statements) x (old .statements) (new-good s x m v);
+            statementsDiffer = distinct-append sameStatement same-sym (s .statements) x (old .statementsDiffer) n;
+            tallies = join-good own (s .settings) us (own-good (s .settings) x m 0 (none-lt (s .settings))) good;
+            talliesDiffer = join-distinct own us (certificate-distinct (certificate x) (s .tallies) (old .talliesDiffer));
+            opened = all-last (talliesThere ts) (s .statements) x still (new-there x (s .tallies));
+            log = linked-mono (s .statements) xs (λ h b p. any-append (isAbove h b p) (s .statements) (x ∷ [])) 0 0 (s .log) (old .log);
+          })
 
     pub votedFor-formed : Formed (votedFor x s)
     unfolding votedFor
     votedFor-formed =
+        let old = f .tables in
         let t = ownBlock x (only (s .settings .own)) in
         let ts = join t (s .tallies) in
         let c = s .clock in
-        let xs = alter (sameStatement x) (noted c) (s .statements) in
+        let same = sameStatement x in
+        let xs = alter same (noted c) (s .statements) in
         let own = only-lt (s .settings) (s .settings .own) (sizes (s .settings) (f .settings) .own) in
-        let still = opened-mono (s .tallies) ts (λ u. join-any t u (s .tallies)) (s .statements) (f .opened) in
-        tabled xs ts (all-alter (statementGood s) (sameStatement x) (noted c) (noted-good s) (s .statements) (f .statements))
-        (distinct-alter sameStatement (sameStatement x) (noted c) (noted-left c) (noted-right c) (s .statements) ∙ f .statementsDiffer)
-        (join-good t (s .settings) (s .tallies) (own-good (s .settings) x m (only (s .settings .own)) own) (f .tallies))
-        (join-distinct t (s .tallies) (f .talliesDiffer))
-        (all-alter (talliesThere ts) (sameStatement x) (noted c) (λ y h. noted-there c ts y ∙ h) (s .statements) still)
-        (linked-mono (s .statements) xs
-        (λ h b p e. any-alter (isAbove h b p) (sameStatement x) (noted c) (noted-above c h b p) (s .statements) ∙ e) 0 0 (s .log) (f .log))
+        let still = opened-mono (s .tallies) ts (λ u. join-any t u (s .tallies)) (s .statements) (old .opened) in
+        tabled xs ts
+        (record {
+          statements = all-alter (statementGood s) same (noted c) (noted-good s) (s .statements) (old .statements);
+          statementsDiffer = distinct-alter sameStatement same (noted c) (noted-left c) (noted-right c) (s .statements) ∙ old .statementsDiffer;
+          tallies = join-good t (s .settings) (s .tallies) (own-good (s .settings) x m (only (s .settings .own)) own) (old .tallies);
+          talliesDiffer = join-distinct t (s .tallies) (old .talliesDiffer);
+          opened = all-alter (talliesThere ts) same (noted c) (λ y h. noted-there c ts y ∙ h) (s .statements) still;
+          log =
+              linked-mono (s .statements) xs (λ h b p e. any-alter (isAbove h b p) same (noted c) (noted-above c h b p) (s .statements) ∙ e) 0 0 (s .log)
+              (old .log);
+        })

@@ -148,7 +148,7 @@ ticked-bytes {s} {w} f r c e =
     let now = withClock (s .clock + 1) s in
     let k = clock-formed (f .formed) c in
     let (l, d, i) = map-eq-some-iff (λ l. logging l now ▸ complain ▸ lead ▸ enter) (commits (now .statements) (due now) (now .log)) .0 e in
-    let h = linked-length (now .statements) l (commits-linked k (due now) (now .log) l (due-stored now) d (k .log)) in
+    let h = linked-length (now .statements) l (commits-linked k (due now) (now .log) l (due-stored now) d (k .tables .log)) in
     let j = proposes-length (now .statements) in
     let m = f .fewStatements in
     rw (← i) (go (s .phase) refl l d (omega arith) m)

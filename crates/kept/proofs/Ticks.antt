@@ -68,7 +68,7 @@ module _ {s : State} (f : Formed s) where
   unfolding ownNewView allowed
   ownNewView-sendable e =
       let t = highest (s .settings) (s .view) (s .tallies) in
-      let c = highest-good (s .settings) (s .view) (s .tallies) (view-within (s .view) (f .view) .0) (f .tallies) in
+      let c = highest-good (s .settings) (s .view) (s .tallies) (view-within (s .view) (f .view) .0) (f .tables .tallies) in
       let o = eq-eqb (s .settings .own) (leader (s .settings) (s .view)) (leads-own s e) in
       sendable (newView (s .view) (t .height) (t .name) (t .view) (t .mask) (s .settings .own)) (sizes (s .settings) (f .settings))
       (both (both (both (both (f .view) (c .block)) (lt-ltb (t .view) (s .view) (c .earlier))) (c .isAllowed)) o) (c .name)
@@ -97,7 +97,7 @@ enters-below s e = go (s .phase) refl
 module _ {s : State} (f : Formed s) where
   nextLock-good : Certificate (s .settings) (s .view + 1) (nextLock s)
   unfolding nextLock
-  nextLock-good = highest-good (s .settings) (s .view + 1) (s .tallies) (omega arith) (f .tallies)
+  nextLock-good = highest-good (s .settings) (s .view + 1) (s .tallies) (omega arith) (f .tables .tallies)
 
   report-said : Each (Sayable (s .settings)) (report s)
   unfolding report allowed
@@ -116,7 +116,7 @@ module _ {s : State} (f : Formed s) where
       record { settings = refl; formed = entering-formed f (s .view + 1) (nextLock s) (omega arith) (omega arith) nextLock-good; said = report-said }
 
   stored-said : (x : Statement) → Mem x (s .statements) → Sendable (s .settings) (message x)
-  stored-said x m = stored-sendable s x (sizes (s .settings) (f .settings)) (all-mem (statementGood s) (f .statements) m)
+  stored-said x m = stored-sendable s x (sizes (s .settings) (f .settings)) (all-mem (statementGood s) (f .tables .statements) m)
 
 pair-mem : (xs : List Statement) (p : Statement × Statement) → pair xs ≡ some p → Mem (p .0) xs × Mem (p .1) xs
 unfolding pair
@@ -173,7 +173,7 @@ ticked-keeps {s} {w} f l e =
     let now = withClock (s .clock + 1) s in
     let k = clock-formed f l in
     let (j, c, i) = map-eq-some-iff (λ l. logging l now ▸ complain ▸ lead ▸ enter) (commits (now .statements) (due now) (now .log)) .0 e in
-    let a = logging-keeps k j (commits-linked k (due now) (now .log) j (due-stored now) c (k .log)) in
+    let a = logging-keeps k j (commits-linked k (due now) (now .log) j (due-stored now) c (k .tables .log)) in
     let b = then-keeps complain a (λ t _ k. complain-keeps k) in
     let d = then-keeps lead b (λ t _ k. lead-keeps k) in
     rw (← i) (onward s refl (then-keeps enter d (λ t _ k. enter-keeps k)))

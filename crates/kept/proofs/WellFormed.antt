@@ -38,7 +38,7 @@ parts s e =
     ∷ leb (length (s .tallies)) mostTallies ∷ all (statementGood s) (s .statements) ∷ distinct sameStatement (s .statements)
     ∷ all (tallyGood (s .settings)) (s .tallies) ∷ distinct sameBlock (s .tallies) ∷ all (talliesThere (s .tallies)) (s .statements)
     ∷ blamesGood (s .settings) (s .blames) ∷ linked (s .statements) 0 0 (s .log) ∷ []) e in
-    let tables = h .1 .1 .1 .1 .1 .1 in
+    let rest = h .1 .1 .1 .1 .1 .1 in
     record {
       formed =
           record {
@@ -46,13 +46,16 @@ parts s e =
             view = h .1 .0;
             clocks = h .1 .1 .0;
             lock = h .1 .1 .1 .0;
-            statements = tables .0;
-            statementsDiffer = tables .1 .0;
-            tallies = tables .1 .1 .0;
-            talliesDiffer = tables .1 .1 .1 .0;
-            opened = tables .1 .1 .1 .1 .0;
-            blames = tables .1 .1 .1 .1 .1 .0;
-            log = tables .1 .1 .1 .1 .1 .1 .0;
+            tables =
+                record {
+                  statements = rest .0;
+                  statementsDiffer = rest .1 .0;
+                  tallies = rest .1 .1 .0;
+                  talliesDiffer = rest .1 .1 .1 .0;
+                  opened = rest .1 .1 .1 .1 .0;
+                  log = rest .1 .1 .1 .1 .1 .1 .0;
+                };
+            blames = rest .1 .1 .1 .1 .1 .0;
           };
       fewStatements = leb-le _ _ (h .1 .1 .1 .1 .0);
       fewTallies = leb-le _ _ (h .1 .1 .1 .1 .1 .0);
@@ -62,9 +65,10 @@ pub whole : {s : State} → WellFormed s → wellFormed s ≡ true
 unfolding wellFormed
 whole {s} w =
     let f = w .formed in
+    let t = f .tables in
     let n = le-leb (length (s .statements)) mostStatements (w .fewStatements) in
     let m = le-leb (length (s .tallies)) mostTallies (w .fewTallies) in
-    simp (f .settings, f .view, f .clocks, f .lock, n, m, f .statements, f .statementsDiffer, f .tallies, f .talliesDiffer, f .opened, f .blames, f .log)
+    simp (f .settings, f .view, f .clocks, f .lock, n, m, t .statements, t .statementsDiffer, t .tallies, t .talliesDiffer, t .opened, f .blames, t .log)
 
 -- ---- a fresh state
 
@@ -83,13 +87,9 @@ fresh-formed g h =
             view = refl;
             clocks = refl;
             lock = refl;
-            statements = refl;
-            statementsDiffer = refl;
-            tallies = refl;
-            talliesDiffer = refl;
-            opened = refl;
+            tables =
+                record { statements = refl; statementsDiffer = refl; tallies = refl; talliesDiffer = refl; opened = refl; log = refl };
             blames = zeros g lastView;
-            log = refl;
           };
       fewStatements = omega arith;
       fewTallies = omega arith;

@@ -1,14 +1,29 @@
 -- A well-formed state by its parts, numbered as in the rules' WellFormed. Assumes nothing.
-use Prim.Native.Nat.{_≤_}
+use Prim.Native.Nat.{ℕ, _≤_}
 use mathlib.Core.Path.{_≡_}
-use mathlib.Core.Bool.{true}
+use mathlib.Core.Bool.{Bool, true}
+use mathlib.Core.List.{List}
 use lib.ListN.{length}
 use Rattle.rules.specs.Limits.{mostStatements, mostTallies}
 use Rattle.rules.specs.Lists.{all, distinct}
-use Rattle.rules.specs.Sizes.{goodSettings}
+use Rattle.rules.specs.Sizes.{Settings, goodSettings}
 use Rattle.rules.specs.Messages.{viewAllowed}
-use Rattle.rules.specs.Words.{sameStatement, sameBlock, State}
+use Rattle.rules.specs.Words.{Statement, sameStatement, Tally, sameBlock, State}
 use Rattle.rules.specs.WellFormed.{clocksInOrder, lockGood, statementGood, tallyGood, talliesThere, blamesGood, linked}
+
+-- (6) to (9) and (11): the two tables, and the log that rests on them; when a statement is good, the clock and the settings say
+pub record Tables (good : Statement → Bool) (g : Settings) (xs : List Statement) (ts : List Tally) (l : List ℕ) : Type 0 where
+  -- (6)
+  pub statements : all good xs ≡ true
+  -- (7)
+  pub statementsDiffer : distinct sameStatement xs ≡ true
+  -- (8)
+  pub tallies : all (tallyGood g) ts ≡ true
+  pub talliesDiffer : distinct sameBlock ts ≡ true
+  -- (9)
+  pub opened : all (talliesThere ts) xs ≡ true
+  -- (11)
+  pub log : linked xs 0 0 l ≡ true
 
 -- all parts but (5): what every rule keeps on unbounded tables
 pub record Formed (s : State) : Type 0 where
@@ -20,19 +35,9 @@ pub record Formed (s : State) : Type 0 where
   pub clocks : clocksInOrder s ≡ true
   -- (4)
   pub lock : lockGood s ≡ true
-  -- (6)
-  pub statements : all (statementGood s) (s .statements) ≡ true
-  -- (7)
-  pub statementsDiffer : distinct sameStatement (s .statements) ≡ true
-  -- (8)
-  pub tallies : all (tallyGood (s .settings)) (s .tallies) ≡ true
-  pub talliesDiffer : distinct sameBlock (s .tallies) ≡ true
-  -- (9)
-  pub opened : all (talliesThere (s .tallies)) (s .statements) ≡ true
+  pub tables : Tables (statementGood s) (s .settings) (s .statements) (s .tallies) (s .log)
   -- (10)
   pub blames : blamesGood (s .settings) (s .blames) ≡ true
-  -- (11)
-  pub log : linked (s .statements) 0 0 (s .log) ≡ true
 
 pub record WellFormed (s : State) : Type 0 where
   pub formed : Formed s
