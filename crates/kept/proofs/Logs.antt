@@ -1,9 +1,10 @@
 -- The log: a commit leaves it linked, every logged block is stored, and it is no longer than the proposes that are stored. Assumes nothing.
-use mathlib.Core.Path.{_≡_, refl}
+use mathlib.Core.Path.{_≡_, refl, sym, ap, ap₂, _∙_}
+use mathlib.Core.Logic.{_⊎_, inl, inr}
 use Prim.Native.Nat.{ℕ, zero, suc, _+_, _-_, _≤_, _<_}
 use native.Mathlib.Omega.{arith}
 use mathlib.Core.Bool.{Bool, true, false, not, _&&_}
-use mathlib.Core.List.{List, [], _∷_, List·Memᴰ as Mem}
+use mathlib.Core.List.{List, [], _∷_, _++_, append-nil, append-assoc, List·Memᴰ as Mem}
 use mathlib.Core.Option.{some, Option·some-injective, map-eq-some-iff}
 use lib.Dec.{leb, eqb}
 use lib.ListN.{length}
@@ -88,22 +89,51 @@ module _ (xs : List Statement) where
   pub proposes-length : length (proposes xs) ≤ length xs
   proposes-length = keep-length (λ x. not (x .isNewView)) xs
 
--- ---- joining two that are linked
+-- ---- a chain joins the log
+
+-- the longer of both is one of the two
+merge-either : (bs l k : List ℕ) → merge bs l ≡ some k → (k ≡ bs) ⊎ (k ≡ l)
+unfolding merge
+merge-either [] l k e = inr (sym (Option·some-injective l k e))
+merge-either (b ∷ bs) [] k e = inl (sym (Option·some-injective (b ∷ bs) k e))
+merge-either (b ∷ bs) (c ∷ l) k e =
+    by-bool (eqb b c)
+    (λ q.
+    let (n, m, i) = map-eq-some-iff (c ∷_) (merge bs l) .0 (rw (q, merge) at e) in
+    let d = eqb-true b c q in
+    elim (merge-either bs l n m) [ inl h ↦ inl (sym i ∙ ap₂ _∷_ (sym d) h) | inr h ↦ inr (sym i ∙ ap (c ∷_) h) ])
+    (λ q. no-some (rw (q, merge) at e))
+
+-- and it begins with the log
+merge-grows : (bs l k : List ℕ) → merge bs l ≡ some k → (new : List ℕ) × (k ≡ l ++ new)
+unfolding merge
+merge-grows [] l k e = ([], sym (Option·some-injective l k e) ∙ sym (append-nil l))
+merge-grows (b ∷ bs) [] k e = (b ∷ bs, sym (Option·some-injective (b ∷ bs) k e))
+merge-grows (b ∷ bs) (c ∷ l) k e =
+    by-bool (eqb b c)
+    (λ q.
+    let (n, m, i) = map-eq-some-iff (c ∷_) (merge bs l) .0 (rw (q, merge) at e) in
+    let g = merge-grows bs l n m in
+    (g .0, sym i ∙ ap (c ∷_) (g .1)))
+    (λ q. no-some (rw (q, merge) at e))
 
 module _ (xs : List Statement) where
-  merge-linked : (bs l k : List ℕ) (h parent : ℕ) → merge bs l ≡ some k → linked xs h parent bs ≡ true → linked xs h parent l ≡ true → linked xs h parent k ≡ true
-  unfolding merge
-  merge-linked [] l k h parent e p q = rw (← Option·some-injective l k e) q
-  merge-linked (b ∷ bs) [] k h parent e p q = rw (← Option·some-injective (b ∷ bs) k e) p
-  merge-linked (b ∷ bs) (c ∷ l) k h parent e p q =
-      by-bool (eqb b c)
-      (λ r.
-      let g = map-eq-some-iff (c ∷_) (merge bs l) .0 (rw (r, merge) at e) in
-      let u = linked-cons xs h parent b bs p in
-      let v = linked-cons xs h parent c l q in
-      let w = merge-linked bs l (g .0) (suc h) c (g .1) (rw (eqb-true b c r) at (u .1)) (v .1) in
-      rw (← g .2) (cons-linked xs h parent c (g .0) (v .0) w))
-      (λ r. no-some (rw (r, merge) at e))
+  commit-grows : (x : Statement) (l k : List ℕ) → commit xs x l ≡ some k → (new : List ℕ) × (k ≡ l ++ new)
+  unfolding commit
+  commit-grows x l k e =
+      by-option (chain xs x) (λ q. ([], sym (Option·some-injective l k (rw (q, commit) at e)) ∙ sym (append-nil l)))
+      (λ bs q. merge-grows bs l k (rw (q, commit) at e))
+
+  -- the log only grows
+  pub commits-grow : (ds : List Statement) (l k : List ℕ) → commits xs ds l ≡ some k → (new : List ℕ) × (k ≡ l ++ new)
+  unfolding commits
+  commits-grow [] l k e = ([], sym (Option·some-injective l k e) ∙ sym (append-nil l))
+  commits-grow (x ∷ ds) l k e =
+      by-option (commit xs x l) (λ q. no-some (rw (q, commits) at e))
+      (λ j q.
+      let g = commit-grows x l j q in
+      let h = commits-grow ds j k (rw (q, commits) at e) in
+      (g .0 ++ h .0, h .1 ∙ ap (_++ (h .0)) (g .1) ∙ append-assoc l (g .0) (h .0)))
 
 -- ---- chains and commits
 
@@ -141,7 +171,7 @@ module _ {s : State} (f : Formed s) where
   unfolding commit
   commit-linked x l k m n e h =
       by-option (chain (s .statements) x) (λ q. rw (← Option·some-injective l k (rw (q, commit) at e)) h)
-      (λ bs q. merge-linked (s .statements) bs l k 0 0 (rw (q, commit) at e) (chain-linked x bs m n q) h)
+      (λ bs q. elim (merge-either bs l k (rw (q, commit) at e)) [ inl o ↦ rw o (chain-linked x bs m n q) | inr o ↦ rw o h ])
 
   pub commits-linked : (ds : List Statement) (l k : List ℕ) → Each (λ x. Mem x (s .statements) × (x .isNewView ≡ false)) ds
       → commits (s .statements) ds l ≡ some k → linked (s .statements) 0 0 l ≡ true → linked (s .statements) 0 0 k ≡ true
