@@ -19,3 +19,4 @@ pub mod Room
 pub mod Ticking
 pub mod Outs
 pub mod Facts
+pub mod Largest
