@@ -8,6 +8,7 @@
 
 pub mod refusal;
 pub mod settings;
+pub mod wire;
 pub mod words;
 
 pub use refusal::{Cause, Refusal};
