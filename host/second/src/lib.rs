@@ -8,9 +8,12 @@
 
 pub mod refusal;
 pub mod settings;
+pub mod station;
+mod tick;
 pub mod wire;
 pub mod words;
 
 pub use refusal::{Cause, Refusal};
 pub use settings::Settings;
+pub use station::{Phase, Station};
 pub use words::{Block, Made, Name, Statement, Tally};
