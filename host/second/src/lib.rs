@@ -7,6 +7,7 @@
 #![forbid(unsafe_code)]
 
 pub mod refusal;
+pub mod replay;
 pub mod settings;
 pub mod station;
 mod tick;
