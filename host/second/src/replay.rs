@@ -123,7 +123,7 @@ pub fn bytes(hex: &str) -> Option<Vec<u8>> {
     if hex == "-" {
         return Some(Vec::new());
     }
-    if hex.len() % 2 != 0 || !hex.bytes().all(|digit| digit.is_ascii_hexdigit()) {
+    if !hex.len().is_multiple_of(2) || !hex.bytes().all(|digit| digit.is_ascii_hexdigit()) {
         return None;
     }
     let pairs = (0..hex.len()).step_by(2);

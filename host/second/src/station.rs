@@ -195,9 +195,15 @@ impl Station {
             return None;
         }
         // Of one height the first place counts.
-        let top = of_view().reduce(|top, old| {
-            if old.block.height > top.block.height { old } else { top }
-        })?;
+        let top = of_view().reduce(
+            |top, old| {
+                if old.block.height > top.block.height {
+                    old
+                } else {
+                    top
+                }
+            },
+        )?;
         let tally = self.tallies[self.tally(&top.block)?];
         (self.settings.full(tally.mask) && top.block.height < Settings::HEIGHTS).then_some(tally)
     }

@@ -18,5 +18,9 @@ fn main() -> ExitCode {
         }
     }
     println!("{passed} files as recorded ({inputs} inputs), {failed} differ");
-    if failed == 0 && passed > 0 { ExitCode::SUCCESS } else { ExitCode::FAILURE }
+    if failed == 0 && passed > 0 {
+        ExitCode::SUCCESS
+    } else {
+        ExitCode::FAILURE
+    }
 }
