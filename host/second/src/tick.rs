@@ -203,3 +203,112 @@ impl Station {
         }
     }
 }
+
+#[cfg(test)]
+mod tests {
+    use super::*;
+    use crate::replay::Input;
+    use crate::scripts::Script;
+
+    /// 8: "tick at clock 4,000,000,000". The tick before it is the last.
+    #[test]
+    fn the_clock_ends() {
+        let mut station = Station::fresh(3, 1, 0).unwrap();
+        station.phase = Phase::Waiting { quit: 0 };
+        station.clock = Settings::CLOCK - 1;
+        let mut out = Vec::new();
+        assert_eq!((station.tick(&mut out), station.clock), (0, Settings::CLOCK));
+        let before = Station { phase: Phase::Stopped(Cause::Clock), ..station.clone() };
+        assert_eq!(station.tick(&mut out), 8);
+        assert_eq!(station, before);
+        assert_eq!(station.tick(&mut out), 3);
+        assert_eq!(out, []);
+    }
+
+    /// 8 comes before a commit that is due, and messages are taken until then.
+    #[test]
+    fn the_clock_ends_before_the_commit() {
+        let mut station = Station::fresh(3, 10_000, 0).unwrap();
+        (station.clock, station.entry) = (Settings::CLOCK, Settings::CLOCK);
+        let block = Block { view: 1, height: 1, name: Name::from_bytes([1; 32]) };
+        let made = Made::Propose { parent: Name::ZERO };
+        let statement = Statement { block, mask: 0b110, made };
+        let mut message = Vec::new();
+        Message::Statement { statement, author: 1 }.write(&mut message);
+        let mut out = Vec::new();
+        assert_eq!((station.step(&message, &mut out), out.len()), (0, 160));
+        station.voted[0].clock = 0;
+        assert_eq!(station.tick(&mut out), 8);
+        assert!(station.log.is_empty());
+    }
+
+    /// The names of a whole chain from height 1, found as 01 says it; none if one is missing.
+    fn chain(station: &Station, place: usize) -> Option<Vec<Name>> {
+        let mut names = Vec::new();
+        let mut at = station.statements[place];
+        while at.block.height > 1 {
+            names.insert(0, at.block.name);
+            let parent = at.parent().unwrap();
+            let mut proposes = station.statements.iter().filter(|old| old.parent().is_some());
+            at = *proposes
+                .find(|old| old.block.name == parent && old.block.height == at.block.height - 1)?;
+        }
+        names.insert(0, at.block.name);
+        Some(names)
+    }
+
+    /// The log after the commits of the next tick, by whole chains; none for refusal 7.
+    fn committed_log(station: &Station) -> Option<Vec<Name>> {
+        let mut log: Vec<Name> = station.log().collect();
+        let wait = 2 * station.settings.delay() + 1;
+        let due = |clock| station.clock + 1 - clock >= wait;
+        let mut places: Vec<usize> = station
+            .voted
+            .iter()
+            .filter(|voted| due(voted.clock))
+            .map(|voted| voted.place)
+            .collect();
+        places.sort_by_key(|&place| (station.statements[place].block.height, place));
+        for names in places.into_iter().filter_map(|place| chain(station, place)) {
+            if log.iter().zip(&names).any(|(logged, name)| logged != name) {
+                return None;
+            }
+            log.extend(names.into_iter().skip(log.len()));
+        }
+        Some(log)
+    }
+
+    /// Stopping a walk at the log's own record changes nothing: whole chains give the same logs.
+    #[test]
+    fn commits_are_those_of_whole_chains() {
+        let (mut commits, mut splits) = (0, 0);
+        for seed in 5000..5400 {
+            let mut script = Script::new(seed);
+            let mut before: Option<Station> = None;
+            for event in script.by_ref().take(600).collect::<Vec<_>>() {
+                let mut after = before.clone().unwrap_or(Station::fresh(3, 1, 0).unwrap());
+                match &event.input {
+                    Input::Fresh { n, d, own } => after = Station::fresh(*n, *d, *own).unwrap(),
+                    Input::Step(message) => drop(after.step(message, &mut Vec::new())),
+                    Input::Offer(name) => drop(after.offer(name, &mut Vec::new())),
+                    Input::Tick => {
+                        let number = after.tick(&mut Vec::new());
+                        let before = before.as_ref().unwrap();
+                        let expected = match before.phase {
+                            Phase::InView => committed_log(before),
+                            _ => Some(before.log().collect()),
+                        };
+                        assert_eq!(expected.is_none(), number == 7);
+                        if let (Some(expected), 0) = (expected, number) {
+                            assert!(after.log().eq(expected));
+                        }
+                        commits += after.log.len() - before.log.len();
+                        splits += usize::from(number == 7);
+                    }
+                }
+                before = Some(after);
+            }
+        }
+        assert!(commits > 1000 && splits > 100, "{commits} commits, {splits} splits");
+    }
+}
