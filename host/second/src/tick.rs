@@ -51,11 +51,18 @@ impl Station {
         let wait = self.settings.commit_wait();
         for i in 0..self.voted.len() {
             let voted = self.voted[i];
-            if self.clock - voted.clock >= wait {
+            if self.clock - voted.clock >= wait && !self.is_logged(voted.place) {
                 self.commit_chain(voted.place, out)?;
             }
         }
         Ok(())
+    }
+
+    /// Whether the log came by this propose: then its whole chain is stored and is the log's, for
+    /// good, and there is nothing more to commit.
+    fn is_logged(&self, place: usize) -> bool {
+        let index = self.statements[place].block.height as usize - 1;
+        self.log.get(index).is_some_and(|logged| logged.place == place)
     }
 
     /// Logs the chain of one propose, "not yet logged ancestors" first. "A block with an ancestor
