@@ -12,9 +12,27 @@ use borrow.Author.Tests.{eqb-true, eqb-false, eq-eqb, ne-eqb, leb-true, leb-fals
 use Rattle.fields.specs.Places.{Bytes, number}
 use Rattle.fields.proofs.Lists.{number-cons, number-piece}
 use Rattle.rules.specs.Lists.{be, unbe}
-use Rattle.rules.specs.Messages.{Message, Row, rowOf, width, after, readField, reads, body, read}
+use Rattle.rules.specs.Messages.{Message, Row, table, rowOf, width, after, readField, reads, body, read}
 use Rattle.rules.proofs.Tests.{by-bool, and-left, and-right}
 use Rattle.wire.specs.Fields.{head, isField, Found, bodyAt}
+
+-- a field that stands at a place lies within the message
+pub field-room : (s : List ℕ) (at t w : ℕ) → isField s at t w ≡ true → at + 3 + w ≤ length s
+unfolding isField
+field-room s at t w e = leb-true (at + 3 + w) (length s) (and-left (leb (at + 3 + w) (length s)) (eqb (number s at 3) (head t w)) e)
+
+-- the same of its test's answer
+pub stood : {r : Bool} (s : List ℕ) (at t w : ℕ) → r ≡ isField s at t w → r ≡ true → at + 3 + w ≤ length s
+stood s at t w e y = field-room s at t w (sym e ∙ y)
+
+-- its test, without the room for it and with it
+pub field-short : (s : List ℕ) (at t w : ℕ) → length s < at + 3 + w → false ≡ isField s at t w
+unfolding isField
+field-short s at t w h = rw (lt-leb (at + 3 + w) (length s) h)
+
+pub field-test : (s : List ℕ) (at t w : ℕ) → at + 3 + w ≤ length s → eqb (number s at 3) (head t w) ≡ isField s at t w
+unfolding isField
+field-test s at t w h = rw (le-leb (at + 3 + w) (length s) h)
 
 -- the number of a list's bytes is that of its place
 be-number : (bs : List ℕ) → be bs ≡ number bs 0 (length bs)
@@ -89,7 +107,7 @@ module _ (s : List ℕ) (b : Bytes s) (at : ℕ) where
     unfolding isField readField
     field-here e =
         let w = width t in
-        let l = leb-true (at + 3 + w) (length s) (and-left (leb (at + 3 + w) (length s)) (eqb (number s at 3) (head t w)) e) in
+        let l = field-room s at t w e in
         let n = eqb-true (number s at 3) (head t w) (and-right (leb (at + 3 + w) (length s)) (eqb (number s at 3) (head t w)) e) in
         let k : length (drop (at + 3) s) ≡ length s - (at + 3) = length-drop (at + 3) s in
         let p : after (t ∷ unbe 2 w) (drop at s) ≡ some (drop (at + 3) s) =
@@ -140,7 +158,7 @@ module _ (s : List ℕ) (b : Bytes s) where
       let go : ℕ → List ℕ → Option (List ℕ) = λ x r. Option·map (x ∷_) (reads ts r) in
       by-bool (isField s at t w)
       (λ q.
-      let l = leb-true (at + 3 + w) (length s) (and-left (leb (at + 3 + w) (length s)) (eqb (number s at 3) (head t w)) q) in
+      let l = field-room s at t w q in
       let v-is : v ≡ number s (at + 3) w = f .value-is ∙ rw q in
       let n-is : n ≡ at + 3 + w = f .next-is ∙ rw q in
       within (t ∷ ts) s at (omega arith) ∙ field-here s b at t go q ∙ rw (v-is, n-is, within ts s (at + 3 + w) l))
@@ -189,10 +207,25 @@ module _ (s : List ℕ) (b : Bytes s) where
   read-found k n f =
       by-bool (isField s 0 1 1)
       (λ q.
-      let l = leb-true 4 (length s) (and-left (leb 4 (length s)) (eqb (number s 0 3) (head 1 1)) q) in
+      let l : 4 ≤ length s = field-room s 0 1 1 q in
       let k-is : k ≡ number s 3 1 = f .value-is ∙ rw q in
       let n-is : n ≡ 4 = f .next-is ∙ rw q in
       ap₂ (λ (x y : ℕ). bodyAt x s y) k-is n-is ∙ rw (le-leb 4 (length s) l, bodyAt) (sym (field-here s b 0 1 body q)))
       (λ q.
       let n-is : n ≡ suc (length s) = f .next-is ∙ rw q in
       rw (lt-leb n (length s) (omega arith), bodyAt) (sym (field-gone s b 0 1 body q)))
+
+  pub read-kind : {k n : ℕ} {o : Option Message} (j : ℕ) → Found (isField s 0 1 1) s 0 1 k n → k ≡ j → o ≡ bodyAt j s n → o ≡ read s
+  read-kind {k} {n} j f e h = h ∙ ap (λ (i : ℕ). bodyAt i s n) (sym e) ∙ read-found k n f
+
+-- a kind outside 1 to 6 has no row
+pub no-row : (k : ℕ) → (k ≡ 1 → ⊥) → (k ≡ 2 → ⊥) → (k ≡ 3 → ⊥) → (k ≡ 4 → ⊥) → (k ≡ 5 → ⊥) → (k ≡ 6 → ⊥) → rowOf k ≡ none
+unfolding rowOf table
+no-row zero a b c d e f = refl
+no-row (suc zero) a b c d e f = absurd (a refl)
+no-row (suc (suc zero)) a b c d e f = absurd (b refl)
+no-row (suc (suc (suc zero))) a b c d e f = absurd (c refl)
+no-row (suc (suc (suc (suc zero)))) a b c d e f = absurd (d refl)
+no-row (suc (suc (suc (suc (suc zero))))) a b c d e f = absurd (e refl)
+no-row (suc (suc (suc (suc (suc (suc zero)))))) a b c d e f = absurd (f refl)
+no-row (suc (suc (suc (suc (suc (suc (suc k))))))) a b c d e f = refl

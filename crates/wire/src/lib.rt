@@ -1,5 +1,11 @@
 // Messages: read from any bytes, held against the settings, and written into an out buffer.
 use fields::Name;
+ghost use mathlib.Core.Path.{_≡_};
+ghost use Rattle.rules.specs.Messages.{read};
+ghost use Rattle.wire.specs.Meaning.{readOf};
+
+mod kinds;
+mod reader;
 
 // A new-view or a propose. The link of a propose is its parent's name; of a new-view it is the certificate view, as a name's number.
 pub struct Statement {
@@ -41,4 +47,22 @@ pub enum Message {
 pub enum Read {
     Readable(Message),
     Unreadable,
+}
+
+// Reads a message: any bytes, any length.
+pub fn read_message(message: &[u8]) -> Read
+    ensures { λ r. ⌜ readOf r ≡ read (now (message .entry)) ⌝ }
+{
+    let kind = reader::number_at(message, 0, 1, 1);
+    let at = kind.next;
+    let number = kind.value;
+    match number {
+        1 => kinds::new_view(message, at),
+        2 => kinds::propose(message, at),
+        3 => kinds::vote(message, at),
+        4 => kinds::blame(message, at),
+        5 => kinds::blame_set(message, at),
+        6 => kinds::status(message, at),
+        _ => Read::Unreadable,
+    }
 }
