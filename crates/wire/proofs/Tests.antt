@@ -10,7 +10,7 @@ use borrow.Author.Tests.{lt-ltb, ltb-true, le-leb, lt-leb}
 use Rattle.fields.specs.declared.Name.{Name}
 use Rattle.fields.specs.Names.{nameOf}
 use Rattle.rules.specs.Lists.{iff}
-use Rattle.rules.specs.Messages.{propose, viewAllowed, blockAllowed, maskAllowed, certificateAllowed, allowed}
+use Rattle.rules.specs.Messages.{newView, propose, viewAllowed, blockAllowed, maskAllowed, certificateAllowed, allowed}
 use Rattle.rules.specs.Sizes.{Settings, leader}
 use Rattle.rules.specs.Words.{message}
 use Rattle.rules.proofs.Tests.{by-bool}
@@ -37,7 +37,7 @@ leader-none g v a e = rw (e, mod-zero)
 low-word : (n x v : ℕ) → v < 2 ^ 64 → n * 2 ^ 64 + x < v → x ≡ n * 2 ^ 64 + x
 low-word n x v h k = omega arith
 
-link-word : (l : Name) (v : ℕ) → v < 2 ^ 64 → nameOf l < v → l .fourth ≡ nameOf l
+pub link-word : (l : Name) (v : ℕ) → v < 2 ^ 64 → nameOf l < v → l .fourth ≡ nameOf l
 unfolding nameOf
 link-word l v h k = low-word ((l .first * 2 ^ 64 + l .second) * 2 ^ 64 + l .third) (l .fourth) v h k
 
@@ -48,29 +48,35 @@ link-certificate a g l v h m f =
     (λ q. ap (λ (x : ℕ). a && ltb (nameOf l) v && certificateAllowed g h x m) (link-word l v f (ltb-true (nameOf l) v q)))
     (λ q. rw (q, and-false))
 
--- a statement by its kind
-module _ (g : Settings) (x : Statement) where
-  pub new-view-allowed : x .«is_new_view» ≡ true → x .view < 2 ^ 64
-      → (viewAllowed (x .view) && blockAllowed (x .height) (nameOf (x .name)) && ltb (nameOf (x .link)) (x .view) && certificateAllowed g (x .height) (x .link .fourth) (x .mask) && eqb (x .author) (leader g (x .view)))
-      ≡ allowed g (message (statementOf x none))
-  unfolding message statementOf allowed
-  new-view-allowed e h =
-      ap (λ (b : Bool). b && eqb (x .author) (leader g (x .view)))
-      (link-certificate (viewAllowed (x .view) && blockAllowed (x .height) (nameOf (x .name))) g (x .link) (x .view) (x .height) (x .mask) h)
-      ∙ rw e
+-- a statement as it is sent, by its kind
+module _ (x : Statement) where
+  pub new-view-said : x .«is_new_view» ≡ true
+      → message (statementOf x none) ≡ newView (x .view) (x .height) (nameOf (x .name)) (nameOf (x .link)) (x .mask) (x .author)
+  unfolding message statementOf
+  new-view-said e = rw e
 
-  propose-said : x .«is_new_view» ≡ false
+  pub propose-said : x .«is_new_view» ≡ false
       → message (statementOf x none) ≡ propose (x .view) (x .height) (nameOf (x .name)) (nameOf (x .link)) (x .mask) (x .author)
   unfolding message statementOf
   propose-said e = rw e
 
+module _ (g : Settings) (x : Statement) where
+  pub new-view-allowed : x .«is_new_view» ≡ true → x .view < 2 ^ 64
+      → (viewAllowed (x .view) && blockAllowed (x .height) (nameOf (x .name)) && ltb (nameOf (x .link)) (x .view) && certificateAllowed g (x .height) (x .link .fourth) (x .mask) && eqb (x .author) (leader g (x .view)))
+      ≡ allowed g (message (statementOf x none))
+  unfolding allowed
+  new-view-allowed e h =
+      ap (λ (b : Bool). b && eqb (x .author) (leader g (x .view)))
+      (link-certificate (viewAllowed (x .view) && blockAllowed (x .height) (nameOf (x .name))) g (x .link) (x .view) (x .height) (x .mask) h)
+      ∙ ap (allowed g) (sym (new-view-said x e))
+
   -- "a propose has height at least 1"
   pub propose-low : x .«is_new_view» ≡ false → x .height < 1 → false ≡ allowed g (message (statementOf x none))
   unfolding allowed
-  propose-low e h = rw (propose-said e, lt-leb 1 (x .height) h, and-false)
+  propose-low e h = rw (propose-said x e, lt-leb 1 (x .height) h, and-false)
 
   pub propose-allowed : x .«is_new_view» ≡ false → 1 ≤ x .height
       → (viewAllowed (x .view) && blockAllowed (x .height) (nameOf (x .name)) && blockAllowed (x .height - 1) (nameOf (x .link)) && maskAllowed g (x .mask) && eqb (x .author) (leader g (x .view)))
       ≡ allowed g (message (statementOf x none))
   unfolding allowed
-  propose-allowed e h = rw (propose-said e, le-leb 1 (x .height) h, and-true)
+  propose-allowed e h = rw (propose-said x e, le-leb 1 (x .height) h, and-true)

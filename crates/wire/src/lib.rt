@@ -12,6 +12,7 @@ ghost use Rattle.wire.specs.Meaning.{readOf, messageOf, statementOf};
 pub mod clauses;
 mod kinds;
 mod reader;
+mod writer;
 
 // A new-view or a propose. The link of a propose is its parent's name; of a new-view it is the certificate view, as a name's number.
 pub struct Statement {
