@@ -3,12 +3,12 @@ use Prim.Native.Nat.{ℕ, zero, suc, _+_, _*_, _/_, _%_, _^_, _<_, _≤_}
 use mathlib.Core.Path.{_≡_, refl, sym, ap, ap₂, _∙_, subst}
 use mathlib.Core.List.{List, [], _∷_, _++_, append-assoc, append-nil}
 use native.Mathlib.Omega.{arith}
-use native.Mathlib.Nat.{add-zero, add-suc, suc-add, mod-lt, mod-eq-of-lt, div-add-mod', div-lt-iff-lt-mul, mul-comm, pow-suc}
+use native.Mathlib.Nat.{add-zero, add-suc, suc-add, mod-lt, mod-eq-of-lt, div-one, div-add-mod', div-lt-iff-lt-mul, mul-comm, pow-suc}
 use native.Mathlib.Numerals.{add-one}
 use lib.ListN.{length, drop, set, length-set, length-append}
 use lib.Seq.{set-append-seam}
 use lib.Arith.{digits-div, digits-mod}
-use lib.Dec.{lit≤}
+use lib.Dec.{lit<, lit≤}
 use Rattle.fields.specs.Places.{put}
 use Rattle.fields.proofs.Laws.{put-both, put-comm}
 use Rattle.rules.specs.Lists.{unbe}
@@ -125,30 +125,45 @@ put-wrote s at (suc w) v h =
     ap₂ (put s at) n (sym e) ∙ put-both s at 1 w d l (mod-lt v (pow-pos w)) ∙ sym (put-comm s at 1 d (at + 1) w l (omega arith))
     ∙ rw (add-zero, mod-eq-of-lt small, add-one) (put-wrote (set s at d) (suc at) w l (mod-lt v (pow-pos w)))
 
-pub put-says : (s : List ℕ) (at w v : ℕ) → v < 256 ^ w → Says s at (unbe w v) (put s at w v) (at + w)
-put-says s at w v h = record { out = put-wrote s at w v h; ends = omega (arith, length-unbe w v) }
+pub put-says : {s₁ : List ℕ} {end : ℕ} (s : List ℕ) (at w v : ℕ) → v < 256 ^ w → s₁ ≡ put s at w v → end ≡ at + w → Says s at (unbe w v) s₁ end
+put-says s at w v h e q = record { out = e ∙ put-wrote s at w v h; ends = omega (arith, length-unbe w v) }
+
+-- a byte, and whoever writes after it
+pub byte-says : {s₁ left : List ℕ} {next end : ℕ} (s : List ℕ) (at i : ℕ) (bs : List ℕ) → i < 256 → s₁ ≡ put s at 1 i → next ≡ at + 1 → Says s₁ next bs left end
+    → Says s at (i ∷ bs) left end
+unfolding unbe
+byte-says {s₁} {left} {next} {end} s at i bs h e q p =
+    let b : Says s at (i ∷ []) s₁ next = rw (div-one i) at (put-says s at 1 i h e q) in
+    says-both s at (i ∷ []) bs s₁ left next end b p
 
 -- the head of a field, put as one number
 head-bytes : (t n : ℕ) → n < 65536 → unbe 3 (head t n) ≡ t ∷ unbe 2 n
 unfolding unbe
 head-bytes t n h = rw (digits-div t h, digits-mod t h)
 
-head-says : (s : List ℕ) (at t n : ℕ) → t < 256 → n < 65536 → Says s at (t ∷ unbe 2 n) (put s at 3 (head t n)) (at + 3)
-head-says s at t n h k = rw (head-bytes t n k) at (put-says s at 3 (head t n) (omega arith))
-
 -- a field: its head, and whoever writes its value
-pub field-says : (s : List ℕ) (at t : ℕ) (bs left : List ℕ) (end : ℕ) → t < 256 → length bs < 65536 → Says (put s at 3 (head t (length bs))) (at + 3) bs left end
+pub field-says : {s₁ left : List ℕ} {end : ℕ} (s : List ℕ) (at t : ℕ) (bs : List ℕ) → t < 256 → length bs < 65536 → s₁ ≡ put s at 3 (head t (length bs)) → Says s₁ (at + 3) bs left end
     → Says s at (field t bs) left end
 unfolding field
-field-says s at t bs left end h k p =
-    says-both s at (t ∷ unbe 2 (length bs)) bs (put s at 3 (head t (length bs))) left (at + 3) end (head-says s at t (length bs) h k) p
+field-says {s₁} {left} {end} s at t bs h k e p =
+    let n = length bs in
+    let b : Says s at (t ∷ unbe 2 n) s₁ (at + 3) = rw (head-bytes t n k) at (put-says s at 3 (head t n) (omega arith) e refl) in
+    says-both s at (t ∷ unbe 2 n) bs s₁ left (at + 3) end b p
 
 pub number-says : {s₁ s₂ : List ℕ} (s : List ℕ) (at t w v : ℕ) → t < 256 → w < 65536 → v < 256 ^ w → s₁ ≡ put s at 3 (head t w) → s₂ ≡ put s₁ (at + 3) w v
     → Says s at (field t (unbe w v)) s₂ (at + 3 + w)
-number-says {s₁} {s₂} s at t w v h k f p q =
+number-says {s₁} s at t w v h k f p q =
     let l = length-unbe w v in
-    let e : s₂ ≡ put (put s at 3 (head t (length (unbe w v)))) (at + 3) w v = q ∙ rw (p, l) in
-    field-says s at t (unbe w v) s₂ (at + 3 + w) h (omega arith) (rw e (put-says (put s at 3 (head t (length (unbe w v)))) (at + 3) w v f))
+    field-says s at t (unbe w v) h (omega arith) (rw l p) (put-says s₁ (at + 3) w v f q refl)
+
+-- a committed block
+pub committed-says : {s₁ s₂ s₃ : List ℕ} (s : List ℕ) (at h b : ℕ) → h < 256 ^ 4 → b < 256 ^ 32 → s₁ ≡ put s at 3 (head 0x12 36) → s₂ ≡ put s₁ (at + 3) 4 h → s₃ ≡ put s₂ (at + 7) 32 b
+    → Says s at (effect (committed h b)) s₃ (at + 39)
+unfolding effect
+committed-says {s₁} {s₂} {s₃} s at h b f g p q r =
+    let l : length (unbe 4 h ++ unbe 32 b) ≡ 36 = omega (arith, length-append (unbe 4 h) (unbe 32 b), length-unbe 4 h, length-unbe 32 b) in
+    field-says s at 0x12 (unbe 4 h ++ unbe 32 b) (lit< tt) (omega arith) (p ∙ ap (λ (n : ℕ). put s at 3 (head 0x12 n)) (sym l))
+    (says-both s₁ (at + 3) (unbe 4 h) (unbe 32 b) s₂ s₃ (at + 7) (at + 39) (put-says s₁ (at + 3) 4 h f q (omega arith)) (put-says s₂ (at + 7) 32 b g r (omega arith)))
 
 -- ---- lengths
 
@@ -185,6 +200,10 @@ length-write m = length-writes (1 ∷ tagsOf (kind m)) (kind m ∷ values m) (ap
 
 pub length-write-most : (m : Message) → length (write m) ≤ 97
 length-write-most m = omega (arith, length-write m, sizes m .2)
+
+-- the room for a message, by its kind
+pub room-of : {m k : Message} (a n : ℕ) → m ≡ k → a + length (write m) ≤ n → a + sizeOf (kind k) ≤ n
+room-of {m} {k} a n e h = let l : length (write m) ≡ sizeOf (kind k) = ap (λ (x : Message). length (write x)) e ∙ length-write k in omega arith
 
 pub length-to-all : (m : Message) → length (effect (toAll m)) ≡ 3 + length (write m)
 unfolding effect
