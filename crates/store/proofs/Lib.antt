@@ -6,3 +6,6 @@ pub mod Tables
 pub mod Forms
 pub mod Pieces
 pub mod Encoded
+pub mod ReadBack
+pub mod Decoded
+pub mod OneForm
