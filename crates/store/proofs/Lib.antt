@@ -9,3 +9,5 @@ pub mod Encoded
 pub mod ReadBack
 pub mod Decoded
 pub mod OneForm
+pub mod Writes
+pub mod Changes
