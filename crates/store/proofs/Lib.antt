@@ -11,3 +11,4 @@ pub mod Decoded
 pub mod OneForm
 pub mod Writes
 pub mod Changes
+pub mod Searches
