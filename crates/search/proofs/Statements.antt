@@ -7,17 +7,17 @@ use native.Mathlib.Omega.{arith}
 use lib.Dec.{leb, ltb, eqb}
 use borrow.Author.Tests.{eq-eqb, ne-eqb, leb-true, ltb-true, not-true}
 use Rattle.rules.specs.Limits.{firstView, lastView}
-use Rattle.rules.specs.Lists.{iff, within}
+use Rattle.rules.specs.Lists.{iff, within, any}
 use Rattle.rules.specs.Sizes.{Settings, leader}
 use Rattle.rules.specs.Messages.{newView, propose, viewAllowed, blockAllowed, maskAllowed, certificateAllowed, allowed}
 use Rattle.rules.specs.Words.{Statement, message, sameStatement, conflict, Tally, certificate, below, State}
-use Rattle.rules.specs.Inputs.{belowLock}
+use Rattle.rules.specs.Inputs.{belowLock, isUsed, isOpened, current}
 use Rattle.rules.proofs.Tests.{by-bool, and-left, and-right, no-bool}
 use Rattle.fields.specs.Names.{nameOf}
 use Rattle.fields.specs.declared.Name.{Name}
 use Rattle.wire.specs.Meaning.{statementOf}
 use Rattle.wire.specs.declared.Statement as code
-use Rattle.search.specs.Lookups.{Certifies, ranksBelow}
+use Rattle.search.specs.Lookups.{Certifies, ranksBelow, uses, opens, ofView}
 
 -- a conflict, where it is known whether the statements are the same
 abbrev conflictIf : Bool → Statement → Statement → Bool
@@ -98,6 +98,23 @@ pub certificate-unvoted : (x : code.Statement) (v : Option ℕ) → certificate 
 unfolding certificate statementOf
 certificate-unvoted x v = refl
 
+-- what holds of a stored statement holds of it as it was read
+module _ (x : code.Statement) (y : Statement) (e : statementOf x (y .voted) ≡ y) where
+  pub read-height : x .height ≡ y .height
+  unfolding statementOf
+  read-height = ap (λ (z : Statement). z .height) e
+
+  pub read-view : x .view ≡ y .view
+  unfolding statementOf
+  read-view = ap (λ (z : Statement). z .view) e
+
+  pub read-conflict : (w : code.Statement) → conflict (statementOf w none) (statementOf x none) ≡ conflict (statementOf w none) y
+  read-conflict w = sym (conflict-unvoted w x none (y .voted)) ∙ ap (conflict (statementOf w none)) e
+
+  pub read-uses : (b : ℕ) → (eqb b (nameOf (x .name)) || not (x .«is_new_view») && eqb b (nameOf (x .link))) ≡ uses b y
+  unfolding statementOf
+  read-uses b = ap (uses b) e
+
 -- a small number in a name stands in its last word
 last-word : (a x : ℕ) → a * 2 ^ 64 + x < 2 ^ 32 → a * 2 ^ 64 + x ≡ x
 last-word a x h = omega arith
@@ -167,3 +184,18 @@ module _ (x : Statement) (lock : Tally) where
 pub lock-is : (x : Statement) (s : State) → belowLock x s ≡ ranksBelow x (s .lock)
 unfolding ranksBelow belowLock
 lock-is x s = refl
+
+-- ---- rules' names of what is looked up in a state
+
+module _ (s : State) where
+  pub used-is : (b : ℕ) → isUsed b s ≡ any (uses b) (s .statements)
+  unfolding isUsed
+  used-is b = refl
+
+  pub opened-is : isOpened s ≡ any (opens (s .view)) (s .statements)
+  unfolding isOpened
+  opened-is = refl
+
+  pub current-is : current s ≡ ofView (s .view) (s .statements)
+  unfolding current ofView
+  current-is = refl
