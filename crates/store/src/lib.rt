@@ -1,15 +1,21 @@
 // The lent store: one byte slice of one exact length, the bytes of a well-formed state in one way only.
 ghost use mathlib.Core.Path.{_≡_};
-ghost use Prim.Native.Nat.{_+_, _^_, _≤_, _<_};
+ghost use Prim.Native.Nat.{_+_, _*_, _^_, _≤_, _<_};
+ghost use mathlib.Core.Bool.{_&&_};
+ghost use mathlib.Core.Option.{none};
 ghost use lib.ListN.{length};
-ghost use Rattle.rules.specs.Limits.{lastView, mostStatements, mostTallies};
+ghost use lib.Dec.{eqb};
+ghost use Rattle.rules.specs.Limits.{lastView, mostStatements, mostTallies, maskBits};
+ghost use Rattle.rules.specs.Sizes.{only};
+ghost use Rattle.rules.specs.Words.{sameStatement, sameBlock, grown};
 ghost use Rattle.fields.specs.Names.{nameOf};
 ghost use Rattle.fields.specs.Places.{number};
 ghost use Rattle.fields.specs.Records.{fields};
 ghost use Rattle.wire.specs.Meaning.{statementOf};
 ghost use Rattle.store.specs.Layout.{headerFormat, tallyFormat, storeLength};
-ghost use Rattle.store.specs.Decode.{phaseOf, tallyFrom, statementAt, tallyAt, blameAt, nameAt, kindAt, voteAt};
+ghost use Rattle.store.specs.Decode.{phaseOf, phaseNumber, tallyFrom, statementAt, tallyAt, blameAt, nameAt, kindAt, voteAt, statements, tallies, Form};
 ghost use Rattle.store.specs.Meaning.{courseOf, tallyOf, headerOf};
+ghost use Rattle.store.specs.Changes.{firstFrom};
 use fields::Name;
 use settings::Settings;
 use wire::Statement;
@@ -233,6 +239,126 @@ pub fn name_at(store: &[u8], i: usize) -> Name
     ensures { λ r. ⌜ nameOf r ≡ nameAt (now (store .entry)) i ⌝ }
 {
     fields::get_name(store, LOG + NAME_SIZE * i)
+}
+
+// The phase's number.
+fn phase_number(phase: Phase) -> u64
+    ensures { λ r. ⌜ r ≡ phaseNumber (courseOf phase) ⌝ }
+{
+    match phase {
+        Phase::InView => 0,
+        Phase::Waiting(quit) => 4 + quit as u64,
+        Phase::Stopped(cause) => match cause {
+            Cause::Full => 1,
+            Cause::Split => 2,
+            Cause::Clock => 3,
+        },
+    }
+}
+
+impl Tally {
+    // The tally with a voter's bit joined.
+    pub fn with_voter(self, station: u64) -> Tally
+        requires { ⌜ station < maskBits ⌝ }
+        ensures { λ r. ⌜ tallyOf r ≡ grown (tallyOf self) (only station) ⌝ }
+    {
+        self.grown(settings::only(station) as u16)
+    }
+
+    // The tally with a mask joined.
+    pub fn grown(self, mask: u16) -> Tally
+        ensures { λ r. ⌜ tallyOf r ≡ grown (tallyOf self) mask ⌝ }
+    {
+        let mut tally = self;
+        tally.mask = tally.mask | mask;
+        tally
+    }
+}
+
+// A block's view and height as one number of eight bytes.
+fn key_of(view: u32, height: u32) -> u64
+    ensures { λ r. ⌜ r ≡ view * 256 ^ 4 + height ⌝ }
+{
+    (view as u64) * 4_294_967_296 + height as u64
+}
+
+// Whether the record at a place is of this block; its name is looked at only where view and height agree.
+fn is_block(store: &[u8], at: usize, key: u64, name: Name) -> bool
+    requires { ⌜ at + 40 ≤ length (now store) ⌝ }
+    ensures { λ r. ⌜ r ≡ (eqb key (number (now (store .entry)) at 8) && eqb (nameOf name) (number (now (store .entry)) (at + 8) 32)) ⌝ }
+{
+    if key != fields::get(store, at, 8) {
+        return false;
+    }
+    name.same(fields::get_name(store, at + NAME))
+}
+
+// Whether tally i is of the same block.
+fn is_tally(store: &[u8], i: usize, tally: Tally) -> bool
+    requires { ⌜ (length (now store) ≡ storeLength) × (i < mostTallies) ⌝ }
+    ensures { λ r. ⌜ r ≡ sameBlock (tallyOf tally) (tallyAt (now (store .entry)) i) ⌝ }
+{
+    is_block(
+        store,
+        TALLIES + TALLY_SIZE * i,
+        key_of(tally.view, tally.height),
+        tally.name,
+    )
+}
+
+// The place of the first tally of the same block.
+pub fn find_tally(store: &[u8], tally: Tally) -> Found
+    requires { ⌜ Form (now store) ⌝ }
+    ensures { λ r. ⌜ r ≡ firstFrom (sameBlock (tallyOf tally)) 0 (tallies (now (store .entry))) ⌝ }
+{
+    let count = get_count(store, TALLY_COUNT);
+    let mut i: usize = 0;
+    loop {
+        if count <= i {
+            break Found::Nothing;
+        }
+        if is_tally(store, i, tally) {
+            break Found::At(i);
+        }
+        i += 1;
+    }
+}
+
+// Whether statement i is the same as this one, but for the mask.
+fn is_statement(store: &[u8], i: usize, statement: Statement) -> bool
+    requires { ⌜ (length (now store) ≡ storeLength) × (i < mostStatements) ⌝ }
+    ensures { λ r. ⌜ r ≡ sameStatement (statementOf statement none) (statementAt (now (store .entry)) i) ⌝ }
+{
+    let key = key_of(statement.view, statement.height);
+    if !is_block(store, STATEMENTS + STATEMENT_SIZE * i, key, statement.name) {
+        return false;
+    }
+    let other = statement_at(store, i);
+    if statement.is_new_view != other.is_new_view {
+        return false;
+    }
+    if statement.author != other.author {
+        return false;
+    }
+    statement.link.same(other.link)
+}
+
+// The place of the first statement that is the same.
+pub fn find_statement(store: &[u8], statement: Statement) -> Found
+    requires { ⌜ Form (now store) ⌝ }
+    ensures { λ r. ⌜ r ≡ firstFrom (sameStatement (statementOf statement none)) 0 (statements (now (store .entry))) ⌝ }
+{
+    let count = get_count(store, STATEMENT_COUNT);
+    let mut i: usize = 0;
+    loop {
+        if count <= i {
+            break Found::Nothing;
+        }
+        if is_statement(store, i, statement) {
+            break Found::At(i);
+        }
+        i += 1;
+    }
 }
 
 impl Station {
