@@ -1,0 +1,5 @@
+pub mod Statements
+pub mod Ranks
+pub mod Counts
+pub mod Searches
+pub mod Tops

@@ -1,0 +1,82 @@
+-- A search of a table, row by row, and what its answer says of the list: each law once for every table and test. Assumes nothing.
+use Prim.Native.Nat.{ℕ, zero, suc, _+_, _-_, _<_, _≤_}
+use mathlib.Core.Path.{_≡_, refl, sym, ap, _∙_, subst}
+use mathlib.Core.Bool.{Bool, true, false}
+use mathlib.Core.List.{List, [], _∷_}
+use mathlib.Core.Option.{Option, none, some}
+use native.Mathlib.Omega.{arith}
+use native.Mathlib.Numerals.{add-one}
+use Rattle.rules.specs.Lists.{first, any, keep}
+use Rattle.rules.proofs.Tests.{by-bool, no-bool}
+use Rattle.store.specs.Decode.{rows}
+use Rattle.store.specs.declared.Found.{Found}
+use Rattle.store.specs.declared.Found.the-variants.{At, Nothing}
+use Rattle.store.proofs.Rows.{rows-from}
+use Rattle.search.specs.Finds.{pick, findFrom, foundIn, Inside, Finds}
+
+module _ {A : Type 0} (f : ℕ → A) (n : ℕ) where
+  -- the rows from a place on: none past the end, all from the first
+  pub rows-end : (i : ℕ) → n ≤ i → rows f i (n - i) ≡ []
+  unfolding rows
+  rows-end i h = let e : n - i ≡ 0 = omega arith in rw e
+
+  pub rows-whole : (i : ℕ) → i ≤ 0 → rows f i (n - i) ≡ rows f 0 n
+  rows-whole i h =
+      let e : i ≡ 0 = omega arith in
+      let z : n - i ≡ n = omega arith in
+      ap (rows f i) z ∙ ap (λ (k : ℕ). rows f k n) e
+
+  -- as a loop downward meets them: the record before, then the rest
+  pub rows-back : (i : ℕ) → 0 < i → i ≤ n → rows f (i - 1) (n - (i - 1)) ≡ f (i - 1) ∷ rows f i (n - i)
+  rows-back i h l =
+      let e : i - 1 + 1 ≡ i = omega arith in
+      rows-from f (i - 1) n (omega arith) ∙ ap (λ (k : ℕ). f (i - 1) ∷ rows f k (n - k)) e
+
+-- a loop upward: the rest decides
+module _ {A : Type 0} (f : ℕ → A) (p : A → Bool) (n : ℕ) where
+  pub find-none : (i : ℕ) → n ≤ i → findFrom p i (rows f i (n - i)) ≡ Nothing
+  unfolding findFrom
+  find-none i h = rw (rows-end f n i h)
+
+  pub find-here : (i : ℕ) → i < n → p (f i) ≡ true → findFrom p i (rows f i (n - i)) ≡ At i
+  unfolding findFrom
+  find-here i h t = rw (rows-from f i n h, t)
+
+  pub find-next : (i : ℕ) → i < n → p (f i) ≡ false → findFrom p i (rows f i (n - i)) ≡ findFrom p (i + 1) (rows f (i + 1) (n - (i + 1)))
+  unfolding findFrom
+  find-next i h t = rw (rows-from f i n h, t, add-one i)
+
+  pub any-none : (i : ℕ) → n ≤ i → any p (rows f i (n - i)) ≡ false
+  unfolding any
+  any-none i h = rw (rows-end f n i h)
+
+  pub any-here : (i : ℕ) → i < n → p (f i) ≡ true → any p (rows f i (n - i)) ≡ true
+  unfolding any
+  any-here i h t = rw (rows-from f i n h, t, any)
+
+  pub any-next : (i : ℕ) → i < n → p (f i) ≡ false → any p (rows f i (n - i)) ≡ any p (rows f (i + 1) (n - (i + 1)))
+  unfolding any
+  any-next i h t = rw (rows-from f i n h, t, any)
+
+-- what was found is the first that matches
+module _ {A : Type 0} (f : ℕ → A) (p : A → Bool) where
+  pub found-first : (i n : ℕ) → Finds f (i + n) (first p (rows f i n)) (findFrom p i (rows f i n))
+  unfolding rows first findFrom
+  found-first i zero = record { is = refl; inside = tt }
+  found-first i (suc n) = by-bool (p (f i)) (λ q. rw q (record { is = refl; inside = omega arith })) (λ q. rw (q, first) (more (found-first (suc i) n)))
+    where
+      same : suc i + n ≡ i + suc n
+      same = omega arith
+
+      more : {o : Option A} {r : Found} → Finds f (suc i + n) o r → Finds f (i + suc n) o r
+      more {o} {r} k = subst (λ (m : ℕ). Finds f m o r) same k
+
+-- and whether something was found is whether any matches
+abbrev pub isFound : Found → Bool
+isFound (At i) = true
+isFound Nothing = false
+
+pub found-any : {A : Type 0} (p : A → Bool) (i : ℕ) (xs : List A) → isFound (findFrom p i xs) ≡ any p xs
+unfolding any findFrom
+found-any p i [] = refl
+found-any p i (x ∷ xs) = by-bool (p x) (λ q. rw (q, any)) (λ q. rw (q, any) (found-any p (suc i) xs))

@@ -1,0 +1,28 @@
+-- `search::below_lock` meets its contract. Assumes nothing.
+use mathlib.Core.Path.{_∙_}
+use mathlib.Core.Option.{none}
+use Rattle.search.proofs.Statements.{lock-propose, lock-new-view}
+use Rattle.wire.specs.Meaning.{statementOf}
+use Rattle.store.specs.Meaning.{tallyOf}
+use borrow.Author.Needs.{needs}
+use Rattle.search.proofs.below_lock.Statement.{statement}
+use Rattle.search.proofs.below_lock.Tie as tie
+
+certificate-requires : tie.Need-certificate-requires
+certificate-requires c κs = search needs
+
+below-requires : tie.Need-below-requires
+below-requires c κs = search needs
+
+returns : tie.Need-returns
+unfolding statementOf
+returns c =
+    c .below .ensures ∙ lock-new-view (statementOf (c .before .before .before .args .x) none) (tallyOf (c .before .before .before .args .lock)) (tallyOf (c .before .certificate .result)) (c .before .before .if1 .taken) (c .before .certificate .ensures)
+
+returns-2 : tie.Need-returns-2
+unfolding statementOf
+returns-2 c =
+    lock-propose (statementOf (c .before .args .x) none) (tallyOf (c .before .args .lock)) (c .if1 .left)
+
+pub below-lock-spec : {M : Type 1} → statement M
+below-lock-spec = tie.close (tie.spec certificate-requires below-requires returns returns-2)

@@ -1,0 +1,72 @@
+-- `search::conflict_from` meets its contract, the rest of the table deciding. Assumes nothing.
+use mathlib.Core.Path.{_≡_, refl, sym, _∙_, ap}
+use Prim.Native.Nat.{ℕ, _+_, _-_, _≤_}
+use native.Mathlib.Omega.{arith}
+use Rattle.store.specs.Layout.{statementTable, countOf}
+use Rattle.search.proofs.Counts.{long}
+use Rattle.search.proofs.Searches.{find-none, find-here, find-next}
+use mathlib.Core.Option.{none}
+use Rattle.rules.specs.Words.{conflict}
+use Rattle.wire.specs.Meaning.{statementOf}
+use Rattle.store.specs.Decode.{rows, statementAt}
+use Rattle.search.specs.Finds.{findFrom}
+use Rattle.search.proofs.conflict_from.Statement.{statement}
+use Rattle.search.proofs.conflict_from.Tie as tie
+
+abbrev Inv-loop : tie.InvT-loop
+Inv-loop store x start count i₀ i =
+    let f = statementAt store in
+    let p = conflict (statementOf x none) in
+    let n = countOf statementTable store in
+    findFrom p start (rows f start (n - start)) ≡ findFrom p i (rows f i (n - i))
+
+abbrev μ-loop : tie.MeasureT-loop
+μ-loop store x start count i₀ i =
+    count - i
+
+statement-count-requires : tie.Need-statement-count-requires Inv-loop μ-loop
+statement-count-requires c κs =
+    c .before .pre
+
+loop-holds : tie.Need-loop-holds Inv-loop μ-loop
+loop-holds c =
+    refl
+
+conflicts-at-requires : tie.Need-conflicts-at-requires Inv-loop μ-loop
+conflicts-at-requires c κs =
+    (long (c .before .before .before .before .pre), omega arith)
+
+add-i : tie.Need-add-i Inv-loop μ-loop
+add-i c =
+    omega arith
+
+loop-less : tie.Need-loop-less Inv-loop μ-loop
+loop-less c =
+    omega arith
+
+loop-again : tie.Need-loop-again Inv-loop μ-loop
+loop-again c =
+    c .before .before .before .loop .inv ∙ find-next (statementAt (c .before .before .before .before .before .before .args .store .now)) (conflict (statementOf (c .before .before .before .before .before .before .args .x) none)) (countOf statementTable (c .before .before .before .before .before .before .args .store .now)) (c .before .before .before .loop .i) (omega (arith, c .before .before .before .before .statement-count .ensures .0)) (sym (c .before .conflicts-at .ensures) ∙ c .if2 .left)
+
+returns : tie.Need-returns Inv-loop μ-loop
+returns c =
+    sym (c .before .loop .inv ∙ find-none (statementAt (c .before .before .before .before .args .store .now)) (conflict (statementOf (c .before .before .before .before .args .x) none)) (countOf statementTable (c .before .before .before .before .args .store .now)) (c .before .loop .i) (omega (arith, c .before .before .statement-count .ensures .0)))
+
+returns-2 : tie.Need-returns-2 Inv-loop μ-loop
+returns-2 c =
+    sym (c .before .before .before .loop .inv ∙ find-here (statementAt (c .before .before .before .before .before .before .args .store .now)) (conflict (statementOf (c .before .before .before .before .before .before .args .x) none)) (countOf statementTable (c .before .before .before .before .before .before .args .store .now)) (c .before .before .before .loop .i) (omega (arith, c .before .before .before .before .statement-count .ensures .0)) (sym (c .before .conflicts-at .ensures) ∙ c .if2 .taken))
+
+pub conflict-from-spec : {M : Type 1} → statement M
+conflict-from-spec =
+    tie.close
+    (tie.spec
+    Inv-loop
+    μ-loop
+    statement-count-requires
+    loop-holds
+    conflicts-at-requires
+    add-i
+    loop-less
+    loop-again
+    returns
+    returns-2)

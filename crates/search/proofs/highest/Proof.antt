@@ -1,0 +1,80 @@
+-- `search::highest` meets its contract: the highest of what was passed is known. Assumes nothing.
+use mathlib.Core.Path.{_≡_, refl, sym, ap, _∙_}
+use Prim.Native.Nat.{ℕ, _-_, _≤_, _<_}
+use native.Mathlib.Omega.{arith}
+use Rattle.rules.specs.Words as words
+use Rattle.store.specs.Layout.{tallyTable, countOf}
+use Rattle.store.specs.Decode.{rows, tallyAt, tallies, stateOf}
+use Rattle.store.specs.Meaning.{tallyOf}
+use Rattle.store.proofs.Loaded.{loaded-settings, loaded-tallies}
+use Rattle.search.proofs.Counts.{long, few-tallies}
+use Rattle.search.specs.Lookups.{chosen}
+use Rattle.search.proofs.Tops.{from-genesis, highest-none, highest-step, highest-all}
+use Rattle.search.proofs.highest.Statement.{statement}
+use Rattle.search.proofs.highest.Tie as tie
+
+abbrev Inv-loop : tie.InvT-loop
+Inv-loop store view settings best₀ i₀ best i =
+    (i ≤ countOf tallyTable store) × (tallyOf best ≡ words.highest (stateOf store .settings) view (rows (tallyAt store) i (countOf tallyTable store - i)))
+
+abbrev μ-loop : tie.MeasureT-loop
+μ-loop store view settings best₀ i₀ best i =
+    i
+
+load-requires : tie.Need-load-requires Inv-loop μ-loop
+load-requires c κs =
+    long (c .before .pre)
+
+zero-requires : tie.Need-zero-requires Inv-loop μ-loop
+zero-requires c κs =
+    tt
+
+loop-holds : tie.Need-loop-holds Inv-loop μ-loop
+loop-holds c =
+    let e = loaded-tallies (c .before .before .load .result) (c .before .before .before .before .args .store .now) (c .before .before .load .ensures) in
+    (omega (arith, e), from-genesis (stateOf (c .before .before .before .before .args .store .now) .settings) (c .before .before .before .before .args .view) (c .zero .result) (c .zero .ensures) ∙ highest-none (stateOf (c .before .before .before .before .args .store .now) .settings) (c .before .before .before .before .args .view) (tallyAt (c .before .before .before .before .args .store .now)) (countOf tallyTable (c .before .before .before .before .args .store .now)) (c .before .before .load .result .tallies) (omega (arith, e)))
+
+sub-i : tie.Need-sub-i Inv-loop μ-loop
+sub-i c =
+    c .loop-test .taken
+
+tally-at-requires : tie.Need-tally-at-requires Inv-loop μ-loop
+tally-at-requires c κs =
+    (long (c .before .before .before .before .before .before .pre), omega (arith, few-tallies (c .before .before .before .before .before .before .pre)))
+
+better-requires : tie.Need-better-requires Inv-loop μ-loop
+better-requires c κs =
+    tt
+
+loop-less : tie.Need-loop-less Inv-loop μ-loop
+loop-less c =
+    omega arith
+
+loop-again : tie.Need-loop-again Inv-loop μ-loop
+loop-again c =
+    let a = c .before .before .before .before .before .before .before .before .args in
+    let b = a .store .now in
+    let l = c .before .before .before .loop in
+    let g = loaded-settings (c .before .before .before .before .before .before .load .result) b (c .before .before .before .before .before .before .load .ensures) in
+    (omega (arith, l .inv .0), c .better .ensures ∙ (λ k. chosen (g k) (a .view) (c .before .tally-at .ensures k) (l .inv .1 k)) ∙ highest-step (stateOf b .settings) (a .view) (tallyAt b) (countOf tallyTable b) (l .i) (c .before .before .loop-test .taken) (l .inv .0))
+
+returns : tie.Need-returns Inv-loop μ-loop
+unfolding tallies
+returns c =
+    c .before .loop .inv .1 ∙ highest-all (stateOf (c .before .before .before .before .before .before .args .store .now) .settings) (c .before .before .before .before .before .before .args .view) (tallyAt (c .before .before .before .before .before .before .args .store .now)) (countOf tallyTable (c .before .before .before .before .before .before .args .store .now)) (c .before .loop .i) (c .loop-test .left)
+
+pub highest-spec : {M : Type 1} → statement M
+highest-spec =
+    tie.close
+    (tie.spec
+    Inv-loop
+    μ-loop
+    load-requires
+    zero-requires
+    loop-holds
+    sub-i
+    tally-at-requires
+    better-requires
+    loop-less
+    loop-again
+    returns)

@@ -1,0 +1,15 @@
+-- `search::own_block` meets its contract. Assumes nothing.
+use mathlib.Core.Path.{refl}
+use Rattle.rules.specs.Words.{ownBlock}
+use Rattle.wire.specs.Meaning.{statementOf}
+use Rattle.store.specs.Meaning.{tallyOf}
+use Rattle.search.proofs.own_block.Statement.{statement}
+use Rattle.search.proofs.own_block.Tie as tie
+
+returns : tie.Need-returns
+unfolding tallyOf ownBlock statementOf
+returns c =
+    refl
+
+pub own-block-spec : {M : Type 1} → statement M
+own-block-spec = tie.close (tie.spec returns)

@@ -1,0 +1,37 @@
+-- What is looked up, said of the rules' words, with the view or the lock as a number of its own. Assumes nothing.
+use Prim.Native.Nat.{ℕ, suc, _^_, _<_}
+use mathlib.Core.Path.{_≡_}
+use mathlib.Core.Bool.{Bool, true, false, not, _&&_, _||_}
+use mathlib.Core.List.{List}
+use lib.Dec.{ltb, eqb}
+use Rattle.rules.specs.Lists.{any, keep}
+use Rattle.rules.specs.Sizes.{Settings}
+use Rattle.rules.specs.Words.{Statement, Tally, certificate, certified, below, higher}
+
+-- a new-view's link is a view, and a propose is above genesis, so that the certificate's numbers fit their words
+pub record Certifies (x : Statement) : Type 0 where
+  pub view : x .isNewView ≡ true → x .link < 2 ^ 32
+  pub above : x .isNewView ≡ false → 0 < x .height
+
+-- rules' `belowLock`, with the lock alone
+unfoldable pub ranksBelow : Statement → Tally → Bool
+unfolding below certificate
+ranksBelow x lock = x .isNewView && below (certificate x) lock
+
+-- one step of rules' `highest`
+unfoldable pub chosen : Settings → ℕ → Tally → Tally → Tally
+unfolding certified higher
+chosen g v t best = elim (ltb (t .view) v && certified g t && higher t best) [ true ↦ t | false ↦ best ]
+
+-- rules' `isOpened`, of a view
+abbrev pub opens : ℕ → Statement → Bool
+opens v x = x .isNewView && eqb (x .view) v
+
+-- "the name or parent" of a statement
+abbrev pub uses : ℕ → Statement → Bool
+uses b x = eqb b (x .name) || not (x .isNewView) && eqb b (x .link)
+
+-- rules' `current`, of a view
+unfoldable pub ofView : ℕ → List Statement → List Statement
+unfolding keep
+ofView v xs = keep (λ x. eqb (x .view) v) xs
