@@ -12,3 +12,5 @@ pub mod OneForm
 pub mod Writes
 pub mod Changes
 pub mod Searches
+pub mod Joining
+pub mod Sized
