@@ -1,0 +1,5 @@
+pub mod Stores
+pub mod Works
+pub mod Rooms
+pub mod Answers
+pub mod Places

@@ -1,0 +1,184 @@
+-- How many records a rule adds: none for a repeat or a vote, else one for the statement and one for each block without a tally.
+-- Assumes nothing.
+use Prim.Native.Nat.{ℕ, suc, _+_, _-_, _≤_, _<_}
+use mathlib.Core.Path.{_≡_, refl, sym, ap, ap₂, _∙_}
+use mathlib.Core.Bool.{Bool, true, false, _&&_, _||_}
+use mathlib.Core.List.{List, [], _∷_, _++_}
+use native.Mathlib.Omega.{arith}
+use lib.Dec.{leb, ltb, eqb}
+use lib.ListN.{length, length-append}
+use borrow.Author.Tests.{eqb-true, leb-true, ltb-true, ltb-false, ne-eqb, le-leb, lt-leb}
+use Rattle.rules.specs.Limits.{mostStatements, mostTallies}
+use Rattle.rules.specs.Lists.{iff, any, alter}
+use Rattle.rules.specs.Sizes.{Settings, only}
+use Rattle.rules.specs.Words.{Statement, message, sameStatement, Tally, ownBlock, certificate, sameBlock, grown, join, joinCertificate, State}
+use Rattle.rules.specs.Inputs.{saying, withTables, belowLock, noted, votedFor, voting, certificateJoined, stored, statement, tallied}
+use Rattle.rules.specs.Refusals.{hasRoom}
+use Rattle.rules.specs.WellFormed.{talliesThere}
+use Rattle.rules.proofs.Tests.{by-bool, no-bool, eqb-self}
+use Rattle.kept.specs.Parts.{Formed, WellFormed}
+use Rattle.kept.specs.Said.{Sendable}
+use Rattle.kept.proofs.Truths.{and-2, and-6}
+use Rattle.kept.proofs.Lists.{all-mem, any-find, any-cong}
+use Rattle.kept.proofs.Sendable.{newView-parts}
+use Rattle.kept.proofs.Statements.{stated}
+
+-- ---- one tally
+
+block-grown : (t u : Tally) (m : ℕ) → sameBlock t (grown u m) ≡ sameBlock t u
+unfolding sameBlock grown
+block-grown t u m = refl
+
+module _ (t : Tally) where
+  pub there-length : (us : List Tally) → any (sameBlock t) us ≡ true → length (join t us) ≡ length us
+  unfolding any join
+  there-length [] h = no-bool (sym h)
+  there-length (u ∷ us) h = by-bool (sameBlock t u) (λ q. rw (q, join)) (λ q. rw (q, join) (ap suc (there-length us (rw (q, any) at h))))
+
+  pub new-length : (us : List Tally) → any (sameBlock t) us ≡ false → length (join t us) ≡ suc (length us)
+  unfolding any join
+  new-length [] h = refl
+  new-length (u ∷ us) h = by-bool (sameBlock t u) (λ q. no-bool (rw (q, any) at h)) (λ q. rw (q, join) (ap suc (new-length us (rw (q, any) at h))))
+
+  pub join-grows : (us : List Tally) → length us ≤ length (join t us)
+  join-grows us = by-bool (any (sameBlock t) us) (λ q. omega (arith, there-length us q)) (λ q. omega (arith, new-length us q))
+
+  -- other blocks are there as before
+  join-others : (x : Tally) (us : List Tally) → sameBlock x t ≡ false → any (sameBlock x) (join t us) ≡ any (sameBlock x) us
+  unfolding any join
+  join-others x [] n = rw (n, any)
+  join-others x (u ∷ us) n =
+      by-bool (sameBlock t u) (λ q. rw (q, join, any, block-grown x u (t .mask)))
+      (λ q. by-bool (sameBlock x u) (λ r. rw (q, join, r, any)) (λ r. rw (q, join, r, any) (join-others x us n)))
+
+module _ (t : Tally) (us : List Tally) where
+  pub certificate-there : (eqb (t .view) 0 || any (sameBlock t) us) ≡ true → length (joinCertificate t us) ≡ length us
+  unfolding joinCertificate
+  certificate-there h = by-bool (eqb (t .view) 0) (λ q. rw (q, joinCertificate)) (λ q. rw (q, joinCertificate) (there-length t us (rw q at h)))
+
+  certificate-others : (x : Tally) → sameBlock x t ≡ false → any (sameBlock x) (joinCertificate t us) ≡ any (sameBlock x) us
+  unfolding joinCertificate
+  certificate-others x n = by-bool (eqb (t .view) 0) (λ q. rw (q, joinCertificate)) (λ q. rw (q, joinCertificate) (join-others t x us n))
+
+  -- two blocks need what each of them needs
+  pub both-length : (x : Tally) → sameBlock x t ≡ false
+      → length us + length (join x (joinCertificate t us)) ≡ length (joinCertificate t us) + length (join x us)
+  both-length x n =
+      let o = certificate-others x n in
+      by-bool (any (sameBlock x) us)
+      (λ q. omega (arith, there-length x us q, there-length x (joinCertificate t us) (o ∙ q)))
+      (λ q. omega (arith, new-length x us q, new-length x (joinCertificate t us) (o ∙ q)))
+
+-- ---- a statement's two blocks
+
+-- the same statements carry certificates of one block
+module _ (x y : Statement) (e : sameStatement x y ≡ true) where
+  kinds-agree : (a b : Bool) → iff a b ≡ true → a ≡ b
+  unfolding iff
+  kinds-agree true true q = refl
+  kinds-agree true false q = sym q
+  kinds-agree false true q = q
+  kinds-agree false false q = refl
+
+  agree : (x .isNewView ≡ y .isNewView) × (x .view ≡ y .view) × (x .height ≡ y .height) × (x .name ≡ y .name) × (x .link ≡ y .link) × (x .author ≡ y .author)
+  unfolding sameStatement
+  agree =
+      let t = and-6 (iff (x .isNewView) (y .isNewView)) (eqb (x .view) (y .view)) (eqb (x .height) (y .height)) (eqb (x .name) (y .name)) (eqb (x .link) (y .link)) (eqb (x .author) (y .author)) e in
+      (kinds-agree (x .isNewView) (y .isNewView) (t .0), eqb-true _ _ (t .1), eqb-true _ _ (t .2), eqb-true _ _ (t .3), eqb-true _ _ (t .4), eqb-true _ _ (t .5))
+
+  pub same-cong : (z : Statement) → sameStatement x z ≡ sameStatement y z
+  unfolding sameStatement
+  same-cong z = let (k, v, h, n, l, a) = agree in rw (k, v, h, n, l, a)
+
+  same-certificate : (certificate x .view ≡ certificate y .view) × (certificate x .height ≡ certificate y .height) × (certificate x .name ≡ certificate y .name)
+  unfolding certificate
+  same-certificate =
+      let (k, v, h, n, l, a) = agree in
+      by-bool (y .isNewView) (λ q. rw (k, q, certificate) (l, h, n)) (λ q. rw (k, q, certificate) (v, ap (_- 1) h, l))
+
+  certificate-cong : (u : Tally) → sameBlock (certificate x) u ≡ sameBlock (certificate y) u
+  unfolding sameBlock
+  certificate-cong u = let (v, h, n) = same-certificate in rw (v, h, n)
+
+  certificate-held : (ts : List Tally) → (eqb (certificate x .view) 0 || any (sameBlock (certificate x)) ts) ≡ (eqb (certificate y .view) 0 || any (sameBlock (certificate y)) ts)
+  certificate-held ts =
+      ap₂ (λ (v : ℕ) (a : Bool). eqb v 0 || a) (same-certificate .0) (any-cong (sameBlock (certificate x)) (sameBlock (certificate y)) certificate-cong ts)
+
+-- a stored statement's tallies are there
+module _ {s : State} (f : Formed s) (x : Statement) (e : any (sameStatement x) (s .statements) ≡ true) where
+  pub repeat-length : length (joinCertificate (certificate x) (s .tallies)) ≡ length (s .tallies)
+  unfolding talliesThere
+  repeat-length =
+      let (y, m, q) = any-find (sameStatement x) (s .statements) e in
+      let t = and-2 (any (sameBlock (ownBlock y 0)) (s .tallies)) _ (all-mem (talliesThere (s .tallies)) (f .tables .opened) m) in
+      certificate-there (certificate x) (s .tallies) (certificate-held x y q (s .tallies) ∙ t .1)
+
+module _ (g : Settings) (x : Statement) (m : Sendable g (message x)) where
+  -- its own block is another than its certified one
+  pub own-differs : sameBlock (ownBlock x 0) (certificate x) ≡ false
+  unfolding sameBlock ownBlock certificate message
+  own-differs =
+      by-bool (x .isNewView)
+      (λ k.
+      let l = newView-parts g (x .view) (x .height) (x .name) (x .link) (x .mask) (x .author) (rw (k, message) at (m .isAllowed)) .2 in
+      rw (k, certificate, ne-eqb (x .view) (x .link) (λ e. omega arith)))
+      (λ k.
+      let l = stated g x m .parent k .0 in
+      rw (k, certificate, eqb-self (x .view), ne-eqb (x .height) (x .height - 1) (λ e. omega arith)))
+
+pub own-any : (x : Statement) (m : ℕ) (ts : List Tally) → any (sameBlock (ownBlock x m)) ts ≡ any (sameBlock (ownBlock x 0)) ts
+unfolding sameBlock ownBlock
+own-any x m ts = any-cong (sameBlock (ownBlock x m)) (sameBlock (ownBlock x 0)) (λ u. refl) ts
+
+-- ---- room for what a rule adds
+
+pub room-parts : (s : State) → hasRoom s ≡ true → (length (s .statements) ≤ mostStatements) × (length (s .tallies) ≤ mostTallies)
+unfolding hasRoom
+room-parts s e =
+    let t = and-2 (leb (length (s .statements)) mostStatements) (leb (length (s .tallies)) mostTallies) e in
+    (leb-true _ _ (t .0), leb-true _ _ (t .1))
+
+pub room-made : (s : State) → length (s .statements) ≤ mostStatements → length (s .tallies) ≤ mostTallies → hasRoom s ≡ true
+unfolding hasRoom
+room-made s a b = rw (le-leb _ _ a, le-leb _ _ b)
+
+-- room goes by the tables' lengths alone
+room-same : (s t : State) → length (s .statements) ≡ length (t .statements) → length (s .tallies) ≡ length (t .tallies) → hasRoom s ≡ hasRoom t
+unfolding hasRoom
+room-same s t p q = rw (p, q)
+
+pub tallied-room : (s : State) (t : Tally) → length (s .statements) ≤ mostStatements → (n : ℕ) → n ≡ length (joinCertificate t (s .tallies))
+    → leb n mostTallies ≡ hasRoom (tallied t s .now)
+unfolding hasRoom tallied saying withTables
+tallied-room s t l n e = rw (le-leb _ _ l, e)
+
+next-below : (a b : ℕ) → ltb a b ≡ leb (a + 1) b
+next-below a b = by-bool (ltb a b) (λ q. rw (q, le-leb (a + 1) b (omega (arith, ltb-true a b q)))) (λ q. rw (q, lt-leb (a + 1) b (omega (arith, ltb-false a b q))))
+
+pub stored-room : (s : State) (x : Statement) (n : ℕ) → n ≡ length (join (ownBlock x 0) (joinCertificate (certificate x) (s .tallies)))
+    → (ltb (length (s .statements)) mostStatements && leb n mostTallies) ≡ hasRoom (stored x s)
+unfolding hasRoom stored withTables
+stored-room s x n e =
+    ap₂ _&&_ (next-below (length (s .statements)) mostStatements ∙ ap (λ (k : ℕ). leb k mostStatements) (sym (length-append (s .statements) (x ∷ [])))) (ap (λ (k : ℕ). leb k mostTallies) e)
+
+pub repeat-room : {s : State} → WellFormed s → (x : Statement) → any (sameStatement x) (s .statements) ≡ true → true ≡ hasRoom (statement x s .now)
+unfolding statement saying certificateJoined withTables
+repeat-room {s} w x e =
+    let k = repeat-length (w .formed) x e in
+    rw (e, statement)
+    (sym (room-made (certificateJoined x s) (w .fewStatements) (omega (arith, w .fewTallies))))
+
+alter-length : {A : Type 0} (p : A → Bool) (f : A → A) (xs : List A) → length (alter p f xs) ≡ length xs
+unfolding alter
+alter-length p f [] = refl
+alter-length p f (x ∷ xs) = by-bool (p x) (λ q. rw (q, alter)) (λ q. rw (q, alter) (ap suc (alter-length p f xs)))
+
+-- a vote joins a tally that is there
+pub voting-room : (x : Statement) (s : State) → any (sameBlock (ownBlock x 0)) (s .tallies) ≡ true → hasRoom (voting x s .now) ≡ hasRoom s
+unfolding voting saying votedFor withTables
+voting-room x s h =
+    let m = only (s .settings .own) in
+    by-bool (belowLock x s) (λ q. rw (q, voting))
+    (λ q.
+    rw (q, voting)
+    (room-same (votedFor x s) s (alter-length (sameStatement x) (noted (s .clock)) (s .statements)) (there-length (ownBlock x m) (s .tallies) (own-any x m (s .tallies) ∙ h))))

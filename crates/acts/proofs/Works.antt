@@ -1,0 +1,95 @@
+-- Acts put together: what is left and what is said, one after another, by the rules' names. Assumes nothing.
+use Prim.Native.Nat.{ℕ, _+_, _≤_}
+use mathlib.Core.Path.{_≡_, refl, sym, ap, _∙_, subst}
+use mathlib.Core.Bool.{true}
+use mathlib.Core.List.{List, [], _∷_}
+use native.Mathlib.Omega.{arith}
+use lib.ListN.{length}
+use Rattle.rules.specs.Limits.{mostStatements, mostTallies}
+use Rattle.rules.specs.Messages.{Message, Effect, toAll, blameSet, vote, effect, outgoing}
+use Rattle.rules.specs.Words.{Statement, message, State}
+use Rattle.rules.specs.Inputs.{Work, saying, quit}
+use Rattle.wire.specs.Wrote.{Says}
+use Rattle.wire.proofs.Writing.{says-none, says-both, says-one}
+use Rattle.store.specs.Layout.{statementTable, tallyTable, countOf}
+use Rattle.store.specs.Decode.{statementAt, tallyAt, statements, tallies, stateFrom, stateOf, Form, Left}
+use Rattle.store.proofs.Rows.{rows-length}
+use Rattle.store.proofs.Forms.{form-statements, form-tallies}
+use Rattle.kept.specs.Parts as kept
+use Rattle.kept.proofs.WellFormed.{parts, whole}
+use Rattle.kept.proofs.Lengths.{size, weight, bytes, bytes-cons, bytes-none, length-effect, statement-size}
+use Rattle.acts.specs.Works.{Formed, Works}
+
+-- ---- stores
+
+pub count-statements : (b : List ℕ) → length (stateOf b .statements) ≡ countOf statementTable b
+unfolding stateOf stateFrom statements
+count-statements b = rows-length (statementAt b) 0 (countOf statementTable b)
+
+pub count-tallies : (b : List ℕ) → length (stateOf b .tallies) ≡ countOf tallyTable b
+unfolding stateOf stateFrom tallies
+count-tallies b = rows-length (tallyAt b) 0 (countOf tallyTable b)
+
+pub formed-parts : {b : List ℕ} → Formed b → kept.WellFormed (stateOf b)
+formed-parts {b} k = parts (stateOf b) (k .good)
+
+-- what was left has its counts in range, so a formed state makes it formed
+pub left-formed : {b : List ℕ} {s : State} → Left b s → kept.Formed s → Formed b
+left-formed {b} l f =
+    record {
+      form = l .form;
+      good =
+          whole
+          (record {
+            formed = subst kept.Formed (sym (l .is)) f;
+            fewStatements = omega (arith, count-statements b, form-statements b (l .form));
+            fewTallies = omega (arith, count-tallies b, form-tallies b (l .form));
+          });
+    }
+
+-- one change, then another
+pub left-then : {b b′ : List ℕ} {s t : State} (f : State → State) → Left b s → Left b′ (f (stateOf b)) → f s ≡ t → Left b′ t
+left-then f l m e = record { form = m .form; is = m .is ∙ ap f (l .is) ∙ e }
+
+-- ---- words
+
+pub two-bytes : (d e : Effect) → bytes (d ∷ e ∷ []) ≡ weight d + weight e
+two-bytes d e = omega (arith, bytes-cons d (e ∷ []), bytes-cons e [], bytes-none)
+
+pub one-bytes : (e : Effect) → bytes (e ∷ []) ≡ weight e
+one-bytes e = omega (arith, bytes-cons e [], bytes-none)
+
+pub says-two : {o o₁ o₂ : List ℕ} {at r₁ r₂ : ℕ} (d e : Effect) → Says o at (effect d) o₁ r₁ → Says o₁ r₁ (effect e) o₂ r₂ → Says o at (outgoing (d ∷ e ∷ [])) o₂ r₂
+unfolding outgoing
+says-two {o} {o₁} {o₂} {at} {r₁} {r₂} d e p q = says-both o at (effect d) (outgoing (e ∷ [])) o₁ o₂ r₁ r₂ p (says-one o₁ r₁ e o₂ r₂ q)
+
+-- "a statement and a vote", "the pair"
+pub ballot-bytes : (x : Statement) (v h b a : ℕ) → bytes (toAll (message x) ∷ toAll (vote v h b a) ∷ []) ≤ 160
+unfolding weight size
+ballot-bytes x v h b a = omega (arith, two-bytes (toAll (message x)) (toAll (vote v h b a)), statement-size x)
+
+pub pair-bytes : (x y : Statement) → bytes (toAll (message x) ∷ toAll (message y) ∷ []) ≤ 200
+unfolding weight
+pair-bytes x y = omega (arith, two-bytes (toAll (message x)) (toAll (message y)), statement-size x, statement-size y)
+
+pub set-bytes : (v m : ℕ) → length (effect (toAll (blameSet v m))) ≤ 19
+unfolding weight size
+set-bytes v m = omega (arith, length-effect (toAll (blameSet v m)))
+
+-- ---- work
+
+module _ {b′ o o′ : List ℕ} {at r : ℕ} where
+  pub works-is : {v w : Work} → v ≡ w → Works v o at b′ o′ r → Works w o at b′ o′ r
+  works-is e k = subst (λ (w : Work). Works w o at b′ o′ r) e k
+
+  pub works-quit : (s : State) (es : List Effect) → Left b′ (quit [] s .now) → Says o at (outgoing es) o′ r → Works (quit es s) o at b′ o′ r
+  unfolding quit saying
+  works-quit s es l p = record { left = l; says = p }
+
+  pub works-saying : {s : State} (es : List Effect) → Left b′ s → Says o at (outgoing es) o′ r → Works (saying s es) o at b′ o′ r
+  unfolding saying
+  works-saying es l p = record { left = l; says = p }
+
+pub works-none : {b′ : List ℕ} {s : State} (o : List ℕ) (at : ℕ) → Left b′ s → Works (saying s []) o at b′ o at
+unfolding outgoing
+works-none o at l = works-saying [] l (says-none o at)
