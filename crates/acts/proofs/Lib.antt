@@ -2,4 +2,5 @@ pub mod Stores
 pub mod Works
 pub mod Rooms
 pub mod Answers
+pub mod Blames
 pub mod Places

@@ -56,12 +56,12 @@ left-then f l m e = record { form = m .form; is = m .is ∙ ap f (l .is) ∙ e }
 pub two-bytes : (d e : Effect) → bytes (d ∷ e ∷ []) ≡ weight d + weight e
 two-bytes d e = omega (arith, bytes-cons d (e ∷ []), bytes-cons e [], bytes-none)
 
-pub one-bytes : (e : Effect) → bytes (e ∷ []) ≡ weight e
-one-bytes e = omega (arith, bytes-cons e [], bytes-none)
-
 pub says-two : {o o₁ o₂ : List ℕ} {at r₁ r₂ : ℕ} (d e : Effect) → Says o at (effect d) o₁ r₁ → Says o₁ r₁ (effect e) o₂ r₂ → Says o at (outgoing (d ∷ e ∷ [])) o₂ r₂
 unfolding outgoing
 says-two {o} {o₁} {o₂} {at} {r₁} {r₂} d e p q = says-both o at (effect d) (outgoing (e ∷ [])) o₁ o₂ r₁ r₂ p (says-one o₁ r₁ e o₂ r₂ q)
+
+pub two-lengths : (d e : Effect) → length (effect d) + length (effect e) ≡ bytes (d ∷ e ∷ [])
+two-lengths d e = omega (arith, two-bytes d e, length-effect d, length-effect e)
 
 -- "a statement and a vote", "the pair"
 pub ballot-bytes : (x : Statement) (v h b a : ℕ) → bytes (toAll (message x) ∷ toAll (vote v h b a) ∷ []) ≤ 160

@@ -1,12 +1,31 @@
 // What a message does to a well-formed store, and what it writes into the out buffer from a place on.
 ghost use mathlib.Core.Path.{_≡_};
-ghost use mathlib.Core.Bool.{true};
-ghost use Prim.Native.Nat.{_≤_};
-ghost use Rattle.rules.specs.Messages.{viewAllowed};
+ghost use mathlib.Core.Bool.{true, false};
+ghost use mathlib.Core.List.{[], _∷_};
+ghost use mathlib.Core.Option.{none};
+ghost use Prim.Native.Nat.{_+_, _^_, _≤_, _<_};
+ghost use lib.ListN.{length};
+ghost use Rattle.rules.specs.Lists.{any};
+ghost use Rattle.rules.specs.Messages.{viewAllowed, toAll, blameSet, outgoing};
+ghost use Rattle.rules.specs.Words.{message as said, sameStatement, sameBlock, ownBlock, certificate, join, joinCertificate};
 ghost use Rattle.rules.specs.Inputs as inputs;
-ghost use Rattle.store.specs.Decode.{stateOf, Form};
+ghost use Rattle.rules.specs.Refusals.{hasRoom};
+ghost use Rattle.wire.specs.Meaning.{statementOf, messageOf, Writable, Linked};
+ghost use Rattle.wire.specs.Wrote.{Says};
+ghost use Rattle.store.specs.Layout.{tallyTable, countOf};
+ghost use Rattle.store.specs.Decode.{stateOf, tallies, statements, Form, Left};
+ghost use Rattle.store.specs.Meaning.{tallyOf};
+ghost use Rattle.search.specs.Lookups.{Certifies};
+ghost use Rattle.kept.specs.Said.{Sendable};
+ghost use Rattle.acts.specs.Works.{Formed, Works};
+ghost use Rattle.acts.specs.Answers.{answered, Stands};
+use settings::Settings;
+use store::Found;
 use store::Phase;
 use store::Station;
+use store::Tally;
+use wire::Message;
+use wire::Statement;
 
 // Whether the station is in a view.
 pub fn is_in(store: &[u8], view: u32) -> bool
@@ -21,6 +40,24 @@ pub fn is_in(store: &[u8], view: u32) -> bool
     }
 }
 
+// The station quits its view and waits, from the clock on.
+pub fn quit(store: &mut [u8])
+    requires { ⌜ Formed (now store) ⌝ }
+    ensures { λ _. ⌜ Left (now (store .exit)) (inputs.quit [] (stateOf (now (store .entry))) .now) ⌝ }
+{
+    let station = Station::load(store);
+    store::set_phase(store, Phase::Waiting(station.clock));
+}
+
+// Sends two messages to all, one after the other.
+fn send_both(out: &mut [u8], at: usize, first: Message, second: Message) -> usize
+    requires { ⌜ (Writable first) × (Writable second) × (at + length (outgoing (toAll (messageOf first) ∷ toAll (messageOf second) ∷ [])) ≤ length (now out)) ⌝ }
+    ensures { λ r. ⌜ Says (now (out .entry)) at (outgoing (toAll (messageOf first) ∷ toAll (messageOf second) ∷ [])) (now (out .exit)) r ⌝ }
+{
+    let next = wire::to_all(out, at, first);
+    wire::to_all(out, next, second)
+}
+
 // Whether the blame mask of a view is full.
 pub fn blame_full(store: &[u8], view: u32) -> bool
     requires { ⌜ (Form (now store)) × (viewAllowed view ≡ true) ⌝ }
@@ -30,4 +67,68 @@ pub fn blame_full(store: &[u8], view: u32) -> bool
     let settings = station.settings;
     let mask = store::blame_at(store, view as usize - 1);
     settings.quorum(mask as u64)
+}
+
+// Sends the blame set of a view, the mask now held, and quits.
+pub fn quit_with_set(store: &mut [u8], out: &mut [u8], at: usize, view: u32) -> usize
+    requires { ⌜ (Formed (now store)) × (viewAllowed view ≡ true) × (at + 19 ≤ length (now out)) ⌝ }
+    ensures { λ r. ⌜ Works (inputs.quit (toAll (blameSet view (inputs.blamesOf view (stateOf (now (store .entry))))) ∷ []) (stateOf (now (store .entry)))) (now (out .entry)) at (now (store .exit)) (now (out .exit)) r ⌝ }
+{
+    let mask = store::blame_at(store, view as usize - 1);
+    quit(store);
+    wire::to_all(out, at, Message::BlameSet { view, mask })
+}
+
+// A mask joins the blames of a view; at f+1, while the station is in that view, it sends the set and quits.
+pub fn blaming(store: &mut [u8], out: &mut [u8], at: usize, view: u32, mask: u16) -> usize
+    requires { ⌜ (Formed (now store)) × (viewAllowed view ≡ true) × (mask < 2 ^ (stateOf (now store) .settings .n)) × (at + 19 ≤ length (now out)) ⌝ }
+    ensures { λ r. ⌜ Works (inputs.blaming view mask (stateOf (now (store .entry)))) (now (out .entry)) at (now (store .exit)) (now (out .exit)) r ⌝ }
+{
+    store::join_blame(store, view, mask);
+    if !is_in(store, view) {
+        return at;
+    }
+    if !blame_full(store, view) {
+        return at;
+    }
+    quit_with_set(store, out, at, view)
+}
+
+// How many records a block's tally needs: none where it is there.
+fn missing(store: &[u8], tally: Tally) -> usize
+    requires { ⌜ Form (now store) ⌝ }
+    ensures { λ r. ⌜ (countOf tallyTable (now (store .entry)) + r ≡ length (join (tallyOf tally) (tallies (now (store .entry))))) × (r ≤ 1) ⌝ }
+{
+    match store::find_tally(store, tally) {
+        Found::At(_) => 0,
+        Found::Nothing => 1,
+    }
+}
+
+// The same of a certificate: genesis needs none in view 0.
+fn certificate_missing(store: &[u8], tally: Tally) -> usize
+    requires { ⌜ Form (now store) ⌝ }
+    ensures { λ r. ⌜ (countOf tallyTable (now (store .entry)) + r ≡ length (joinCertificate (tallyOf tally) (tallies (now (store .entry))))) × (r ≤ 1) ⌝ }
+{
+    if tally.view == 0 {
+        return 0;
+    }
+    missing(store, tally)
+}
+
+// Whether a vote or a status fits.
+pub fn tally_fits(store: &[u8], tally: Tally) -> bool
+    requires { ⌜ Form (now store) ⌝ }
+    ensures { λ r. ⌜ r ≡ hasRoom (inputs.tallied (tallyOf tally) (stateOf (now (store .entry))) .now) ⌝ }
+{
+    let station = Station::load(store);
+    station.tallies + certificate_missing(store, tally) <= Settings::MOST_TALLIES
+}
+
+// A vote or a status joins its tally.
+pub fn tallied(store: &mut [u8], tally: Tally)
+    requires { ⌜ (Form (now store)) × (hasRoom (inputs.tallied (tallyOf tally) (stateOf (now store)) .now) ≡ true) ⌝ }
+    ensures { λ _. ⌜ Left (now (store .exit)) (inputs.tallied (tallyOf tally) (stateOf (now (store .entry))) .now) ⌝ }
+{
+    store::join_certificate(store, tally);
 }
