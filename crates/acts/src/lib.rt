@@ -176,16 +176,14 @@ pub fn statement_fits(store: &[u8], x: Statement) -> bool
     requires { ⌜ (Formed (now store)) × (Sendable (stateOf (now store) .settings) (said (statementOf x none))) ⌝ }
     ensures { λ r. ⌜ r ≡ hasRoom (inputs.statement (statementOf x none) (stateOf (now (store .entry))) .now) ⌝ }
 {
-    match store::find_statement(store, x) {
-        Found::At(_) => true,
-        Found::Nothing => {
-            let station = Station::load(store);
-            let certified = certificate_missing(store, search::certificate(x));
-            let needed = certified + missing(store, search::own_block(x, 0));
-            (station.statements < Settings::MOST_STATEMENTS)
-                & (station.tallies + needed <= Settings::MOST_TALLIES)
-        }
-    }
+    let Found::Nothing = store::find_statement(store, x) else {
+        return true;
+    };
+    let station = Station::load(store);
+    let certified = certificate_missing(store, search::certificate(x));
+    let needed = certified + missing(store, search::own_block(x, 0));
+    (station.statements < Settings::MOST_STATEMENTS)
+        & (station.tallies + needed <= Settings::MOST_TALLIES)
 }
 
 // A new statement is stored, and the tallies of its two blocks are opened.

@@ -23,6 +23,10 @@ enum-told c = search needs
 enum-told-2 : tie.Need-enum-told-2
 enum-told-2 c = search needs
 
+returns : tie.Need-returns
+returns c =
+    repeat-room (formed-parts (c .before .before .before .before .pre .0)) (statementOf (c .before .before .before .before .args .x) none) (is-repeat (c .before .before .before .before .args .store .now) (statementOf (c .before .before .before .before .args .x) none) (c .before .before .find-statement .result) (c .before .before .find-statement .ensures) _ (c .enum-told2 .given .1))
+
 load-requires : tie.Need-load-requires
 load-requires c κs =
     form-long _ (c .before .before .before .before .pre .0 .form)
@@ -47,15 +51,11 @@ add-result : tie.Need-add-result
 add-result c =
     omega (arith, loaded-tallies (c .before .before .before .before .before .before .load .result) (c .before .before .before .before .before .before .before .before .before .before .before .args .store .now) (c .before .before .before .before .before .before .load .ensures), form-tallies _ (c .before .before .before .before .before .before .before .before .before .before .before .pre .0 .form), c .before .before .missing .ensures .1, c .before .before .before .before .certificate-missing .ensures .1)
 
-returns : tie.Need-returns
-returns c =
-    repeat-room (formed-parts (c .before .before .before .before .pre .0)) (statementOf (c .before .before .before .before .args .x) none) (is-repeat (c .before .before .before .before .args .store .now) (statementOf (c .before .before .before .before .args .x) none) (c .before .before .find-statement .result) (c .before .before .find-statement .ensures) _ (c .enum-told .given .1))
-
 returns-2 : tie.Need-returns-2
 returns-2 c =
     let b = c .before .before .before .before .before .before .before .before .before .before .before .args .store .now in
     let x = statementOf (c .before .before .before .before .before .before .before .before .before .before .before .args .x) none in
-    new-fits b x (c .before .before .before .before .before .before .before .before .before .before .before .pre .1) (is-new b x (c .before .before .before .before .before .before .before .before .before .find-statement .result) (c .before .before .before .before .before .before .before .before .before .find-statement .ensures) (c .before .before .before .before .before .before .before .enum-told2 .given .1)) (tallyOf (c .before .before .before .before .before .certificate .result)) (tallyOf (c .before .before .before .own-block .result)) (c .before .before .before .before .before .before .load .result .statements) (c .before .before .before .before .before .before .load .result .tallies) (c .before .before .before .before .certificate-missing .result) (c .before .before .missing .result)
+    new-fits b x (c .before .before .before .before .before .before .before .before .before .before .before .pre .1) (is-new b x (c .before .before .before .before .before .before .before .before .before .find-statement .result) (c .before .before .before .before .before .before .before .before .before .find-statement .ensures) (c .before .before .before .before .before .before .before .enum-told .given .1)) (tallyOf (c .before .before .before .before .before .certificate .result)) (tallyOf (c .before .before .before .own-block .result)) (c .before .before .before .before .before .before .load .result .statements) (c .before .before .before .before .before .before .load .result .tallies) (c .before .before .before .before .certificate-missing .result) (c .before .before .missing .result)
     (c .before .before .before .before .before .certificate .ensures) (c .before .before .before .own-block .ensures) (loaded-statements (c .before .before .before .before .before .before .load .result) b (c .before .before .before .before .before .before .load .ensures)) (loaded-tallies (c .before .before .before .before .before .before .load .result) b (c .before .before .before .before .before .before .load .ensures)) (c .before .before .before .before .certificate-missing .ensures .0) (c .before .before .missing .ensures .0)
 
 pub statement-fits-spec : {M : Type 1} → statement M
@@ -65,6 +65,7 @@ statement-fits-spec =
     find-statement-requires
     enum-told
     enum-told-2
+    returns
     load-requires
     certificate-requires
     certificate-missing-requires
@@ -72,5 +73,4 @@ statement-fits-spec =
     missing-requires
     add-needed
     add-result
-    returns
     returns-2)
