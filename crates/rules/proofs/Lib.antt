@@ -6,3 +6,5 @@ pub mod ReadBack
 pub mod Truths
 pub mod Searches
 pub mod Statements
+pub mod Tallies
+pub mod Moves
