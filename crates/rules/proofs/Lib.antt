@@ -8,3 +8,4 @@ pub mod Searches
 pub mod Statements
 pub mod Tallies
 pub mod Moves
+pub mod Kept
