@@ -9,3 +9,4 @@ pub mod Statements
 pub mod Tallies
 pub mod Moves
 pub mod Kept
+pub mod Orderly
