@@ -10,3 +10,4 @@ pub mod Tallies
 pub mod Moves
 pub mod Kept
 pub mod Orderly
+pub mod Held
