@@ -11,3 +11,4 @@ pub mod Moves
 pub mod Kept
 pub mod Orderly
 pub mod Held
+pub mod Votes
