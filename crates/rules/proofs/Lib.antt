@@ -12,3 +12,4 @@ pub mod Kept
 pub mod Orderly
 pub mod Held
 pub mod Votes
+pub mod Locks
