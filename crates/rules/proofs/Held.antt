@@ -19,7 +19,7 @@ use Rattle.rules.proofs.Truths.{and-true}
 use Rattle.rules.proofs.Searches.{All, all-append, all-map, all-of, to-all, mem-keep, first-mem}
 use Rattle.rules.proofs.Statements.{like, same-refl, In, mem-in, in-cong, in-append, in-last, in-noted, pair-some, mem-order}
 use Rattle.rules.proofs.Tallies.{only-bit, same-block, voters-joined}
-use Rattle.rules.proofs.Moves.{arrived, fillsNow, Move, joins, stores, passes, casts, clashes, accuses, fills, complains, logs, entersFull, entersPair, enters, Moves, here, more, voting-low, voting-high}
+use Rattle.rules.proofs.Moves.{Outside, arrived, fillsNow, Move, joins, stores, passes, casts, clashes, accuses, fills, complains, logs, entersFull, entersPair, enters, Moves, here, more, voting-low, voting-high}
 use Rattle.rules.proofs.Kept.{in-true, blamed-here, quorum-right, moves-fixed, Kept, move-kept, moves-kept, voted-kept, votingAll-kept}
 
 -- a block in a view
@@ -175,7 +175,7 @@ reports-all P h (b ∷ bs) f = (f h b, reports-all P (suc h) bs f)
 current-in : (v : ℕ) (xs : List Statement) (x : Statement) → List·Memᴰ x (keep (λ y. eqb (y .view) v) xs) → In xs x
 current-in v xs x m = mem-in xs x (mem-keep (λ (y : Statement). eqb (y .view) v) xs x m .0)
 
-move-said : {R : Message → Type 0} (s t : State) (o : List Effect) → Move R s t o → (length (s .blames) ≡ suc lastView) → (s .view ≤ lastView) → All (HeldSaid (s .settings) t) o
+move-said : {R : Outside} (s t : State) (o : List Effect) → Move R s t o → (length (s .blames) ≡ suc lastView) → (s .view ≤ lastView) → All (HeldSaid (s .settings) t) o
 unfolding withTables withPhase withBlames withLog entering stored votedFor ballot blamed blamesOf blameFull current
 move-said s t o (joins m u g c) l w = tt
 move-said s t o (stores x g f) l w = tt
@@ -200,7 +200,7 @@ move-said s t o (enters e c f) l w =
     all-append (HeldSaid (s .settings) t) (report s) _ (report-all (HeldSaid (s .settings) t) s (λ i m. tt))
     (votingAll-said (s .settings) ys a (to-all (In (s .statements)) ys (λ x m. mem-in (s .statements) x (mem-order a x m .0))))
 
-pub moves-said : {R : Message → Type 0} (s t : State) (o : List Effect) → Moves R s t o → (length (s .blames) ≡ suc lastView) → (t .view ≤ lastView) → All (HeldSaid (s .settings) t) o
+pub moves-said : {R : Outside} (s t : State) (o : List Effect) → Moves R s t o → (length (s .blames) ≡ suc lastView) → (t .view ≤ lastView) → All (HeldSaid (s .settings) t) o
 moves-said s t o here l w = tt
 moves-said s t o (more {t = u} {o = p} {p = q} a b) l w =
     let k = moves-kept a in

@@ -24,7 +24,7 @@ use Rattle.rules.proofs.Searches.{first-kept, first-any}
 use Rattle.rules.proofs.Masks.{quorum-joined}
 use Rattle.rules.proofs.Statements.{same-sym, in-cong, in-append, in-noted, first-noted, first-other, In, Once, once-append, once-noted}
 use Rattle.rules.proofs.Tallies.{count-quorum, voters-join, voters-certificate}
-use Rattle.rules.proofs.Moves.{arrived, fillsNow, Move, joins, stores, passes, casts, clashes, accuses, fills, complains, logs, entersFull, entersPair, enters, Moves, here, more, voting-low, voting-high, arrive-full, arrive-pair, arrive-clean}
+use Rattle.rules.proofs.Moves.{Outside, arrived, fillsNow, Move, joins, stores, passes, casts, clashes, accuses, fills, complains, logs, entersFull, entersPair, enters, Moves, here, more, voting-low, voting-high, arrive-full, arrive-pair, arrive-clean}
 
 -- ---- phases
 
@@ -115,7 +115,7 @@ votingAll-fixed (y ∷ ys) s =
 abbrev ballots : State → State
 ballots s = votingAll (inOrder (current (arrived s))) (arrived s) .now
 
-module _ {R : Message → Type 0} where
+module _ {R : Outside} where
   pub move-fixed : {s t : State} {o : List Effect} → Move R s t o → Fixed s t
   unfolding withTables withPhase withBlames withLog entering stored votedFor blamed
   move-fixed (joins m u g c) = (refl, refl)
@@ -208,7 +208,7 @@ phase-kept : {s t : State} (p : Phase) → Kept s t → ((q : ℕ) → s .phase 
 unfolding withPhase blamesOf
 phase-kept p k w = record { has = k .has; full = k .full; length = k .length; bits = k .bits; view = k .view; waits = w }
 
-module _ {R : Message → Type 0} where
+module _ {R : Outside} where
   pub move-kept : (s t : State) (o : List Effect) → Move R s t o → Kept s t
   unfolding withTables withLog entering isIn blamed withBlames blamesOf
   move-kept s t o (joins m u g c) =
@@ -243,7 +243,7 @@ VoteKept s t =
     (x z : Statement) (c : ℕ) → first (sameStatement x) (s .statements) ≡ some z → z .voted ≡ some c → t .view ≡ s .view
     → (y : Statement) × (first (sameStatement x) (t .statements) ≡ some y) × (y .voted ≡ some c)
 
-module _ {R : Message → Type 0} where
+module _ {R : Outside} where
   move-vote : (s t : State) (o : List Effect) → Move R s t o → VoteKept s t
   unfolding withTables withPhase withBlames withLog entering stored votedFor blamed
   move-vote s t o (joins m u g k) x z c f e v = (z, f, e)

@@ -13,3 +13,4 @@ pub mod Orderly
 pub mod Held
 pub mod Votes
 pub mod Locks
+pub mod Allowed

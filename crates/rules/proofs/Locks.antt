@@ -10,14 +10,14 @@ use Rattle.rules.specs.Messages.{Message, Effect}
 use Rattle.rules.specs.Words.{Tally, voters, highest, State}
 use Rattle.rules.specs.Inputs.{withPhase, withTables, withBlames, withLog, entering, votedFor, stored, blamed, nextLock, current, inOrder}
 use Rattle.rules.proofs.Tallies.{Above, sound-quorum, count-quorum, highest-above}
-use Rattle.rules.proofs.Moves.{arrived, Move, joins, stores, passes, casts, clashes, accuses, fills, complains, logs, entersFull, entersPair, enters, Moves, here, more}
+use Rattle.rules.proofs.Moves.{Outside, arrived, Move, joins, stores, passes, casts, clashes, accuses, fills, complains, logs, entersFull, entersPair, enters, Moves, here, more}
 use Rattle.rules.proofs.Kept.{move-fixed, move-kept, votingAll-fixed}
 
 -- the lock stays with the view, or it is the highest certificate as the next is entered
 abbrev Locking : State → State → Type 0
 Locking s t = ((t .lock ≡ s .lock) × (t .view ≡ s .view)) ⊎ ((t .lock ≡ nextLock s) × (t .view ≡ s .view + 1))
 
-move-lock : {R : Message → Type 0} (s t : State) (o : List Effect) → Move R s t o → Locking s t
+move-lock : {R : Outside} (s t : State) (o : List Effect) → Move R s t o → Locking s t
 unfolding withTables withPhase withBlames withLog entering stored votedFor blamed
 move-lock s t o (joins m u g c) = inl (refl, refl)
 move-lock s t o (stores x g f) = inl (refl, refl)
@@ -40,7 +40,7 @@ module _ (n faulty : ℕ) (most : n ≤ maskBits) (odd : n % 2 ≡ 1) (few : cou
   abbrev pub Locked : State → Type 0
   Locked s = b .view < s .view → Above (s .lock) b
 
-  move-all : {R : Message → Type 0} (s t : State) (o : List Effect) → Move R s t o → HasAll s → HasAll t
+  move-all : {R : Outside} (s t : State) (o : List Effect) → Move R s t o → HasAll s → HasAll t
   move-all s t o m q = (ap (λ (g : Settings). g .n) (move-fixed m .0) ∙ q .0, λ i l f. move-kept s t o m .bits b i (q .1 i l f))
 
   next-lock : (s : State) → HasAll s → b .view < s .view + 1 → Above (nextLock s) b
@@ -49,14 +49,14 @@ module _ (n faulty : ℕ) (most : n ≤ maskBits) (odd : n % 2 ≡ 1) (few : cou
       let h = sound-quorum n (voters b (s .tallies)) faulty most odd few (q .1) in
       highest-above (s .settings) (s .view + 1) b (s .tallies) l (count-quorum (s .settings) (voters b (s .tallies)) (rw (q .0) h))
 
-  move-locked : {R : Message → Type 0} (s t : State) (o : List Effect) → Move R s t o → HasAll s → Locked s → Locked t
+  move-locked : {R : Outside} (s t : State) (o : List Effect) → Move R s t o → HasAll s → Locked s → Locked t
   move-locked s t o m q k l = go (move-lock s t o m)
     where
       go : Locking s t → Above (t .lock) b
       go (inl (e, v)) = rw e (k (omega arith))
       go (inr (e, v)) = rw e (next-lock s q (omega arith))
 
-  pub moves-locked : {R : Message → Type 0} (s t : State) (o : List Effect) → Moves R s t o → HasAll s → Locked s → HasAll t × Locked t
+  pub moves-locked : {R : Outside} (s t : State) (o : List Effect) → Moves R s t o → HasAll s → Locked s → HasAll t × Locked t
   moves-locked s t o here q k = (q, k)
   moves-locked s t o (more {t = u} {o = p} {p = r} a m) q k =
       let i = moves-locked s u p a q k in (move-all u t r m (i .0), move-locked u t r m (i .0) (i .1))

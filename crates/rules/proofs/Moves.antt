@@ -16,12 +16,17 @@ use Rattle.rules.specs.Inputs.{Work, saying, _▸_, withPhase, withClock
 use Rattle.rules.specs.Refusals.{Outcome, hasRoom, ifRoom, running, step, offer, tick}
 use Rattle.rules.proofs.Tests.{by-bool, by-option, no-bool}
 
+-- what is known of what comes from outside: of a message handed over, of a name offered and the message it makes
+pub record Outside : Type 1 where
+  pub given : Message → Type 0
+  pub offers : ℕ → Message → Type 0
+
 -- where a message that a station handles comes from: it is handed over and allowed, it is the leader's own new-view, or an offer
--- makes it. R says what is known of messages from outside.
-pub data Origin (R : Message → Type 0) (s : State) : Message → Type 0 where
-  handed : {m : Message} → R m → allowed (s .settings) m ≡ true → Origin R s m
+-- makes it
+pub data Origin (R : Outside) (s : State) : Message → Type 0 where
+  handed : {m : Message} → R .given m → allowed (s .settings) m ≡ true → Origin R s m
   led : leadsNow s ≡ true → Origin R s (ownNewView s)
-  made : {m : Message} → R m → (b : ℕ) → offered b s ≡ some m → Origin R s m
+  made : {m : Message} (b : ℕ) → R .offers b m → offered b s ≡ some m → Origin R s m
 
 -- the certificate of a statement or a status, or the vote, as a tally
 unfoldable pub carried : Message → Option Tally
@@ -34,13 +39,13 @@ carried (blameSet v m) = none
 carried (status h b c m) = some (record { view = c; height = h; name = b; mask = m })
 
 -- whose blame of view v is joined: of a blame, of a set, or the own
-pub data Accused (R : Message → Type 0) (s : State) : ℕ → ℕ → Type 0 where
+pub data Accused (R : Outside) (s : State) : ℕ → ℕ → Type 0 where
   named : (v a : ℕ) → Origin R s (blame v a) → Accused R s v (only a)
   listed : (v m : ℕ) → Origin R s (blameSet v m) → Accused R s v m
   own : overdue s ≡ true → Accused R s (s .view) (only (s .settings .own))
 
 -- x is handled, and is new
-abbrev pub New : (Message → Type 0) → State → Statement → Type 0
+abbrev pub New : Outside → State → Statement → Type 0
 New R s x = Origin R s (message x) × (x .voted ≡ none) × (any (sameStatement x) (s .statements) ≡ false)
 
 abbrev pub fillsNow : ℕ → ℕ → State → Bool
@@ -50,7 +55,7 @@ fillsNow v m s = isIn v (blamed v m s) && blameFull v (blamed v m s)
 abbrev pub arrived : State → State
 arrived s = entering (s .view + 1) (nextLock s) s
 
-pub data Move (R : Message → Type 0) (s : State) : State → List Effect → Type 0 where
+pub data Move (R : Outside) (s : State) : State → List Effect → Type 0 where
   joins : (m : Message) (t : Tally) → Origin R s m → carried m ≡ some t
       → Move R s (withTables (s .statements) (joinCertificate t (s .tallies)) s) []
   stores : (x : Statement) → New R s x → isIn (x .view) s ≡ false → Move R s (stored x s) []
@@ -73,11 +78,11 @@ pub data Move (R : Message → Type 0) (s : State) : State → List Effect → T
   enters : entersNow s ≡ true → blameFull (s .view + 1) s ≡ false → pair (current (arrived s)) ≡ none
       → Move R s (votingAll (inOrder (current (arrived s))) (arrived s) .now) (report s ++ votingAll (inOrder (current (arrived s))) (arrived s) .out)
 
-pub data Moves (R : Message → Type 0) (s : State) : State → List Effect → Type 0 where
+pub data Moves (R : Outside) (s : State) : State → List Effect → Type 0 where
   here : Moves R s s []
   more : {t u : State} {o p : List Effect} → Moves R s t o → Move R t u p → Moves R s u (o ++ p)
 
-module _ {R : Message → Type 0} where
+module _ {R : Outside} where
   one : {s t : State} {o : List Effect} → Move R s t o → Moves R s t o
   one c = more here c
 
@@ -121,7 +126,7 @@ pub carried-certificate : (x : Statement) → carried (message x) ≡ some (cert
 unfolding carried message certificate
 carried-certificate x = by-bool (x .isNewView) (λ e. rw e refl) (λ e. rw e refl)
 
-module _ (R : Message → Type 0) where
+module _ (R : Outside) where
   -- a rule, as a chain of moves
   abbrev pub Does : State → Work → Type 0
   Does s w = Moves R s (w .now) (w .out)
@@ -197,7 +202,7 @@ module _ (R : Message → Type 0) where
   unfolding ifRoom running
   room-moves s t w p = by-bool (hasRoom (w .now)) (λ q. rw (q, ifRoom) (λ _. p)) (λ q. rw (q, ifRoom) (λ e. no-bool (sym e)))
 
-  pub step-moves : (bs : List ℕ) (s : State) → ((m : Message) → read bs ≡ some m → R m) → Ran s (step bs s)
+  pub step-moves : (bs : List ℕ) (s : State) → ((m : Message) → read bs ≡ some m → R .given m) → Ran s (step bs s)
   unfolding step
   step-moves bs s f =
       by-bool (running s)
@@ -207,13 +212,13 @@ module _ (R : Message → Type 0) where
       (λ a. rw (r, q, a, step) (λ _. here)))
       (λ r. rw (r, step) (λ _. here))
 
-  pub offer-moves : (b : ℕ) (s : State) → ((m : Message) → offered b s ≡ some m → R m) → Ran s (offer b s)
+  pub offer-moves : (b : ℕ) (s : State) → ((m : Message) → offered b s ≡ some m → R .offers b m) → Ran s (offer b s)
   unfolding offer
   offer-moves b s f =
       by-bool (running s)
       (λ r.
       by-option (offered b s) (λ q. rw (r, q, offer) (λ _. here))
-      (λ m q. rw (r, q, offer) (room-moves s s (handled m s) (handled-moves m s (made (f m q) b q)))))
+      (λ m q. rw (r, q, offer) (room-moves s s (handled m s) (handled-moves m s (made b (f m q) q)))))
       (λ r. rw (r, offer) (λ _. here))
 
   pub tick-moves : (s : State) → Ran (withClock (s .clock + 1) s) (tick s)

@@ -20,7 +20,7 @@ use Rattle.rules.proofs.Truths.{and-true, and-false}
 use Rattle.rules.proofs.Searches.{first-any, first-append, All, all-split, mem-keep}
 use Rattle.rules.proofs.Statements.{like, same-like, same-self, same-sym, same-cong, conflict-sym, conflict-view, In, in-keep, in-order, in-noted, first-noted, first-other, Clean, clean-append, clean-view, pair-some}
 use Rattle.rules.proofs.Tallies.{no-quorum}
-use Rattle.rules.proofs.Moves.{arrived, fillsNow, Move, joins, stores, passes, casts, clashes, accuses, fills, complains, logs, entersFull, entersPair, enters, Moves, here, more, voting-low, voting-high}
+use Rattle.rules.proofs.Moves.{Outside, arrived, fillsNow, Move, joins, stores, passes, casts, clashes, accuses, fills, complains, logs, entersFull, entersPair, enters, Moves, here, more, voting-low, voting-high}
 use Rattle.rules.proofs.Kept.{no-phase, waiting-clock, in-true, true-in, enters-at, blamed-cases, move-fixed, moves-fixed}
 
 pair-view : (v : ℕ) (xs : List Statement) (p : Statement × Statement) → pair (keep (λ y. eqb (y .view) v) xs) ≡ some p → p .0 .view ≡ v
@@ -258,7 +258,7 @@ module _ (S : ℕ → Effect → Type 0) where
         order = omega arith;
       })
 
-  pub move-orderly : {R : Message → Type 0} (s t : State) (o : List Effect) → Move R s t o → All (S (s .clock)) o → Orderly s → Orderly t
+  pub move-orderly : {R : Outside} (s t : State) (o : List Effect) → Move R s t o → All (S (s .clock)) o → Orderly s → Orderly t
   unfolding withTables withPhase withBlames withLog entering stored votedFor blamed blameFull blamesOf belowLock current
   move-orderly s t o (joins m u g c) h i = record { clean = i .clean; calm = i .calm; votes = i .votes; quits = i .quits; past = i .past; order = i .order }
   move-orderly s t o (stores x g f) h i =
@@ -309,7 +309,7 @@ module _ (S : ℕ → Effect → Type 0) where
       quitting (arrived s) (past-on s i e) (omega arith) (two (p .0) (p .1) (k .0) (pair-view (s .view + 1) (s .statements) p f) (r .0) (r .1 .0))
   move-orderly s t o (enters e c f) h i = entering-orderly s i e c f (all-split (S (s .clock)) (report s) _ h .1)
 
-  pub moves-orderly : {R : Message → Type 0} (s t : State) (o : List Effect) → Moves R s t o → All (S (s .clock)) o → Orderly s → Orderly t
+  pub moves-orderly : {R : Outside} (s t : State) (o : List Effect) → Moves R s t o → All (S (s .clock)) o → Orderly s → Orderly t
   moves-orderly s t o here h i = i
   moves-orderly s t o (more {t = u} {o = p} {p = q} a b) h i =
       let r = all-split (S (s .clock)) p q h in

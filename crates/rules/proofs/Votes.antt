@@ -11,7 +11,7 @@ use Rattle.rules.proofs.Tests.{by-bool}
 use Rattle.rules.proofs.Truths.{and-false}
 use Rattle.rules.proofs.Searches.{All, all-append, all-split, all-map, to-all}
 use Rattle.rules.proofs.Statements.{In, mem-in, in-last, in-noted, mem-order}
-use Rattle.rules.proofs.Moves.{arrived, Move, joins, stores, passes, casts, clashes, accuses, fills, complains, logs, entersFull, entersPair, enters, Moves, here, more, voting-low, voting-high}
+use Rattle.rules.proofs.Moves.{Outside, arrived, Move, joins, stores, passes, casts, clashes, accuses, fills, complains, logs, entersFull, entersPair, enters, Moves, here, more, voting-low, voting-high}
 use Rattle.rules.proofs.Kept.{in-true, moves-fixed, votingAll-fixed, voted-kept, votingAll-kept}
 use Rattle.rules.proofs.Orderly.{Orderly, move-orderly, moves-orderly}
 use Rattle.rules.proofs.Held.{report-all, reports-all}
@@ -78,7 +78,7 @@ module _ (S : ℕ → Effect → Type 0) where
         lock = λ e. rw (k .3) (not-low y s l e);
       }, votingAll-stands ys t p (all-map (λ x. In (s .statements) x × (x .view ≡ s .view)) (λ x. In (t .statements) x × (x .view ≡ t .view)) (λ x r. (voted-kept y s .has x (r .0), r .1)) ys (a .1)) (o .1 .1)))))
 
-  move-stands : {R : Message → Type 0} (s t : State) (o : List Effect) → Move R s t o → All (S (s .clock)) o → All (StandsSaid t) o
+  move-stands : {R : Outside} (s t : State) (o : List Effect) → Move R s t o → All (S (s .clock)) o → All (StandsSaid t) o
   unfolding withTables withPhase withBlames withLog entering stored votedFor ballot blamed
   move-stands s t o (joins m u g c) h = tt
   move-stands s t o (stores x g f) h = tt
@@ -113,7 +113,7 @@ module _ (S : ℕ → Effect → Type 0) where
 
   -- ---- a vote within a chain of moves from s to t: the state in which it stands, and the chain before and after
 
-  pub record Cast (R : Message → Type 0) (s t : State) (v h b : ℕ) : Type 0 where
+  pub record Cast (R : Outside) (s t : State) (v h b : ℕ) : Type 0 where
     pub at : State
     pub said : List Effect
     pub later : List Effect
@@ -122,7 +122,7 @@ module _ (S : ℕ → Effect → Type 0) where
     pub orderly : Orderly S at
     pub stands : Stands at v h b
 
-  abbrev CastIn : (Message → Type 0) → State → State → Message → Type 0
+  abbrev CastIn : Outside → State → State → Message → Type 0
   CastIn R s t (newView v h b c m a) = Unit {0}
   CastIn R s t (propose v h b p m a) = Unit {0}
   CastIn R s t (vote v h b a) = Cast R s t v h b
@@ -130,12 +130,12 @@ module _ (S : ℕ → Effect → Type 0) where
   CastIn R s t (blameSet v m) = Unit {0}
   CastIn R s t (status h b c m) = Unit {0}
 
-  abbrev pub CastSaid : (Message → Type 0) → State → State → Effect → Type 0
+  abbrev pub CastSaid : Outside → State → State → Effect → Type 0
   CastSaid R s t (toAll m) = CastIn R s t m
   CastSaid R s t (toOne i m) = Unit {0}
   CastSaid R s t (committed h b) = Unit {0}
 
-  cast-on : (R : Message → Type 0) (s : State) {t u : State} {o : List Effect} → Move R t u o → (e : Effect) → CastSaid R s t e → CastSaid R s u e
+  cast-on : (R : Outside) (s : State) {t u : State} {o : List Effect} → Move R t u o → (e : Effect) → CastSaid R s t e → CastSaid R s u e
   cast-on R s k (toAll (newView v h b c m a)) x = tt
   cast-on R s k (toAll (propose v h b p m a)) x = tt
   cast-on R s {o = o} k (toAll (vote v h b a)) x =
@@ -146,7 +146,7 @@ module _ (S : ℕ → Effect → Type 0) where
   cast-on R s k (toOne i m) x = tt
   cast-on R s k (committed h b) x = tt
 
-  stands-cast : {R : Message → Type 0} (s t : State) (o : List Effect) → Moves R s t o → Orderly S t → (e : Effect) → StandsSaid t e → CastSaid R s t e
+  stands-cast : {R : Outside} (s t : State) (o : List Effect) → Moves R s t o → Orderly S t → (e : Effect) → StandsSaid t e → CastSaid R s t e
   stands-cast s t o w i (toAll (newView v h b c m a)) x = tt
   stands-cast s t o w i (toAll (propose v h b p m a)) x = tt
   stands-cast s t o w i (toAll (vote v h b a)) x = record { at = t; said = o; later = []; before = w; after = here; orderly = i; stands = x }
@@ -156,7 +156,7 @@ module _ (S : ℕ → Effect → Type 0) where
   stands-cast s t o w i (toOne j m) x = tt
   stands-cast s t o w i (committed h b) x = tt
 
-  pub moves-cast : {R : Message → Type 0} (s t : State) (o : List Effect) → Moves R s t o → All (S (s .clock)) o → Orderly S s → All (CastSaid R s t) o
+  pub moves-cast : {R : Outside} (s t : State) (o : List Effect) → Moves R s t o → All (S (s .clock)) o → Orderly S s → All (CastSaid R s t) o
   moves-cast {R} s t o here h i = tt
   moves-cast {R} s t o (more {t = u} {o = p} {p = q} a b) h i =
       let r = all-split (S (s .clock)) p q h in
