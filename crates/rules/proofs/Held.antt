@@ -1,24 +1,25 @@
 -- What a station is handed it holds from then on, in every view and phase, and what it says to all it holds. Assumes nothing.
 use mathlib.Core.Path.{_≡_, subst, refl, sym, ap, _∙_}
-use Prim.Native.Nat.{ℕ, suc, _+_, _≤_, _<_, _^_}
+use Prim.Native.Nat.{ℕ, suc, _+_, _≤_, _<_}
 use native.Mathlib.Omega.{arith}
 use mathlib.Core.Bool.{Bool, true, false, _&&_}
 use mathlib.Core.List.{List, [], _∷_, _++_, List·Memᴰ}
 use mathlib.Core.Option.{Option, none, some}
-use lib.Dec.{eqb, leb, ltb}
+use lib.Dec.{eqb}
 use lib.ListN.{length}
 use Rattle.rules.specs.Limits.{firstView, lastView}
-use Rattle.rules.specs.Lists.{first, any, keep, within}
+use Rattle.rules.specs.Lists.{first, any, keep}
 use Rattle.rules.specs.Sizes.{Settings, leader, only, bit, joined, quorum}
-use Rattle.rules.specs.Messages.{Message, newView, propose, vote, blame, blameSet, status, read, viewAllowed, blockAllowed, maskAllowed, allowed, Effect, toAll, toOne, committed}
+use Rattle.rules.specs.Messages.{Message, newView, propose, vote, blame, blameSet, status, read, allowed, Effect, toAll, toOne, committed}
 use Rattle.rules.specs.Words.{Statement, message, sameStatement, conflict, Tally, ownBlock, joinCertificate, voters, State}
 use Rattle.rules.specs.Inputs.{Work, saying, _▸_, withPhase, withTables, withBlames, withLog, entering, isIn, quit, belowLock, votedFor, ballot, voting, certificateJoined, stored, statement, tallied, blamesOf, blamed, blameFull, blaming, handled, reports, report, current, pair, inOrder, votingAll}
 use Rattle.rules.specs.Refusals.{hasRoom, ifRoom, running, step}
-use Rattle.rules.proofs.Tests.{eqb-eq, leb-le, by-bool, by-option, no-bool}
+use Rattle.rules.proofs.Tests.{eqb-eq, by-bool, by-option, no-bool}
 use Rattle.rules.proofs.Truths.{and-true}
 use Rattle.rules.proofs.Searches.{All, all-append, all-map, all-of, to-all, mem-keep, first-mem}
 use Rattle.rules.proofs.Statements.{like, same-refl, In, mem-in, in-cong, in-append, in-last, in-noted, pair-some, mem-order}
 use Rattle.rules.proofs.Tallies.{only-bit, same-block, voters-joined}
+use Rattle.rules.proofs.Allowed.{view-range, mask-facts, allowed-rights}
 use Rattle.rules.proofs.Moves.{Outside, arrived, fillsNow, Move, joins, stores, passes, casts, clashes, accuses, fills, complains, logs, entersFull, entersPair, enters, Moves, here, more, voting-low, voting-high}
 use Rattle.rules.proofs.Kept.{in-true, blamed-here, quorum-right, moves-fixed, Kept, move-kept, moves-kept, voted-kept, votingAll-kept}
 
@@ -93,21 +94,6 @@ blaming-masks v m s = by-bool (fillsNow v m s) (λ q. rw (q, blaming)) (λ q. rw
 blaming-held : (g : Settings) (v m : ℕ) (s : State) → v < length (s .blames) → quorum g m ≡ true → quorum g (blamesOf v (blaming v m s .now)) ≡ true
 blaming-held g v m s l c = rw (blaming-masks v m s, blamed-here v m s l) (quorum-right g (blamesOf v s) m c)
 
-view-range : (v : ℕ) → viewAllowed v ≡ true → (firstView ≤ v) × (v ≤ lastView)
-unfolding viewAllowed within
-view-range v e = let a = and-true (leb firstView v) (leb v lastView) e in (leb-le firstView v (a .0), leb-le v lastView (a .1))
-
--- what is allowed of a blame set, and of a vote
-allowed-set : (g : Settings) (v m : ℕ) → allowed g (blameSet v m) ≡ true → (v ≤ lastView) × (quorum g m ≡ true)
-unfolding allowed maskAllowed
-allowed-set g v m e =
-    let a = and-true (viewAllowed v) (maskAllowed g m) e in
-    (view-range v (a .0) .1, and-true (ltb m (2 ^ g .n)) (quorum g m) (a .1) .1)
-
-allowed-vote : (g : Settings) (v h b a : ℕ) → allowed g (vote v h b a) ≡ true → firstView ≤ v
-unfolding allowed
-allowed-vote g v h b a e = view-range v (and-true (viewAllowed v) (blockAllowed h b) (and-true _ _ e .0) .0) .0
-
 tallied-held : (v h b a : ℕ) (s : State) → firstView ≤ v
     → bit (voters (block v h b) (tallied (record { view = v; height = h; name = b; mask = only a }) s .now .tallies)) a ≡ 1
 unfolding tallied saying withTables joinCertificate
@@ -120,9 +106,12 @@ handled-held : (m : Message) (s : State) → allowed (s .settings) m ≡ true �
 unfolding handled
 handled-held (newView v h b c m a) s w l = statement-held (read-as true v h b c m a) s
 handled-held (propose v h b p m a) s w l = statement-held (read-as false v h b p m a) s
-handled-held (vote v h b a) s w l = tallied-held v h b a s (allowed-vote (s .settings) v h b a w)
+handled-held (vote v h b a) s w l = tallied-held v h b a s (view-range v (allowed-rights (s .settings) (vote v h b a) w .0) .0)
 handled-held (blame v a) s w l = tt
-handled-held (blameSet v m) s w l = let r = allowed-set (s .settings) v m w in blaming-held (s .settings) v m s (omega arith) (r .1)
+handled-held (blameSet v m) s w l = 
+    let r = allowed-rights (s .settings) (blameSet v m) w in
+    let k = view-range v (r .0) .1 in
+    blaming-held (s .settings) v m s (omega arith) (mask-facts (s .settings) m (r .1) .1)
 handled-held (status h b c m) s w l = tt
 
 pub step-held : (bs : List ℕ) (m : Message) (s : State) → running s ≡ true → read bs ≡ some m → allowed (s .settings) m ≡ true

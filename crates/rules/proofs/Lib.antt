@@ -7,10 +7,11 @@ pub mod Truths
 pub mod Searches
 pub mod Statements
 pub mod Tallies
+pub mod Allowed
 pub mod Moves
 pub mod Kept
 pub mod Orderly
 pub mod Held
 pub mod Votes
 pub mod Locks
-pub mod Allowed
+pub mod Proper
