@@ -20,7 +20,7 @@ use Rattle.rules.proofs.Searches.{All, all-append, all-map, all-of, to-
 use Rattle.rules.proofs.Statements.{like, same-refl, In, mem-in, in-cong, in-append, in-last, in-noted, pair-some, mem-order}
 use Rattle.rules.proofs.Tallies.{only-bit, same-block, voters-joined}
 use Rattle.rules.proofs.Allowed.{view-range, mask-facts, allowed-rights}
-use Rattle.rules.proofs.Moves.{Outside, arrived, fillsNow, Move, joins, stores, passes, casts, clashes, accuses, fills, complains, logs, entersFull, entersPair, enters, Moves, here, more, voting-low, voting-high}
+use Rattle.rules.proofs.Moves.{Outside, arrived, fillsNow, Move, joins, stores, passes, casts, clashes, accuses, fills, complains, entersFull, entersPair, enters, Moves, here, more, voting-low, voting-high}
 use Rattle.rules.proofs.Kept.{in-true, blamed-here, quorum-right, moves-fixed, Kept, move-kept, moves-kept, voted-kept, votingAll-kept}
 
 -- a block in a view
@@ -108,7 +108,7 @@ handled-held (newView v h b c m a) s w l = statement-held (read-as true v h b c 
 handled-held (propose v h b p m a) s w l = statement-held (read-as false v h b p m a) s
 handled-held (vote v h b a) s w l = tallied-held v h b a s (view-range v (allowed-rights (s .settings) (vote v h b a) w .0) .0)
 handled-held (blame v a) s w l = tt
-handled-held (blameSet v m) s w l = 
+handled-held (blameSet v m) s w l =
     let r = allowed-rights (s .settings) (blameSet v m) w in
     let k = view-range v (r .0) .1 in
     blaming-held (s .settings) v m s (omega arith) (mask-facts (s .settings) m (r .1) .1)
@@ -177,7 +177,6 @@ move-said s t o (clashes x y g f c) l w = (
 move-said s t o (accuses v m a f) l w = tt
 move-said s t o (fills v m a f) l w = (and-true (isIn v (blamed v m s)) (blameFull v (blamed v m s)) f .1, tt)
 move-said s t o (complains f) l w = (tt, tt)
-move-said s t o (logs l′ f) l w = reports-all (HeldSaid (s .settings) t) _ _ (λ h b. tt)
 move-said s t o (entersFull e c) l w = all-append (HeldSaid (s .settings) t) (report s) _ (report-all (HeldSaid (s .settings) t) s (λ i m. tt)) (c, tt)
 move-said s t o (entersPair p e c f) l w =
     let r = pair-some _ p f in

@@ -24,7 +24,7 @@ use Rattle.rules.proofs.Searches.{first-kept, first-any}
 use Rattle.rules.proofs.Masks.{quorum-joined}
 use Rattle.rules.proofs.Statements.{same-sym, in-cong, in-append, in-noted, first-noted, first-other, In, Once, once-append, once-noted}
 use Rattle.rules.proofs.Tallies.{count-quorum, voters-join, voters-certificate}
-use Rattle.rules.proofs.Moves.{Outside, arrived, fillsNow, Move, joins, stores, passes, casts, clashes, accuses, fills, complains, logs, entersFull, entersPair, enters, Moves, here, more, voting-low, voting-high, arrive-full, arrive-pair, arrive-clean}
+use Rattle.rules.proofs.Moves.{Outside, arrived, fillsNow, Move, joins, stores, passes, casts, clashes, accuses, fills, complains, entersFull, entersPair, enters, Moves, here, more, voting-low, voting-high, arrive-full, arrive-pair, arrive-clean}
 
 -- ---- phases
 
@@ -99,16 +99,16 @@ pub quorum-right : (g : Settings) (a b : ℕ) → quorum g b ≡ true → quorum
 unfolding joined
 quorum-right g a b e = rw (or-comm a b) (quorum-left g b a e)
 
--- ---- settings and clock stay
+-- ---- settings, clock and log stay
 
 abbrev pub Fixed : State → State → Type 0
-Fixed s t = (t .settings ≡ s .settings) × (t .clock ≡ s .clock)
+Fixed s t = (t .settings ≡ s .settings) × (t .clock ≡ s .clock) × (t .log ≡ s .log)
 
 -- voting changes the tables alone
 pub votingAll-fixed : (ys : List Statement) (s : State) → let t = votingAll ys s .now in
-    Fixed s t × (t .phase ≡ s .phase) × (t .view ≡ s .view) × (t .lock ≡ s .lock) × (t .blames ≡ s .blames) × (t .log ≡ s .log)
+    Fixed s t × (t .phase ≡ s .phase) × (t .view ≡ s .view) × (t .lock ≡ s .lock)
 unfolding votingAll saying votedFor withTables _▸_
-votingAll-fixed [] s = ((refl, refl), refl, refl, refl, refl, refl)
+votingAll-fixed [] s = ((refl, refl, refl), refl, refl, refl)
 votingAll-fixed (y ∷ ys) s =
     by-bool (belowLock y s) (λ l. rw (voting-low y s l) (votingAll-fixed ys s)) (λ l. rw (voting-high y s l) (votingAll-fixed ys (votedFor y s)))
 
@@ -118,22 +118,21 @@ ballots s = votingAll (inOrder (current (arrived s))) (arrived s) .now
 module _ {R : Outside} where
   pub move-fixed : {s t : State} {o : List Effect} → Move R s t o → Fixed s t
   unfolding withTables withPhase withBlames withLog entering stored votedFor blamed
-  move-fixed (joins m u g c) = (refl, refl)
-  move-fixed (stores x g f) = (refl, refl)
-  move-fixed (passes x g f c l) = (refl, refl)
-  move-fixed (casts x g f c l) = (refl, refl)
-  move-fixed (clashes x y g f c) = (refl, refl)
-  move-fixed (accuses v m a f) = (refl, refl)
-  move-fixed (fills v m a f) = (refl, refl)
-  move-fixed (complains f) = (refl, refl)
-  move-fixed (logs l f) = (refl, refl)
-  move-fixed (entersFull e c) = (refl, refl)
-  move-fixed (entersPair p e c f) = (refl, refl)
+  move-fixed (joins m u g c) = (refl, refl, refl)
+  move-fixed (stores x g f) = (refl, refl, refl)
+  move-fixed (passes x g f c l) = (refl, refl, refl)
+  move-fixed (casts x g f c l) = (refl, refl, refl)
+  move-fixed (clashes x y g f c) = (refl, refl, refl)
+  move-fixed (accuses v m a f) = (refl, refl, refl)
+  move-fixed (fills v m a f) = (refl, refl, refl)
+  move-fixed (complains f) = (refl, refl, refl)
+  move-fixed (entersFull e c) = (refl, refl, refl)
+  move-fixed (entersPair p e c f) = (refl, refl, refl)
   move-fixed {s} (enters e c f) = votingAll-fixed (inOrder (current (arrived s))) (arrived s) .0
 
   pub moves-fixed : {s t : State} {o : List Effect} → Moves R s t o → Fixed s t
-  moves-fixed here = (refl, refl)
-  moves-fixed (more a b) = let p = moves-fixed a in let q = move-fixed b in (q .0 ∙ p .0, q .1 ∙ p .1)
+  moves-fixed here = (refl, refl, refl)
+  moves-fixed (more a b) = let p = moves-fixed a in let q = move-fixed b in (q .0 ∙ p .0, q .1 ∙ p .1, q .2 ∙ p .2)
 
 -- ---- nothing is lost
 
@@ -220,7 +219,6 @@ module _ {R : Outside} where
   move-kept s t o (accuses v m a f) = blamed-kept v m s
   move-kept s t o (fills v m a f) = phase-kept (waiting (s .clock)) (blamed-kept v m s) (λ q p e. in-waits v s q (and-true (isIn v s) _ f .0) p)
   move-kept s t o (complains f) = kept-refl s
-  move-kept s t o (logs l f) = record { has = λ x h. h; full = λ g v h. h; length = refl; bits = λ q i h. h; view = omega arith; waits = λ q p e. p }
   move-kept s t o (entersFull e c) = phase-kept (waiting (s .clock)) (arrived-kept s) (λ q p e. absurd (omega arith))
   move-kept s t o (entersPair p e c f) = phase-kept (waiting (s .clock)) (arrived-kept s) (λ q p e. absurd (omega arith))
   move-kept s t o (enters e c f) = kept-trans (arrived-kept s) (votingAll-kept (inOrder (current (arrived s))) (arrived s))
@@ -257,7 +255,6 @@ module _ {R : Outside} where
   move-vote s t o (accuses u m a i) x z c f e v = (z, f, e)
   move-vote s t o (fills u m a i) x z c f e v = (z, f, e)
   move-vote s t o (complains i) x z c f e v = (z, f, e)
-  move-vote s t o (logs l i) x z c f e v = (z, f, e)
   move-vote s t o (entersFull i k) x z c f e v = (z, f, e)
   move-vote s t o (entersPair p i k l) x z c f e v = (z, f, e)
   move-vote s t o (enters i k l) x z c f e v =
@@ -284,7 +281,6 @@ module _ {R : Outside} where
   move-once s t o (accuses v m a f) h = h
   move-once s t o (fills v m a f) h = h
   move-once s t o (complains f) h = h
-  move-once s t o (logs l f) h = h
   move-once s t o (entersFull e c) h = h
   move-once s t o (entersPair p e c f) h = h
   move-once s t o (enters e c f) h = votingAll-once (inOrder (current (arrived s))) (arrived s) h
@@ -305,7 +301,6 @@ module _ {R : Outside} where
   move-late s t o (accuses v m a f) q e = inl e
   move-late s t o (fills v m a f) q e = inr (sym (waiting-clock e))
   move-late s t o (complains f) q e = inl e
-  move-late s t o (logs l f) q e = inl e
   move-late s t o (entersFull k c) q e = inr (sym (waiting-clock e))
   move-late s t o (entersPair p k c f) q e = inr (sym (waiting-clock e))
   move-late s t o (enters k c f) q e = no-phase (sym e ∙ votingAll-fixed (inOrder (current (arrived s))) (arrived s) .1)

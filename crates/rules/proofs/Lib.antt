@@ -15,3 +15,4 @@ pub mod Held
 pub mod Votes
 pub mod Locks
 pub mod Proper
+pub mod Commits

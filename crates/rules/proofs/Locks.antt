@@ -10,7 +10,7 @@ use Rattle.rules.specs.Messages.{Message, Effect}
 use Rattle.rules.specs.Words.{Tally, voters, highest, State}
 use Rattle.rules.specs.Inputs.{withPhase, withTables, withBlames, withLog, entering, votedFor, stored, blamed, nextLock, current, inOrder}
 use Rattle.rules.proofs.Tallies.{Above, sound-quorum, count-quorum, highest-above}
-use Rattle.rules.proofs.Moves.{Outside, arrived, Move, joins, stores, passes, casts, clashes, accuses, fills, complains, logs, entersFull, entersPair, enters, Moves, here, more}
+use Rattle.rules.proofs.Moves.{Outside, arrived, Move, joins, stores, passes, casts, clashes, accuses, fills, complains, entersFull, entersPair, enters, Moves, here, more}
 use Rattle.rules.proofs.Kept.{move-fixed, move-kept, votingAll-fixed}
 
 -- the lock stays with the view, or it is the highest certificate as the next is entered
@@ -27,7 +27,6 @@ move-lock s t o (clashes x y g f c) = inl (refl, refl)
 move-lock s t o (accuses v m a f) = inl (refl, refl)
 move-lock s t o (fills v m a f) = inl (refl, refl)
 move-lock s t o (complains f) = inl (refl, refl)
-move-lock s t o (logs l f) = inl (refl, refl)
 move-lock s t o (entersFull e c) = inr (refl, refl)
 move-lock s t o (entersPair p e c f) = inr (refl, refl)
 move-lock s t o (enters e c f) = let k = votingAll-fixed (inOrder (current (arrived s))) (arrived s) in inr (k .3, k .2)

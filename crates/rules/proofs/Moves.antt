@@ -1,10 +1,11 @@
 -- Every call that leaves a running station is a chain of moves, each with what it says. A move is one leaf of a rule, with the
--- tests of its branch, so that what is true of a station holds after each. The clock is no move, and stopping is none. Assumes nothing.
+-- tests of its branch, so that what is true of a station holds after each. The clock and the commits of a tick are no move: a tick
+-- is a chain from the state with both done. Stopping is none either. Assumes nothing.
 use mathlib.Core.Path.{_≡_, subst, refl, sym, ap, _∙_}
 use Prim.Native.Nat.{ℕ, suc, _+_, _-_}
 use mathlib.Core.Bool.{Bool, true, false, _&&_}
 use mathlib.Core.List.{List, [], _∷_, _++_, append-assoc, append-nil}
-use mathlib.Core.Option.{Option, none, some, Option·map}
+use mathlib.Core.Option.{Option, none, some, Option·map, Option·some-injective}
 use lib.ListN.{length, drop}
 use lib.Dec.{eqb}
 use Rattle.rules.specs.Limits.{lastClock}
@@ -13,8 +14,8 @@ use Rattle.rules.specs.Sizes.{Settings, only}
 use Rattle.rules.specs.Messages.{Message, newView, propose, vote, blame, blameSet, status, read, allowed, Effect, toAll}
 use Rattle.rules.specs.Words.{Statement, message, sameStatement, conflict, Tally, certificate, joinCertificate, Phase, waiting, State}
 use Rattle.rules.specs.Inputs.{Work, saying, _▸_, withPhase, withClock, withTables, withLog, entering, isIn, quit, belowLock, votedFor, ballot, voting, certificateJoined, stored, statement, tallied, blamesOf, blamed, blameFull, blaming, handled, offered, due, commits, reports, logging, overdue, complain, leadsNow, ownNewView, lead, entersNow, nextLock, report, entered, current, pair, inOrder, votingAll, arrive, enter, ticked}
-use Rattle.rules.specs.Refusals.{Outcome, hasRoom, ifRoom, running, step, offer, tick}
-use Rattle.rules.proofs.Tests.{by-bool, by-option, no-bool}
+use Rattle.rules.specs.Refusals.{Outcome, done, hasRoom, ifRoom, running, step, offer, tick}
+use Rattle.rules.proofs.Tests.{by-bool, by-option, no-some, no-bool}
 
 -- what is known of what comes from outside: of a message handed over, of a name offered and the message it makes
 pub record Outside : Type 1 where
@@ -69,8 +70,6 @@ pub data Move (R : Outside) (s : State) : State → List Effect → Type 0 where
   fills : (v m : ℕ) → Accused R s v m → fillsNow v m s ≡ true
       → Move R s (withPhase (waiting (s .clock)) (blamed v m s)) (toAll (blameSet v (blamesOf v (blamed v m s))) ∷ [])
   complains : overdue s ≡ true → Move R s s (toAll (blame (s .view) (s .settings .own)) ∷ [])
-  logs : (l : List ℕ) → commits (s .statements) (due s) (s .log) ≡ some l
-      → Move R s (withLog l s) (reports (suc (length (s .log))) (drop (length (s .log)) l))
   entersFull : entersNow s ≡ true → blameFull (s .view + 1) s ≡ true
       → Move R s (withPhase (waiting (s .clock)) (arrived s)) (report s ++ toAll (blameSet (s .view + 1) (blamesOf (s .view + 1) s)) ∷ [])
   entersPair : (p : Statement × Statement) → entersNow s ≡ true → blameFull (s .view + 1) s ≡ false → pair (current (arrived s)) ≡ some p
@@ -89,6 +88,17 @@ module _ {R : Outside} where
   moves-trans : {s t u : State} {o p : List Effect} → Moves R s t o → Moves R t u p → Moves R s u (o ++ p)
   moves-trans {s} {o = o} a here = rw append-nil a
   moves-trans {o = o} a (more {o = p} {p = q} b c) = rw (← append-assoc o p q) (more (moves-trans a b) c)
+
+-- a tick counts, and its log after the commits, with what it says of them
+unfoldable pub counted : State → State
+unfolding withClock
+counted s = withClock (s .clock + 1) s
+
+unfoldable pub logAfter : State → List ℕ
+logAfter s = elim (commits (counted s .statements) (due (counted s)) (counted s .log)) [ none ↦ s .log | some l ↦ l ]
+
+unfoldable pub news : State → List Effect
+news s = reports (suc (length (s .log))) (drop (length (s .log)) (logAfter s))
 
 -- ---- the rules, branch by branch
 
@@ -125,6 +135,39 @@ message-propose v h b p m a = refl
 pub carried-certificate : (x : Statement) → carried (message x) ≡ some (certificate x)
 unfolding carried message certificate
 carried-certificate x = by-bool (x .isNewView) (λ e. rw e refl) (λ e. rw e refl)
+
+-- ---- a tick, step by step
+
+ticked-none : (s : State) → commits (counted s .statements) (due (counted s)) (counted s .log) ≡ none → ticked s ≡ none
+unfolding ticked counted
+ticked-none s q = rw (ticked, q)
+
+ticked-some : (s : State) (l : List ℕ) → commits (counted s .statements) (due (counted s)) (counted s .log) ≡ some l
+    → ticked s ≡ some (logging l (counted s) ▸ complain ▸ lead ▸ enter)
+unfolding ticked counted
+ticked-some s l q = rw (ticked, q)
+
+logAfter-some : (s : State) (l : List ℕ) → commits (counted s .statements) (due (counted s)) (counted s .log) ≡ some l → logAfter s ≡ l
+unfolding logAfter
+logAfter-some s l q = rw (q, logAfter)
+
+room-done : (s : State) (w : Work) → running (ifRoom s w .next) ≡ true → ifRoom s w ≡ done w
+unfolding ifRoom running
+room-done s w = by-bool (hasRoom (w .now)) (λ q. rw (q, ifRoom) (λ _. refl)) (λ q. rw (q, ifRoom) (λ e. no-bool (sym e)))
+
+pub tick-done : (s : State) → running (tick s .next) ≡ true → (w : Work) × (ticked s ≡ some w) × (tick s ≡ done w)
+unfolding tick running
+tick-done s =
+    by-bool (running s)
+    (λ r.
+    by-bool (eqb (s .clock) lastClock) (λ k. rw (r, k, tick) (λ e. no-bool (sym e))) λ k.
+    by-option (ticked s) (λ q. rw (r, k, tick, q) (λ e. no-bool (sym e))) (λ w q. rw (r, k, tick, q) (λ e. (w, refl, room-done s w e))))
+    (λ r. rw (r, tick) (λ e. no-bool (sym e ∙ r)))
+
+tick-out : (s : State) (l : List ℕ) → logAfter s ≡ l
+    → done (logging l (counted s) ▸ complain ▸ lead ▸ enter) .out ≡ news s ++ (complain (withLog l (counted s)) ▸ lead ▸ enter) .out
+unfolding done logging saying _▸_ news counted withClock
+tick-out s l a = rw (a, append-assoc, append-assoc, append-assoc)
 
 module _ (R : Outside) where
   -- a rule, as a chain of moves
@@ -221,16 +264,17 @@ module _ (R : Outside) where
       (λ m q. rw (r, q, offer) (room-moves s s (handled m s) (handled-moves m s (made b (f m q) q)))))
       (λ r. rw (r, offer) (λ _. here))
 
-  pub tick-moves : (s : State) → Ran (withClock (s .clock + 1) s) (tick s)
-  unfolding tick running ticked logging saying
-  tick-moves s =
-      let t = withClock (s .clock + 1) s in
-      by-bool (running s)
-      (λ r.
-      by-bool (eqb (s .clock) lastClock) (λ k. rw (r, k, tick) (λ e. no-bool (sym e))) λ k.
-      by-option (commits (t .statements) (due t) (t .log)) (λ q. rw (r, k, tick, ticked, q) (λ e. no-bool (sym e))) λ l q.
-      rw (r, k, tick, ticked, q)
-      (room-moves s t (logging l t ▸ complain ▸ lead ▸ enter)
-      (then-moves (logging l t ▸ complain ▸ lead) enter
-      (then-moves (logging l t ▸ complain) lead (then-moves (logging l t) complain (one (logs l q)) complain-moves) lead-moves) enter-moves)))
-      (λ r. rw (r, tick) (λ e. no-bool (sym e ∙ r)))
+  -- a tick first counts and commits, and says what it committed
+  pub tick-moves : (s : State) → running (tick s .next) ≡ true
+      → (commits (counted s .statements) (due (counted s)) (counted s .log) ≡ some (logAfter s))
+      × ((o : List Effect) × (tick s .out ≡ news s ++ o) × Moves R (withLog (logAfter s) (counted s)) (tick s .next) o)
+  tick-moves s run =
+      let t = counted s in
+      let (w, e, d) = tick-done s run in
+      by-option (commits (t .statements) (due t) (t .log)) (λ q. no-some (sym (ticked-none s q) ∙ e)) λ l q.
+      let a = logAfter-some s l q in
+      let u = withLog l t in
+      let rest = complain u ▸ lead ▸ enter in
+      let k : w ≡ (logging l t ▸ complain ▸ lead ▸ enter) = Option·some-injective _ _ (sym e ∙ ticked-some s l q) in
+      let m : Does u rest = then-moves (complain u ▸ lead) enter (then-moves (complain u) lead (complain-moves u) lead-moves) enter-moves in
+      rw (d, k) (q ∙ ap some (sym a), (rest .out, tick-out s l a, subst (λ (x : List ℕ). Moves R (withLog x t) (done (logging l t ▸ complain ▸ lead ▸ enter) .next) (rest .out)) (sym a) (unfold done logging saying _▸_ in m)))

@@ -20,7 +20,7 @@ use Rattle.rules.proofs.Truths.{and-true, and-false}
 use Rattle.rules.proofs.Searches.{first-any, first-append, All, all-split, mem-keep}
 use Rattle.rules.proofs.Statements.{like, same-like, same-self, same-sym, same-cong, conflict-sym, conflict-view, In, in-keep, in-order, in-noted, first-noted, first-other, Clean, clean-append, clean-view, pair-some}
 use Rattle.rules.proofs.Tallies.{no-quorum}
-use Rattle.rules.proofs.Moves.{Outside, arrived, fillsNow, Move, joins, stores, passes, casts, clashes, accuses, fills, complains, logs, entersFull, entersPair, enters, Moves, here, more, voting-low, voting-high}
+use Rattle.rules.proofs.Moves.{Outside, arrived, fillsNow, Move, joins, stores, passes, casts, clashes, accuses, fills, complains, entersFull, entersPair, enters, Moves, here, more, voting-low, voting-high}
 use Rattle.rules.proofs.Kept.{no-phase, waiting-clock, in-true, true-in, enters-at, blamed-cases, move-fixed, moves-fixed}
 
 pair-view : (v : ℕ) (xs : List Statement) (p : Statement × Statement) → pair (keep (λ y. eqb (y .view) v) xs) ≡ some p → p .0 .view ≡ v
@@ -300,7 +300,6 @@ module _ (S : ℕ → Effect → Type 0) where
       (full (blamesOf v (blamed v m s)) (b .1)
       (subst (λ (w : ℕ). S (s .clock) (toAll (blameSet w (blamesOf v (blamed v m s))))) (in-true v (blamed v m s) (b .0) .1) (h .0)))
   move-orderly s t o (complains f) h i = i
-  move-orderly s t o (logs l f) h i = record { clean = i .clean; calm = i .calm; votes = i .votes; quits = i .quits; past = i .past; order = i .order }
   move-orderly s t o (entersFull e c) h i =
       quitting (arrived s) (past-on s i e) (omega arith) (full _ c (all-split (S (s .clock)) (report s) _ h .1 .0))
   move-orderly s t o (entersPair p e c f) h i =

@@ -26,7 +26,7 @@ use Rattle.rules.proofs.Masks.{joined-bit, joined-lt}
 use Rattle.rules.proofs.Statements.{mem-order, pair-some}
 use Rattle.rules.proofs.Tallies.{only-bit, bit-only, no-bit, block-eq, voters-tally, highest-tally}
 use Rattle.rules.proofs.Allowed.{view-range, range-view, block-height, above-block, mask-facts, facts-mask, certificate-zero, certificate-later, genesis-certificate, later-certificate, Rights, allowed-rights, rights-allowed, IsName, Named}
-use Rattle.rules.proofs.Moves.{Outside, Origin, handed, led, made, carried, Accused, named, listed, own, New, arrived, fillsNow, Move, joins, stores, passes, casts, clashes, accuses, fills, complains, logs, entersFull, entersPair, enters, Moves, here, more, voting-low, voting-high, carried-certificate}
+use Rattle.rules.proofs.Moves.{Outside, Origin, handed, led, made, carried, Accused, named, listed, own, New, arrived, fillsNow, Move, joins, stores, passes, casts, clashes, accuses, fills, complains, entersFull, entersPair, enters, Moves, here, more, voting-low, voting-high, carried-certificate}
 use Rattle.rules.proofs.Kept.{in-true, enters-at, blamed-cases, move-fixed, moves-fixed, move-kept, moves-kept, votingAll-fixed}
 use Rattle.rules.proofs.Held.{reports-all}
 
@@ -46,7 +46,7 @@ top-mem v (y ∷ ys) x e =
     by-bool (eqb (y .view) v)
     (λ q.
     let this : some y ≡ some x → List·Memᴰ x (y ∷ ys) × (x .view ≡ v) =
-      λ f. let k = Option·some-injective y x f in (List·Memᴰ·head (sym k), rw (← k) (eqb-eq (y .view) v q)) in
+    λ f. let k = Option·some-injective y x f in (List·Memᴰ·head (sym k), rw (← k) (eqb-eq (y .view) v q)) in
     by-option (top v ys) (λ r. this (rw (q, r, top) at e)) λ z r.
     by-bool (ltb (y .height) (z .height))
     (λ k. let h = top-mem v ys x (r ∙ (rw (q, r, k, top) at e)) in (List·Memᴰ·tail (h .0), h .1)) (λ k. this (rw (q, r, k, top) at e)))
@@ -81,6 +81,14 @@ message-noted c x = refl
 genesis-block : blockAllowed 0 0 ≡ true
 unfolding blockAllowed iff
 genesis-block = refl
+
+no-blames : (n v : ℕ) → _≡_ {A = ℕ} (getD (replicate n 0) v 0) 0
+no-blames zero v = refl
+no-blames (suc n) zero = refl
+no-blames (suc n) (suc v) = no-blames n v
+
+pow-pos-two : (n : ℕ) → 0 < 2 ^ n
+pow-pos-two n = one-le-pow n 2 (omega arith)
 
 module _ (g : Settings) (P : ℕ → ℕ → ℕ → ℕ → Type 0) (parentOf : ℕ → ℕ) where
   -- every voter of a mask is known to have voted
@@ -157,16 +165,18 @@ module _ (g : Settings) (P : ℕ → ℕ → ℕ → ℕ → Type 0) (parentOf :
       (λ e.
       let (p, q, r) = block-eq t u e in
       let w = a .0 in
-      rw (e, join)
-      (record {
-        low = w .low;
-        high = w .high;
-        block = w .block;
-        named = w .named;
-        mask = joined-lt (g .n) (u .mask) (t .mask) (w .mask) (h .mask);
-        backed = λ i k.
-            or-backed (u .view) (u .height) (u .name) (u .mask) (t .mask) i (w .backed i) (λ z. subst₃ (λ (x y w : ℕ). P x y w i) p q r (h .backed i z)) k;
-      }, a .1))
+      rw (e, join) (
+        record {
+          low = w .low;
+          high = w .high;
+          block = w .block;
+          named = w .named;
+          mask = joined-lt (g .n) (u .mask) (t .mask) (w .mask) (h .mask);
+          backed = λ i k.
+              or-backed (u .view) (u .height) (u .name) (u .mask) (t .mask) i (w .backed i) (λ z. subst₃ (λ (x y w : ℕ). P x y w i) p q r (h .backed i z)) k;
+        },
+        a .1,
+      ))
       (λ e. rw (e, join) (a .0, join-well t us h (a .1)))
 
   certificate-well : (t : Tally) (us : List Tally) → (t .view ≡ 0) ⊎ Well t → All Well us → All Well (joinCertificate t us)
@@ -262,6 +272,22 @@ module _ (g : Settings) (P : ℕ → ℕ → ℕ → ℕ → Type 0) (parentOf :
             named = w .named;
             backed = w .backed;
           }
+
+  -- the state with another phase, view, entry, lock or log
+  pub same-proper : (s t : State) → t .settings ≡ s .settings → t .tallies ≡ s .tallies → t .statements ≡ s .statements → t .blames ≡ s .blames → Proper s → Proper t
+  unfolding blamesOf
+  same-proper s t a b c d i =
+      record {
+        settings = a ∙ i .settings;
+        tallies = subst (All Well) (sym b) (i .tallies);
+        statements = subst (All (λ x. Right (message x))) (sym c) (i .statements);
+        blames = λ v. subst (λ (l : List ℕ). getD l v 0 < 2 ^ g .n) (sym d) (i .blames v);
+      }
+
+  pub fresh-proper : Proper (fresh g)
+  unfolding fresh blamesOf
+  fresh-proper =
+      record { settings = refl; tallies = tt; statements = tt; blames = λ v. rw (no-blames (suc lastView) v) (pow-pos-two (g .n)) }
 
   module _ (R : Outside) (member : g .own < g .n) (given-right : (m : Message) → R .given m → allowed g m ≡ true → Right m)
       (offers-known : (b : ℕ) (m : Message) → R .offers b m → IsName b × Parented m) where
@@ -376,17 +402,6 @@ module _ (g : Settings) (P : ℕ → ℕ → ℕ → ℕ → Type 0) (parentOf :
         rw (voting-high y s l)
         (let o = rw (voting-high y s l) at h in votingAll-proper ys (votedFor y s) (a .1) (o .1 .1) (voted-proper y s (a .0) (o .1 .0) i)))
 
-    -- the state with another phase, view, entry, lock or log
-    same-proper : (s t : State) → t .settings ≡ s .settings → t .tallies ≡ s .tallies → t .statements ≡ s .statements → t .blames ≡ s .blames → Proper s → Proper t
-    unfolding blamesOf
-    same-proper s t a b c d i =
-        record {
-          settings = a ∙ i .settings;
-          tallies = subst (All Well) (sym b) (i .tallies);
-          statements = subst (All (λ x. Right (message x))) (sym c) (i .statements);
-          blames = λ v. subst (λ (l : List ℕ). getD l v 0 < 2 ^ g .n) (sym d) (i .blames v);
-        }
-
     phase-proper : (s : State) (p : Phase) → Proper s → Proper (withPhase p s)
     unfolding withPhase
     phase-proper s p i = same-proper s (withPhase p s) refl refl refl refl i
@@ -413,7 +428,6 @@ module _ (g : Settings) (P : ℕ → ℕ → ℕ → ℕ → Type 0) (parentOf :
     move-proper s t o (accuses v m a f) h w i = blamed-proper v m s (accused-lt s i w v m a) i
     move-proper s t o (fills v m a f) h w i = phase-proper (blamed v m s) (waiting (s .clock)) (blamed-proper v m s (accused-lt s i w v m a) i)
     move-proper s t o (complains f) h w i = i
-    move-proper s t o (logs l f) h w i = same-proper s (withLog l s) refl refl refl refl i
     move-proper s t o (entersFull e c) h w i = phase-proper (arrived s) (waiting (s .clock)) (arrived-proper s i)
     move-proper s t o (entersPair p e c f) h w i = phase-proper (arrived s) (waiting (s .clock)) (arrived-proper s i)
     move-proper s t o (enters e c f) h w i =
@@ -475,7 +489,6 @@ module _ (g : Settings) (P : ℕ → ℕ → ℕ → ℕ → Type 0) (parentOf :
         let v′ : v ≡ s .view = unfold blamed withBlames in (in-true v (blamed v m s) (b .0) .1) in
         (set-sayable v (blamed v m s) (blamed-proper v m s (accused-lt s i w v m a) i) (rw v′ w) (b .1), tt)
     move-sayable s t o (complains f) w i = ((rights-allowed g _ (w, rw (i .settings) member), tt), tt)
-    move-sayable s t o (logs l f) w i = reports-all Sayable _ _ (λ h b. tt)
     move-sayable s t o (entersFull e c) w i =
         all-append Sayable (report s) _ (report-sayable s i) (set-sayable (s .view + 1) s i (next-view s w e) c, tt)
     move-sayable s t o (entersPair p e c f) w i =
@@ -494,3 +507,28 @@ module _ (g : Settings) (P : ℕ → ℕ → ℕ → ℕ → Type 0) (parentOf :
         let j = moves-proper s v p a (r .0) l (omega arith) i in
         let w = range-view (v .view) (omega arith) (omega arith) in
         (move-proper v t q b (r .1) w (j .0), all-append Sayable p q (j .1) (move-sayable v t q b w (j .0)))
+
+-- who is known to have voted goes on being known
+module _ (g : Settings) (P Q : ℕ → ℕ → ℕ → ℕ → Type 0) (parentOf : ℕ → ℕ) (f : (v h b i : ℕ) → P v h b i → Q v h b i) where
+  right-map : (m : Message) → Right g P parentOf m → Right g Q parentOf m
+  right-map m r = record { allows = r .allows; named = r .named; backed = λ t e i k. f _ _ _ i (r .backed t e i k); parent = parented m (r .parent) }
+    where
+      parented : (m : Message) → Parented g P parentOf m → Parented g Q parentOf m
+      parented (newView v h b c m a) p = tt
+      parented (propose v h b x m a) p = p
+      parented (vote v h b a) p = tt
+      parented (blame v a) p = tt
+      parented (blameSet v m) p = tt
+      parented (status h b c m) p = tt
+
+  well-map : (t : Tally) → Well g P parentOf t → Well g Q parentOf t
+  well-map t w = record { low = w .low; high = w .high; block = w .block; named = w .named; mask = w .mask; backed = λ i k. f _ _ _ i (w .backed i k) }
+
+  pub proper-map : (s : State) → Proper g P parentOf s → Proper g Q parentOf s
+  proper-map s i =
+      record {
+        settings = i .settings;
+        tallies = all-map (Well g P parentOf) (Well g Q parentOf) well-map (s .tallies) (i .tallies);
+        statements = all-map (λ x. Right g P parentOf (message x)) (λ x. Right g Q parentOf (message x)) (λ x r. right-map (message x) r) (s .statements) (i .statements);
+        blames = i .blames;
+      }

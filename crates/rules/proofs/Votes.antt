@@ -11,7 +11,7 @@ use Rattle.rules.proofs.Tests.{by-bool}
 use Rattle.rules.proofs.Truths.{and-false}
 use Rattle.rules.proofs.Searches.{All, all-append, all-split, all-map, to-all}
 use Rattle.rules.proofs.Statements.{In, mem-in, in-last, in-noted, mem-order}
-use Rattle.rules.proofs.Moves.{Outside, arrived, Move, joins, stores, passes, casts, clashes, accuses, fills, complains, logs, entersFull, entersPair, enters, Moves, here, more, voting-low, voting-high}
+use Rattle.rules.proofs.Moves.{Outside, arrived, Move, joins, stores, passes, casts, clashes, accuses, fills, complains, entersFull, entersPair, enters, Moves, here, more, voting-low, voting-high}
 use Rattle.rules.proofs.Kept.{in-true, moves-fixed, votingAll-fixed, voted-kept, votingAll-kept}
 use Rattle.rules.proofs.Orderly.{Orderly, move-orderly, moves-orderly}
 use Rattle.rules.proofs.Held.{report-all, reports-all}
@@ -65,18 +65,23 @@ module _ (S : ℕ → Effect → Type 0) where
       (let t = votedFor y s in
       let (q, v) = a .0 in
       let k = votingAll-fixed ys t in
-      let o = rw (voting-high y s l) at h in
-      (message-stands _ y, (record {
-        phase = k .1 ∙ p;
-        current = k .2 ∙ sym v;
-        what = y;
-        view = refl;
-        height = refl;
-        name = refl;
-        has = votingAll-kept ys t .has y (voted-kept y s .has y q);
-        said = rw (k .0 .1) (o .0);
-        lock = λ e. rw (k .3) (not-low y s l e);
-      }, votingAll-stands ys t p (all-map (λ x. In (s .statements) x × (x .view ≡ s .view)) (λ x. In (t .statements) x × (x .view ≡ t .view)) (λ x r. (voted-kept y s .has x (r .0), r .1)) ys (a .1)) (o .1 .1)))))
+      let o = rw (voting-high y s l) at h in (
+        message-stands _ y,
+        (
+          record {
+            phase = k .1 ∙ p;
+            current = k .2 ∙ sym v;
+            what = y;
+            view = refl;
+            height = refl;
+            name = refl;
+            has = votingAll-kept ys t .has y (voted-kept y s .has y q);
+            said = rw (k .0 .1) (o .0);
+            lock = λ e. rw (k .3) (not-low y s l e);
+          },
+          votingAll-stands ys t p (all-map (λ x. In (s .statements) x × (x .view ≡ s .view)) (λ x. In (t .statements) x × (x .view ≡ t .view)) (λ x r. (voted-kept y s .has x (r .0), r .1)) ys (a .1)) (o .1 .1),
+        ),
+      )))
 
   move-stands : {R : Outside} (s t : State) (o : List Effect) → Move R s t o → All (S (s .clock)) o → All (StandsSaid t) o
   unfolding withTables withPhase withBlames withLog entering stored votedFor ballot blamed
@@ -84,23 +89,27 @@ module _ (S : ℕ → Effect → Type 0) where
   move-stands s t o (stores x g f) h = tt
   move-stands s t o (passes x g f c k) h = tt
   move-stands s t o (casts x g f c k) h =
-      let i = in-true (x .view) s f in
-      (message-stands t x, (record {
-        phase = i .0;
-        current = sym (i .1);
-        what = x;
-        view = refl;
-        height = refl;
-        name = refl;
-        has = rw in-noted (in-last (s .statements) x);
-        said = h .0;
-        lock = not-low x s k;
-      }, tt))
+      let i = in-true (x .view) s f in (
+        message-stands t x,
+        (
+          record {
+            phase = i .0;
+            current = sym (i .1);
+            what = x;
+            view = refl;
+            height = refl;
+            name = refl;
+            has = rw in-noted (in-last (s .statements) x);
+            said = h .0;
+            lock = not-low x s k;
+          },
+          tt,
+        ),
+      )
   move-stands s t o (clashes x y g f c) h = (message-stands t y, (message-stands t x, tt))
   move-stands s t o (accuses v m a f) h = tt
   move-stands s t o (fills v m a f) h = (tt, tt)
   move-stands s t o (complains f) h = (tt, tt)
-  move-stands s t o (logs l f) h = reports-all (StandsSaid t) _ _ (λ h b. tt)
   move-stands s t o (entersFull e c) h = all-append (StandsSaid t) (report s) _ (report-all (StandsSaid t) s (λ i m. tt)) (tt, tt)
   move-stands s t o (entersPair p e c f) h =
       all-append (StandsSaid t) (report s) _ (report-all (StandsSaid t) s (λ i m. tt)) (message-stands t (p .0), (message-stands t (p .1), tt))
