@@ -1,1 +1,3 @@
 pub mod Lineage
+pub mod Events
+pub mod Group

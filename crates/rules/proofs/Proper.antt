@@ -90,6 +90,15 @@ no-blames (suc n) (suc v) = no-blames n v
 pow-pos-two : (n : ℕ) → 0 < 2 ^ n
 pow-pos-two n = one-le-pow n 2 (omega arith)
 
+-- one name has one parent
+abbrev pub Parented : (ℕ → ℕ) → Message → Type 0
+Parented parentOf (newView v h b c m a) = Unit {0}
+Parented parentOf (propose v h b p m a) = parentOf b ≡ p
+Parented parentOf (vote v h b a) = Unit {0}
+Parented parentOf (blame v a) = Unit {0}
+Parented parentOf (blameSet v m) = Unit {0}
+Parented parentOf (status h b c m) = Unit {0}
+
 module _ (g : Settings) (P : ℕ → ℕ → ℕ → ℕ → Type 0) (parentOf : ℕ → ℕ) where
   -- every voter of a mask is known to have voted
   abbrev pub Backed : Tally → Type 0
@@ -98,21 +107,12 @@ module _ (g : Settings) (P : ℕ → ℕ → ℕ → ℕ → Type 0) (parentOf :
   abbrev pub BackedIn : Message → Type 0
   BackedIn m = (t : Tally) → carried m ≡ some t → Backed t
 
-  -- one name has one parent
-  abbrev pub Parented : Message → Type 0
-  Parented (newView v h b c m a) = Unit {0}
-  Parented (propose v h b p m a) = parentOf b ≡ p
-  Parented (vote v h b a) = Unit {0}
-  Parented (blame v a) = Unit {0}
-  Parented (blameSet v m) = Unit {0}
-  Parented (status h b c m) = Unit {0}
-
   -- a message that may be handled: allowed, with names of 32 bytes, its voters known, its parent the name's
   pub record Right (m : Message) : Type 0 where
     pub allows : allowed g m ≡ true
     pub named : Named m
     pub backed : BackedIn m
-    pub parent : Parented m
+    pub parent : Parented parentOf m
 
   pub record Well (t : Tally) : Type 0 where
     pub low : firstView ≤ t .view
@@ -138,7 +138,7 @@ module _ (g : Settings) (P : ℕ → ℕ → ℕ → ℕ → Type 0) (parentOf :
   abbrev KnownIn : Message → Type 0
   KnownIn (newView v h b c m a) = Unit {0}
   KnownIn (propose v h b p m a) = Unit {0}
-  KnownIn (vote v h b a) = P v h b a
+  KnownIn (vote v h b a) = a ≡ g .own → P v h b a
   KnownIn (blame v a) = Unit {0}
   KnownIn (blameSet v m) = Unit {0}
   KnownIn (status h b c m) = Unit {0}
@@ -290,7 +290,7 @@ module _ (g : Settings) (P : ℕ → ℕ → ℕ → ℕ → Type 0) (parentOf :
       record { settings = refl; tallies = tt; statements = tt; blames = λ v. rw (no-blames (suc lastView) v) (pow-pos-two (g .n)) }
 
   module _ (R : Outside) (member : g .own < g .n) (given-right : (m : Message) → R .given m → allowed g m ≡ true → Right m)
-      (offers-known : (b : ℕ) (m : Message) → R .offers b m → IsName b × Parented m) where
+      (offers-known : (b : ℕ) (m : Message) → R .offers b m → IsName b × Parented parentOf m) where
     -- ---- a message that is handled
 
     led-right : (s : State) → Proper s → viewAllowed (s .view) ≡ true → leadsNow s ≡ true → Right (ownNewView s)
@@ -308,7 +308,7 @@ module _ (g : Settings) (P : ℕ → ℕ → ℕ → ℕ → Type 0) (parentOf :
         }
 
     above-right : (s : State) (x : Statement) (b : ℕ) → Proper s → viewAllowed (s .view) ≡ true → List·Memᴰ x (s .statements) → x .view ≡ s .view → leads s ≡ true
-        → eqb b 0 ≡ false → extendable x s ≡ true → IsName b → Parented (above x b s) → Right (above x b s)
+        → eqb b 0 ≡ false → extendable x s ≡ true → IsName b → Parented parentOf (above x b s) → Right (above x b s)
     unfolding above extendable ownBlock carried
     above-right s x b i w m v l z k n p =
         let us = s .tallies in
@@ -344,7 +344,7 @@ module _ (g : Settings) (P : ℕ → ℕ → ℕ → ℕ → Type 0) (parentOf :
     origin-right s i w m (made b r e) =
         let (x, k, v, l, z, q, f) = offer-made b s m e in
         let n = offers-known b m r in
-        subst Right f (above-right s x b i w k v l z q (n .0) (subst Parented (sym f) (n .1)))
+        subst Right f (above-right s x b i w k v l z q (n .0) (subst (Parented parentOf) (sym f) (n .1)))
 
     -- ---- the moves
 
@@ -400,7 +400,7 @@ module _ (g : Settings) (P : ℕ → ℕ → ℕ → ℕ → Type 0) (parentOf :
         by-bool (belowLock y s) (λ l. rw (voting-low y s l) (votingAll-proper ys s (a .1) (rw (voting-low y s l) at h) i))
         (λ l.
         rw (voting-high y s l)
-        (let o = rw (voting-high y s l) at h in votingAll-proper ys (votedFor y s) (a .1) (o .1 .1) (voted-proper y s (a .0) (o .1 .0) i)))
+        (let o = rw (voting-high y s l) at h in votingAll-proper ys (votedFor y s) (a .1) (o .1 .1) (voted-proper y s (a .0) (o .1 .0 (ap (λ (y : Settings). y .own) (i .settings))) i)))
 
     phase-proper : (s : State) (p : Phase) → Proper s → Proper (withPhase p s)
     unfolding withPhase
@@ -423,7 +423,7 @@ module _ (g : Settings) (P : ℕ → ℕ → ℕ → ℕ → Type 0) (parentOf :
     move-proper s t o (passes x (k, n, q) f c l) h w i = stored-proper x s (origin-right s i w (message x) k) i
     move-proper s t o (casts x (k, n, q) f c l) h w i =
         let r = origin-right s i w (message x) k in
-        voted-proper x (stored x s) r (unfold stored withTables in (h .1 .0)) (stored-proper x s r i)
+        voted-proper x (stored x s) r (unfold stored withTables in (h .1 .0 (ap (λ (y : Settings). y .own) (i .settings)))) (stored-proper x s r i)
     move-proper s t o (clashes x y (k, n, q) f c) h w i = phase-proper (stored x s) (waiting (s .clock)) (stored-proper x s (origin-right s i w (message x) k) i)
     move-proper s t o (accuses v m a f) h w i = blamed-proper v m s (accused-lt s i w v m a) i
     move-proper s t o (fills v m a f) h w i = phase-proper (blamed v m s) (waiting (s .clock)) (blamed-proper v m s (accused-lt s i w v m a) i)
@@ -511,15 +511,7 @@ module _ (g : Settings) (P : ℕ → ℕ → ℕ → ℕ → Type 0) (parentOf :
 -- who is known to have voted goes on being known
 module _ (g : Settings) (P Q : ℕ → ℕ → ℕ → ℕ → Type 0) (parentOf : ℕ → ℕ) (f : (v h b i : ℕ) → P v h b i → Q v h b i) where
   right-map : (m : Message) → Right g P parentOf m → Right g Q parentOf m
-  right-map m r = record { allows = r .allows; named = r .named; backed = λ t e i k. f _ _ _ i (r .backed t e i k); parent = parented m (r .parent) }
-    where
-      parented : (m : Message) → Parented g P parentOf m → Parented g Q parentOf m
-      parented (newView v h b c m a) p = tt
-      parented (propose v h b x m a) p = p
-      parented (vote v h b a) p = tt
-      parented (blame v a) p = tt
-      parented (blameSet v m) p = tt
-      parented (status h b c m) p = tt
+  right-map m r = record { allows = r .allows; named = r .named; backed = λ t e i k. f _ _ _ i (r .backed t e i k); parent = r .parent }
 
   well-map : (t : Tally) → Well g P parentOf t → Well g Q parentOf t
   well-map t w = record { low = w .low; high = w .high; block = w .block; named = w .named; mask = w .mask; backed = λ i k. f _ _ _ i (w .backed i k) }
