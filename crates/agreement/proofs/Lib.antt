@@ -1,3 +1,5 @@
 pub mod Lineage
 pub mod Events
 pub mod Group
+pub mod Follow
+pub mod Ripe
