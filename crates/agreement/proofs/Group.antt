@@ -301,7 +301,7 @@ module _ (X : Group) where
       let s = st j h in
       let g = at-settings j ok h in
       let z : happens j (event h) s .next ≡ step (write m) s .next =
-        ap (λ (y : Event). happens j y s .next) e ∙ ap (λ (o : Outcome). o .next) (happens-given j (write m) s) in
+      ap (λ (y : Event). happens j y s .next) e ∙ ap (λ (o : Outcome). o .next) (happens-given j (write m) s) in
       let run : running (step (write m) s .next) ≡ true = rw z at (X .runs j ok (suc h)) in
       subst (λ (t : State). Held (G j) t m) (sym z)
       (subst (λ (y : Settings). Held y (step (write m) s .next) m) g
@@ -339,5 +339,5 @@ module _ (X : Group) where
       let (o, q, w) = moves-of i ok k in
       let s = begun (event k) (st i k) in
       let r = moves-cast (SaidAt i) s (st i (suc k)) o w (said-here i k o q (s .clock) (sym (begun-at i ok k)))
-        (begun-orderly (SaidAt i) (event k) (st i k) (orderly-run i ok k)) in
+      (begun-orderly (SaidAt i) (event k) (st i k) (orderly-run i ok k)) in
       out-all (CastSaid (SaidAt i) (Brings i (event k) (st i k)) s (st i (suc k))) i ok k (λ h b. tt) r (toAll (vote v h b a)) m

@@ -3,3 +3,5 @@ pub mod Events
 pub mod Group
 pub mod Follow
 pub mod Ripe
+pub mod Behind
+pub mod Extends

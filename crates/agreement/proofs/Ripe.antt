@@ -102,14 +102,14 @@ module _ (X : Group) where
         let low : x .view ≤ st X s k .view = rw (R .view) (follow X r s (R .ok) hs (past-of r (R .ok) k0) k (omega arith)) in
         let en = entry-of s hs k in
         let v : st X s k .view ≡ x .view =
-          elim (decLt (x .view) (st X s k .view)) [
-            | yes y ↦ (
-                let g = past-told (SaidAt X s) (past-of s hs k) (x .view) ripe-view y in
-                let z = late (g .0) (g .2) in let b = g .1 in absurd (omega arith))
-            | no y ↦ omega arith
-          ] in
+        elim (decLt (x .view) (st X s k .view)) [
+          | yes y ↦ (
+              let g = past-told (SaidAt X s) (past-of s hs k) (x .view) ripe-view y in
+              let z = late (g .0) (g .2) in let b = g .1 in absurd (omega arith))
+          | no y ↦ omega arith
+        ] in
         let p : st X s k .phase ≡ inView =
-          by-phase (st X s k) (X .runs s hs k) (λ p. p) (λ q p. let g = quit-of s hs k q p in let b = g .0 in let z = late q (subst (λ (w : ℕ). Told (SaidAt X s) (G X s) q w) v (g .1)) in absurd (omega arith)) in
+        by-phase (st X s k) (X .runs s hs k) (λ p. p) (λ q p. let g = quit-of s hs k q p in let b = g .0 in let z = late q (subst (λ (w : ℕ). Told (SaidAt X s) (G X s) q w) v (g .1)) in absurd (omega arith)) in
         let (y, e, m, w) = R .sent in
         let a : In (st X s k .statements) x = in-cong x y e (st X s k .statements) ∙ held-stored (G X s) (st X s k) y (reach X r s (R .ok) hs (message y) t k m (omega arith)) in
         record { view = v; phase = p; has = a; voted = cast-of s hs k (t + D) p a (sym v) (le-of-eq c1) }
