@@ -5,3 +5,4 @@ pub mod Follow
 pub mod Ripe
 pub mod Behind
 pub mod Extends
+pub mod Logs

@@ -39,6 +39,13 @@ ticks (offeredTo j b) = 0
 abbrev pub settingsOf : ℕ → ℕ → ℕ → Settings
 settingsOf n D i = record { n = n; D = D; own = i }
 
+-- the reports of commits among what is said
+unfoldable pub reportsIn : List Effect → List Effect
+reportsIn [] = []
+reportsIn (toAll m ∷ es) = reportsIn es
+reportsIn (toOne i m ∷ es) = reportsIn es
+reportsIn (committed h b ∷ es) = committed h b ∷ reportsIn es
+
 module _ (n D : ℕ) (event : ℕ → Event) where
   -- station i at moment k: "from fresh stores"
   unfoldable pub at : ℕ → ℕ → State
@@ -156,15 +163,7 @@ module _ (n D : ℕ) (event : ℕ → Event) where
         pub noForgery : NoForgery
         pub oneName : OneName
 
-  -- ---- what is said of logs
-
-  -- the reports of commits among what is said, and those of station i before moment k
-  unfoldable pub reportsIn : List Effect → List Effect
-  reportsIn [] = []
-  reportsIn (toAll m ∷ es) = reportsIn es
-  reportsIn (toOne i m ∷ es) = reportsIn es
-  reportsIn (committed h b ∷ es) = committed h b ∷ reportsIn es
-
+  -- the reports of station i before moment k
   unfoldable pub reported : ℕ → ℕ → List Effect
   unfolding reportsIn out
   reported i zero = []
