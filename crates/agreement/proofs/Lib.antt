@@ -6,3 +6,4 @@ pub mod Ripe
 pub mod Behind
 pub mod Extends
 pub mod Logs
+pub mod Ancestors

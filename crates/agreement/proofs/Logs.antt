@@ -42,8 +42,14 @@ event-log i commonTick s r = inr (refl, refl, tick-moves (Brings i commonTick s)
 event-log i (given j bs) s r = inl refl
 event-log i (offeredTo j b) s r = inl refl
 
+event-tick : (i : ℕ) (e : Event) (s : State) → e ≡ commonTick → running (happens i e s .next) ≡ true
+    → (begun e s .log ≡ logAfter s) × (commits (counted s .statements) (due (counted s)) (counted s .log) ≡ some (logAfter s))
+event-tick i e s q =
+    subst (λ (y : Event). running (happens i y s .next) ≡ true → (begun y s .log ≡ logAfter s) × (commits (counted s .statements) (due (counted s)) (counted s .log) ≡ some (logAfter s))) (sym q)
+    (λ r. unfold happens begun withLog in (refl, tick-moves (Brings i commonTick s) s r .0))
+
 -- a tick changes no statement and no log by counting
-counted-same : (s : State) → (counted s .statements ≡ s .statements) × (counted s .log ≡ s .log) × (counted s .settings ≡ s .settings) × (counted s .phase ≡ s .phase) × (counted s .view ≡ s .view) × (counted s .clock ≡ s .clock + 1)
+pub counted-same : (s : State) → (counted s .statements ≡ s .statements) × (counted s .log ≡ s .log) × (counted s .settings ≡ s .settings) × (counted s .phase ≡ s .phase) × (counted s .view ≡ s .view) × (counted s .clock ≡ s .clock + 1)
 unfolding counted withClock
 counted-same s = (refl, refl, refl, refl, refl, refl)
 
@@ -118,6 +124,15 @@ module _ (X : Group) where
   stored-lineage i ok k x l m n e =
       let a = proper-run X i ok k .statements in
       chain-lineage parentOf (G X i) (VotedBy X (ck X k)) (st X i k .statements) x l a (all-of (RightIn i k) (st X i k .statements) a x m) n e
+
+  -- a common tick leaves the log that its commits make
+  pub tick-log : (i : ℕ) → Ok X i → (k : ℕ) → event k ≡ commonTick
+      → (st X i (suc k) .log ≡ logAfter (st X i k)) × (commits (counted (st X i k) .statements) (due (counted (st X i k))) (counted (st X i k) .log) ≡ some (logAfter (st X i k)))
+  unfolding at
+  tick-log i ok k e =
+      let same = moves-fixed (moves-of X i ok k .2) .2 in
+      let (l, c) = event-tick i (event k) (st X i k) e (X .runs i ok (suc k)) in
+      (same ∙ l, c)
 
   -- the log is empty, or the lineage of a propose that was ripe, down to genesis
   abbrev pub RipeLog : ℕ → List ℕ → Type 0
