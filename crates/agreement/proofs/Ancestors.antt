@@ -26,7 +26,8 @@ use Rattle.rules.proofs.Commits.{Committed, commits-some, Due, facts-due}
 use Rattle.agreement.specs.Schedule.{Event, commonTick, ticks, at, Says, lineage}
 use Rattle.agreement.proofs.Lineage.{up, propose-facts, AllStored, chain-whole}
 use Rattle.agreement.proofs.Events.{begun, begun-same}
-use Rattle.agreement.proofs.Group.{Group, good-facts, st, ck, Ok, G, SaidAt, VotedBy, clock-suc, clock-before, begun-at, moves-of, at-settings, at-clock, kept-run, orderly-run, proper-run, reach}
+use Rattle.agreement.proofs.Clock.{clock-suc, clock-before}
+use Rattle.agreement.proofs.Group.{Group, good-facts, st, ck, Ok, G, SaidAt, VotedBy, begun-at, moves-of, at-settings, at-clock, kept-run, orderly-run, proper-run, reach}
 use Rattle.agreement.proofs.Behind.{SoundVote, Behind, Grounds, grounds}
 use Rattle.agreement.proofs.Logs.{tick-log, counted-same, RightIn, stored-lineage}
 
@@ -157,13 +158,13 @@ module _ (X : Group) where
     s = st X r k
 
     after-tick : ck X (suc k) ≡ ck X k + 1
-    after-tick = clock-suc X k ∙ ap (λ (y : Event). ck X k + ticks y) (S .tick) ∙ (unfold ticks in refl)
+    after-tick = clock-suc n D event k ∙ ap (λ (y : Event). ck X k + ticks y) (S .tick) ∙ (unfold ticks in refl)
 
     later : suc j < k
     later =
         let (odd, least, most, delay) = good-facts (G X 0) (X .settings) in
         let d = S .due in
-        clock-before X (suc j) k (omega arith)
+        clock-before n D event (suc j) k (omega arith)
 
     -- the statement of a vote at event j is stored as the tick begins, and it is a propose
     voted-propose : (w : Statement) → In (st X r (suc j) .statements) w → w .view ≡ v → w .height ≡ h → In (st X r k .statements) w × (w .isNewView ≡ false)

@@ -31,6 +31,7 @@ use Rattle.rules.proofs.Held.{Held, held-kept, step-held, HeldSaid, moves-said}
 use Rattle.rules.proofs.Votes.{Cast, CastSaid, moves-cast}
 use Rattle.rules.proofs.Proper.{Right, Proper, Known, Sayable, Parented, fresh-proper, proper-map, moves-proper}
 use Rattle.agreement.specs.Schedule.{Event, idle, commonTick, given, offeredTo, happens, ticks, settingsOf, at, out, clock, Says, Sound, IsLent, Hands, Offers}
+use Rattle.agreement.proofs.Clock.{clock-suc, clock-mono, clock-before}
 use Rattle.agreement.proofs.Events.{GivenBy, OfferedBy, Brings, begun, before, event-moves, begun-clock, begun-same, begun-kept, begun-orderly, begun-proper, before-all, mem-after, event-settled, ticks-two, ticks-given, happens-given}
 
 -- good settings, as facts
@@ -93,40 +94,6 @@ module _ (X : Group) where
   abbrev pub VotedBy : (c v h b i : ℕ) → Type 0
   VotedBy c v h b i = Ok i → (l : ℕ) × (ck (suc l) ≤ c) × Says n D event i l (toAll (vote v h b i))
 
-  pub clock-suc : (k : ℕ) → ck (suc k) ≡ ck k + ticks (event k)
-  unfolding clock
-  clock-suc k = refl
-
-  pub clock-mono : (k l : ℕ) → k ≤ l → ck k ≤ ck l
-  clock-mono k zero c = let e : k ≡ 0 = omega arith in rw e (omega arith)
-  clock-mono k (suc l) c =
-      let s = clock-suc l in
-      elim (decLe k l) [
-        | yes d ↦ (let r = clock-mono k l d in omega arith)
-        | no d ↦ (let e : k ≡ suc l = omega arith in rw e (omega arith))
-      ]
-
-  pub clock-before : (k l : ℕ) → ck k < ck l → k < l
-  clock-before k l h =
-      elim (decLt k l) [
-        | yes d ↦ d
-        | no d ↦ (let r = clock-mono l k (omega arith) in absurd (omega arith))
-      ]
-
-  -- the last moment of a clock: there a common tick is next
-  pub last-of : (c k : ℕ) → c < ck k → (l : ℕ) × (l < k) × (ck l ≡ c) × (ck (suc l) ≡ c + 1) × (event l ≡ commonTick)
-  unfolding clock
-  last-of c zero h = absurd (omega arith)
-  last-of c (suc k) h =
-      elim (decLt c (ck k)) [
-        | yes d ↦ (let (l, a, b, e, f) = last-of c k d in (l, omega arith, b, e, f))
-        | no d ↦ go d (ticks-two (event k))
-      ]
-    where
-      go : ¬ (c < ck k) → (ticks (event k) ≡ 0) ⊎ ((ticks (event k) ≡ 1) × (event k ≡ commonTick)) → (l : ℕ) × (l < suc k) × (ck l ≡ c) × (ck (suc l) ≡ c + 1) × (event l ≡ commonTick)
-      go d (inl t) = absurd (omega arith)
-      go d (inr (t, e)) = (k, omega arith, omega arith, omega arith, e)
-
   abbrev pub G : ℕ → Settings
   G i = settingsOf n D i
 
@@ -158,7 +125,7 @@ module _ (X : Group) where
   at-clock i h (suc k) = moves-fixed (moves-of i h k .2) .1 ∙ begun-clock (event k) (st i k) ∙ ap (_+ ticks (event k)) (at-clock i h k)
 
   pub begun-at : (i : ℕ) → Ok i → (k : ℕ) → begun (event k) (st i k) .clock ≡ ck (suc k)
-  begun-at i h k = begun-clock (event k) (st i k) ∙ ap (_+ ticks (event k)) (at-clock i h k) ∙ sym (clock-suc k)
+  begun-at i h k = begun-clock (event k) (st i k) ∙ ap (_+ ticks (event k)) (at-clock i h k) ∙ sym (clock-suc n D event k)
 
   -- ---- L1 to L5 along the run
 
@@ -201,7 +168,7 @@ module _ (X : Group) where
   unfolding at fresh
   prompt i h zero q p l = no-phase (sym p)
   prompt i h (suc k) q p l =
-      go (clock-suc k) (at-clock i h (suc k)) (prompt i h k q)
+      go (clock-suc n D event k) (at-clock i h (suc k)) (prompt i h k q)
       (moves-late (begun (event k) (st i k)) (st i (suc k)) (moves-of i h k .0) (moves-of i h k .2) q p) (ticks-two (event k))
     where
       go : ck (suc k) ≡ ck k + ticks (event k) → st i (suc k) .clock ≡ ck (suc k) → (st i k .phase ≡ waiting q → st i k .view < lastView → ck k ≤ q + D)
@@ -241,7 +208,7 @@ module _ (X : Group) where
         named = fitting-named m (read-fits bs m bytes q);
         backed = λ t c j b s.
             let (l, u, w) = X .voters k i m hands t c j s b in
-            let o = clock-mono (suc l) (suc k) (omega arith) in
+            let o = clock-mono n D event (suc l) (suc k) (omega arith) in
             (l, o, w);
         parent = X .parents k i m (inl hands);
       }
@@ -266,7 +233,7 @@ module _ (X : Group) where
       → Moves (Brings i (event k) (st i k)) (begun (event k) (st i k)) t o → All (SaidAt i (ck (suc k))) o → t .view ≤ lastView
       → Proper (G i) (VotedBy (ck (suc k))) parentOf t × All (Sayable (G i) (VotedBy (ck (suc k))) parentOf) o
   chain-proper i ok k p t o w s l =
-      let c = clock-mono k (suc k) (omega arith) in
+      let c = clock-mono n D event k (suc k) (omega arith) in
       let later : (v h b j : ℕ) → VotedBy (ck k) v h b j → VotedBy (ck (suc k)) v h b j = λ v h b j f y. let (x, u, z) = f y in (x, omega arith, z) in
       let q = proper-map (G i) (VotedBy (ck k)) (VotedBy (ck (suc k))) parentOf later (st i k) p in
       let e = begun-same (event k) (st i k) .2 in
@@ -322,7 +289,7 @@ module _ (X : Group) where
       let (odd, least, most, delay) = good-facts (G 0) (X .settings) in
       elim (ℕ-discrete i j) [
         | yes q ↦ (
-            let b = clock-before (suc l) k (omega arith) in
+            let b = clock-before n D event (suc l) k (omega arith) in
             subst (λ (a : ℕ). Held (G a) (st a k) m) q
             (held-kept (G i) (kept-run i hi (suc l) k (omega arith)) m (said-held i hi l m s)))
         | no q ↦ (

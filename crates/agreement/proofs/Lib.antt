@@ -1,5 +1,6 @@
 pub mod Lineage
 pub mod Events
+pub mod Clock
 pub mod Group
 pub mod Follow
 pub mod Ripe

@@ -26,7 +26,8 @@ use Rattle.rules.proofs.Commits.{begins-refl, Committed, commits-some, Due, due
 use Rattle.agreement.specs.Schedule.{Event, idle, commonTick, given, offeredTo, happens, ticks, at, out, Says, Linked, lineage, reportsIn, reported}
 use Rattle.agreement.proofs.Lineage.{up, lineage-up, lineage-linked, chain-lineage}
 use Rattle.agreement.proofs.Events.{Brings, begun, before}
-use Rattle.agreement.proofs.Group.{Group, st, ck, Ok, G, SaidAt, VotedBy, clock-suc, moves-of, at-settings, at-clock, orderly-run, once-run, proper-run}
+use Rattle.agreement.proofs.Clock.{clock-suc}
+use Rattle.agreement.proofs.Group.{Group, st, ck, Ok, G, SaidAt, VotedBy, moves-of, at-settings, at-clock, orderly-run, once-run, proper-run}
 use Rattle.agreement.proofs.Ripe.{Ripe}
 use Rattle.agreement.proofs.Behind.{SoundVote}
 use Rattle.agreement.proofs.Extends.{Extends, extends}
@@ -157,7 +158,7 @@ module _ (X : Group) where
           let s = st X i k in
           let d = due-facts (counted s) x m in
           let es = counted-same s .0 in
-          let t : ck X k + 1 ≡ ck X (suc k) = sym (clock-suc X k ∙ ap (λ (y : Event). ck X k + ticks y) f ∙ (unfold ticks in refl)) in
+          let t : ck X k + 1 ≡ ck X (suc k) = sym (clock-suc n D event k ∙ ap (λ (y : Event). ck X k + ticks y) f ∙ (unfold ticks in refl)) in
           let sn = X .soon k in
           let (c, r) = due-ripe i ok k (omega arith) x d in
           let (l, u) = stored-lineage i ok k x (logAfter s) (subst (List·Memᴰ x) es (d .0)) (d .1) (subst (λ (y : List Statement). chain y x ≡ some (logAfter s)) es q) in

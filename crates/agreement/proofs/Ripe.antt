@@ -25,7 +25,8 @@ use Rattle.rules.proofs.Votes.{Cast, Stands}
 use Rattle.rules.proofs.Locks.{HasAll, Locked, moves-locked}
 use Rattle.agreement.specs.Schedule.{Event, at}
 use Rattle.agreement.proofs.Events.{Brings, begun, begun-same, begun-kept}
-use Rattle.agreement.proofs.Group.{Group, st, ck, Ok, G, SaidAt, good-facts, last-of, moves-of, at-settings, at-clock, kept-run, orderly-run, view-run, reach}
+use Rattle.agreement.proofs.Clock.{last-of}
+use Rattle.agreement.proofs.Group.{Group, st, ck, Ok, G, SaidAt, good-facts, moves-of, at-settings, at-clock, kept-run, orderly-run, view-run, reach}
 use Rattle.agreement.proofs.Follow.{told-out, follow}
 
 module _ (X : Group) where
@@ -76,7 +77,7 @@ module _ (X : Group) where
         let d = R .due in
         let u = X .late k0 in
         let (odd, least, most, delay) = good-facts (G X 0) (X .settings) in
-        let m = last-of X (t + D) k0 (omega arith) in
+        let m = last-of n D event (t + D) k0 (omega arith) in
         (m .0, m .1, m .2, m .3)
 
     -- G3b: at that moment every sound station is in the view, holds x and has voted for it
