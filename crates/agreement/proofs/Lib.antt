@@ -8,3 +8,4 @@ pub mod Behind
 pub mod Extends
 pub mod Logs
 pub mod Ancestors
+pub mod Theorems

@@ -9,7 +9,7 @@ use mathlib.Core.Option.{Option, some}
 use lib.Dec.{eqb}
 use Rattle.rules.specs.Sizes.{Settings, goodSettings, faults, bit, count}
 use Rattle.rules.specs.Messages.{Message, newView, propose, vote, blame, blameSet, status, read, write, allowed, Effect, toAll, toOne, committed}
-use Rattle.rules.specs.Words.{State, fresh}
+use Rattle.rules.specs.Words.{full, clock as late, stopped, State, fresh}
 use Rattle.rules.specs.Inputs.{saying, offered}
 use Rattle.rules.specs.Refusals.{Outcome, done, running, step, offer, tick}
 use Rattle.rules.proofs.Bytes.{Bytes}
@@ -96,6 +96,10 @@ module _ (n D : ℕ) (event : ℕ → Event) where
     abbrev pub SoundRun : Type 0
     SoundRun = (i : ℕ) → Sound i → (k : ℕ) → running (at i k) ≡ true
 
+    -- less: it is never stopped for want of records or at the last clock
+    abbrev pub NeverFull : Type 0
+    NeverFull = (i : ℕ) → Sound i → (k : ℕ) → ¬ (at i k .phase ≡ stopped full) × ¬ (at i k .phase ≡ stopped late)
+
     -- "hosts lend proper buffers": a message is bytes, an offered name is 32 of them
     abbrev pub IsLent : Event → Type 0
     IsLent idle = Unit {0}
@@ -154,14 +158,17 @@ module _ (n D : ℕ) (event : ℕ → Event) where
 
       -- ---- the schedule of demand 3
 
-      pub record Schedule : Type 0 where
+      pub record Premises : Type 0 where
         pub settings : GoodSettings
         pub few : AtMostF
-        pub runs : SoundRun
         pub lent : ProperBuffers
         pub inTime : InTime
         pub noForgery : NoForgery
         pub oneName : OneName
+
+      pub record Schedule : Type 0 where
+        pub premises : Premises
+        pub runs : SoundRun
 
   -- the reports of station i before moment k
   unfoldable pub reported : ℕ → ℕ → List Effect
