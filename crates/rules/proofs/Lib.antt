@@ -16,3 +16,4 @@ pub mod Votes
 pub mod Locks
 pub mod Proper
 pub mod Commits
+pub mod Splits

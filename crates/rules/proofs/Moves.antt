@@ -138,11 +138,11 @@ carried-certificate x = by-bool (x .isNewView) (λ e. rw e refl) (λ e. rw e ref
 
 -- ---- a tick, step by step
 
-ticked-none : (s : State) → commits (counted s .statements) (due (counted s)) (counted s .log) ≡ none → ticked s ≡ none
+pub ticked-none : (s : State) → commits (counted s .statements) (due (counted s)) (counted s .log) ≡ none → ticked s ≡ none
 unfolding ticked counted
 ticked-none s q = rw (ticked, q)
 
-ticked-some : (s : State) (l : List ℕ) → commits (counted s .statements) (due (counted s)) (counted s .log) ≡ some l
+pub ticked-some : (s : State) (l : List ℕ) → commits (counted s .statements) (due (counted s)) (counted s .log) ≡ some l
     → ticked s ≡ some (logging l (counted s) ▸ complain ▸ lead ▸ enter)
 unfolding ticked counted
 ticked-some s l q = rw (ticked, q)
@@ -196,7 +196,7 @@ module _ (R : Outside) where
   unfolding tallied saying
   tallied-moves m t s g c = one (joins m t g c)
 
-  handled-moves : (m : Message) (s : State) → Origin R s m → Does s (handled m s)
+  pub handled-moves : (m : Message) (s : State) → Origin R s m → Does s (handled m s)
   unfolding handled carried
   handled-moves (newView v h b c m a) s g =
       let x : Statement = record { isNewView = true; view = v; height = h; name = b; link = c; mask = m; author = a; voted = none } in
@@ -209,22 +209,22 @@ module _ (R : Outside) where
   handled-moves (blameSet v m) s g = blaming-moves v m s (listed v m g)
   handled-moves (status h b c m) s g = tallied-moves (status h b c m) (record { view = c; height = h; name = b; mask = m }) s g refl
 
-  then-moves : {s : State} (w : Work) (f : State → Work) → Does s w → ((t : State) → Does t (f t)) → Does s (w ▸ f)
+  pub then-moves : {s : State} (w : Work) (f : State → Work) → Does s w → ((t : State) → Does t (f t)) → Does s (w ▸ f)
   unfolding _▸_
   then-moves w f p h = moves-trans p (h (w .now))
 
-  complain-moves : (s : State) → Does s (complain s)
+  pub complain-moves : (s : State) → Does s (complain s)
   unfolding complain saying _▸_
   complain-moves s =
       by-bool (overdue s)
       (λ q. rw (q, complain) (moves-trans (one (complains q)) (blaming-moves (s .view) (only (s .settings .own)) s (own q))))
       (λ q. rw (q, complain) here)
 
-  lead-moves : (s : State) → Does s (lead s)
+  pub lead-moves : (s : State) → Does s (lead s)
   unfolding lead saying
   lead-moves s = by-bool (leadsNow s) (λ q. rw (q, lead) (handled-moves (ownNewView s) s (led q))) (λ q. rw (q, lead) here)
 
-  enter-moves : (s : State) → Does s (enter s)
+  pub enter-moves : (s : State) → Does s (enter s)
   unfolding enter quit entered saying _▸_ entering blameFull blamesOf
   enter-moves s =
       let e = arrived s in
