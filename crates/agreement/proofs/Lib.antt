@@ -9,3 +9,4 @@ pub mod Extends
 pub mod Logs
 pub mod Ancestors
 pub mod Theorems
+pub mod NoSplit

@@ -22,7 +22,8 @@ use Rattle.rules.proofs.Moves.{counted, logAfter, news, tick-moves}
 use Rattle.rules.proofs.Kept.{in-true, moves-fixed}
 use Rattle.rules.proofs.Orderly.{Voted}
 use Rattle.rules.proofs.Proper.{Right}
-use Rattle.rules.proofs.Commits.{begins-refl, Committed, commits-some, Due, due-facts, reports-append, moves-messages}
+use Rattle.rules.proofs.Commits.{begins-merge, Committed, commits-some, commits-none, Due, due-facts, reports-append, moves-messages}
+use Rattle.rules.proofs.Splits.{dueCommits}
 use Rattle.agreement.specs.Schedule.{Event, idle, commonTick, given, offeredTo, happens, ticks, at, out, Says, Linked, lineage, reportsIn, reported}
 use Rattle.agreement.proofs.Lineage.{up, lineage-up, lineage-linked, chain-lineage}
 use Rattle.agreement.proofs.Events.{Brings, begun, before}
@@ -224,3 +225,28 @@ module _ (X : Group) where
       let quiet = none-reported o (moves-messages (λ e. reportsIn (e ∷ []) ≡ []) (λ m. unfold reportsIn in refl) (λ j m. unfold reportsIn in refl) (begun (event k) s) (st X i (suc k)) o w) in
       let e : reportsIn (out n D event i k) ≡ reportsIn (before (event k) s) = ap reportsIn q ∙ reportsIn-append (before (event k) s) o ∙ ap (reportsIn (before (event k) s) ++_) quiet ∙ append-nil _ in
       ap (_++ reportsIn (out n D event i k)) (log-reported i ok k) ∙ ap (reports 1 (s .log) ++_) e ∙ event-reported i (event k) s (X .runs i ok (suc k)) ∙ ap (reports 1) (sym same)
+
+  -- ---- no due commit differs from the log
+
+  pub commits-agree : (i : ℕ) → Ok X i → (k : ℕ) → ck X k + 1 ≤ next k → ¬ (dueCommits (st X i k) ≡ none)
+  commits-agree i ok k nx e =
+      let s = st X i k in
+      let (x, bs, j, m, c, f, o) = commits-none (counted s .statements) (due (counted s)) (counted s .log) e in
+      let (t, R, l) = due-lineage x bs m c in
+      begins-merge bs j (rw l (go j t x R o (log-run i ok k))) f
+    where
+      due-lineage : (x : Statement) (l : List ℕ) → List·Memᴰ x (due (counted (st X i k))) → chain (counted (st X i k) .statements) x ≡ some l
+          → (t : ℕ) × Ripe X i k t x × (l ≡ lineage parentOf (x .height) (x .name))
+      due-lineage x l m c =
+          let d = due-facts (counted (st X i k)) x m in
+          let es = counted-same (st X i k) .0 in
+          let (t, R) = due-ripe i ok k nx x d in
+          (t, R, stored-lineage i ok k x l (subst (List·Memᴰ x) es (d .0)) (d .1) (subst (λ (y : List Statement). chain y x ≡ some l) es c) .0)
+
+      go : (j : List ℕ) (t : ℕ) (x : Statement) → Ripe X i k t x
+          → (j ≡ counted (st X i k) .log) ⊎ ((y : Statement) × List·Memᴰ y (due (counted (st X i k))) × (chain (counted (st X i k) .statements) y ≡ some j))
+          → (st X i k .log ≡ []) ⊎ RipeLog i (st X i k .log)
+          → IsPrefix (lineage parentOf (x .height) (x .name)) j ⊎ IsPrefix j (lineage parentOf (x .height) (x .name))
+      go j t x R (inr (y, m, c)) h = let (u, S, l) = due-lineage y j m c in rw l (ripe-begins i k t x R i k u y S)
+      go j t x R (inl e) (inl z) = rw (e ∙ counted-same (st X i k) .1 ∙ z) (inr (lineage parentOf (x .height) (x .name), refl))
+      go j t x R (inl e) (inr (k0, u, y, S, z, w)) = rw (e ∙ counted-same (st X i k) .1 ∙ z) (ripe-begins i k t x R i k0 u y S)
