@@ -8,5 +8,6 @@ pub mod Behind
 pub mod Extends
 pub mod Logs
 pub mod Ancestors
-pub mod Theorems
+pub mod Needed
 pub mod NoSplit
+pub mod Theorems

@@ -1,4 +1,4 @@
--- Theorem C: refusal 7 never happens to a station that was sound until that tick. The schedule is cut before the tick at which it
+-- Refusal 7 never happens to a station that was sound until that tick. The schedule is cut before the tick at which it
 -- would happen; up to there all sound stations run, so all that was proved holds there, and what is due agrees with the log. Assumes nothing.
 use mathlib.Core.Path.{_≡_, subst, refl, sym, ap, _∙_}
 use Prim.Native.Nat.{ℕ, zero, suc, _+_, _-_, _*_, _≤_, _<_}
@@ -23,7 +23,7 @@ use Rattle.agreement.specs.Schedule.{Event, idle, commonTick, given, off
 use Rattle.agreement.proofs.Clock.{clock-suc, clock-mono}
 use Rattle.agreement.proofs.Group.{Group}
 use Rattle.agreement.proofs.Logs.{commits-agree}
-use Rattle.agreement.proofs.Theorems.{one-tick, genuine-voters, block-parent, delivered}
+use Rattle.agreement.proofs.Needed.{one-tick, genuine-voters, block-parent, delivered}
 
 still : (s : State) → running s ≡ true → Split s → ⊥
 unfolding running
@@ -230,8 +230,6 @@ module _ (n D : ℕ) (event : ℕ → Event) (k : ℕ) where
         let f = next-after k (clock n D event) k (omega arith) in
         let c = ticks-before k (omega arith) in
         commits-agree cut-group i ok k (omega arith) (subst (λ (s : State). dueCommits s ≡ none) (sym (at-before i k (omega arith))) e)
-
--- ---- Theorem C
 
 module _ (n D : ℕ) (event : ℕ → Event) (faulty : ℕ) (heightOf parentOf : ℕ → ℕ) (P : Premises n D event faulty heightOf parentOf) (room : NeverFull n D event faulty) where
   runs-on : (k : ℕ) → ((i : ℕ) → Sound n D event faulty i → (j : ℕ) → j ≤ k → running (at n D event i j) ≡ true) → (i : ℕ) → Sound n D event faulty i → running (at n D event i (suc k)) ≡ true

@@ -92,13 +92,13 @@ module _ (n D : ℕ) (event : ℕ → Event) where
     abbrev pub AtMostF : Type 0
     AtMostF = count faulty ≤ faults (settingsOf n D 0)
 
-    -- "stopped stations count among the f": a sound station is never stopped
-    abbrev pub SoundRun : Type 0
-    SoundRun = (i : ℕ) → Sound i → (k : ℕ) → running (at i k) ≡ true
-
-    -- less: it is never stopped for want of records or at the last clock
+    -- "stopped stations count among the f": a sound station is never stopped for want of records or at the last clock. That a due
+    -- commit never stops one needs no premise (SoundRun, Theorem C).
     abbrev pub NeverFull : Type 0
     NeverFull = (i : ℕ) → Sound i → (k : ℕ) → ¬ (at i k .phase ≡ stopped full) × ¬ (at i k .phase ≡ stopped late)
+
+    abbrev pub SoundRun : Type 0
+    SoundRun = (i : ℕ) → Sound i → (k : ℕ) → running (at i k) ≡ true
 
     -- "hosts lend proper buffers": a message is bytes, an offered name is 32 of them
     abbrev pub IsLent : Event → Type 0
@@ -168,7 +168,7 @@ module _ (n D : ℕ) (event : ℕ → Event) where
 
       pub record Schedule : Type 0 where
         pub premises : Premises
-        pub runs : SoundRun
+        pub room : NeverFull
 
   -- the reports of station i before moment k
   unfoldable pub reported : ℕ → ℕ → List Effect
