@@ -5,3 +5,7 @@ pub mod Messages
 pub mod Words
 pub mod Inputs
 pub mod Refusals
+pub mod WellFormed
+pub mod Script
+pub mod Corners
+pub mod Bench

@@ -34,6 +34,10 @@ module _ {A : Type 0} (p : A → Bool) where
   any [] = false
   any (x ∷ xs) = elim (p x) [ true ↦ true | false ↦ any xs ]
 
+  unfoldable pub all : List A → Bool
+  all [] = true
+  all (x ∷ xs) = p x && all xs
+
   unfoldable pub keep : List A → List A
   keep [] = []
   keep (x ∷ xs) = elim (p x) [ true ↦ x ∷ keep xs | false ↦ keep xs ]
@@ -42,6 +46,12 @@ module _ {A : Type 0} (p : A → Bool) where
   unfoldable pub alter : (A → A) → List A → List A
   alter f [] = []
   alter f (x ∷ xs) = elim (p x) [ true ↦ f x ∷ xs | false ↦ x ∷ alter f xs ]
+
+-- no two are the same
+unfoldable pub distinct : {A : Type 0} → (A → A → Bool) → List A → Bool
+unfolding any
+distinct same [] = true
+distinct same (x ∷ xs) = not (any (same x) xs) && distinct same xs
 
 -- in ascending order of a key, then by place
 module _ {A : Type 0} (key : A → ℕ) where

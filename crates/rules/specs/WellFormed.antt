@@ -1,0 +1,87 @@
+-- 01, 'When the desk says no': which states a station can be in. The parts are numbered as docs/STORE.md lists them. Assumes nothing.
+use Prim.Native.Nat.{ℕ, suc, _+_, _^_}
+use mathlib.Core.Bool.{Bool, true, false, not, _&&_, _||_}
+use mathlib.Core.List.{List, [], _∷_}
+use mathlib.Core.Option.{none, some}
+use lib.ListN.{length}
+use lib.Dec.{leb, ltb, eqb}
+use Rattle.rules.specs.Limits.{lastView, mostStatements, mostTallies, lastClock}
+use Rattle.rules.specs.Lists.{any, all, distinct, within}
+use Rattle.rules.specs.Sizes.{Settings, goodSettings}
+use Rattle.rules.specs.Messages.{viewAllowed, blockAllowed, certificateAllowed, allowed}
+use Rattle.rules.specs.Words.{Statement, message, sameStatement, Tally, ownBlock, certificate, sameBlock, Phase, inView, waiting, stopped, State}
+use Rattle.rules.specs.Inputs.{isBlock}
+
+-- a name is 32 bytes; a mask has no bit at n or above
+unfoldable pub isName : ℕ → Bool
+isName b = ltb b (256 ^ 32)
+
+unfoldable pub isMask : Settings → ℕ → Bool
+isMask g m = ltb m (2 ^ g .n)
+
+-- (3) entry, then the quit of a waiting station, then the clock, up to its end
+unfoldable pub clocksInOrder : State → Bool
+unfolding within
+clocksInOrder s =
+    leb (s .entry) (s .clock) && leb (s .clock) lastClock
+    && elim (s .phase) [ inView ↦ true | waiting q ↦ within (s .entry) (s .clock) q | stopped c ↦ true ]
+
+-- (4) the lock is a certificate of an earlier view
+unfoldable pub lockGood : State → Bool
+unfolding blockAllowed certificateAllowed isName
+lockGood s =
+    let t = s .lock in
+    ltb (t .view) (s .view) && blockAllowed (t .height) (t .name) && isName (t .name)
+    && certificateAllowed (s .settings) (t .height) (t .view) (t .mask)
+
+-- (6) a stored statement is allowed, and was voted for, if ever, not after the clock
+unfoldable pub statementGood : State → Statement → Bool
+unfolding allowed message isName
+statementGood s x =
+    allowed (s .settings) (message x) && isName (x .name) && isName (x .link)
+    && elim (x .voted) [ none ↦ true | some c ↦ leb c (s .clock) ]
+
+-- (8) a tally is of a view and a block that are allowed, with a mask of these stations
+unfoldable pub tallyGood : Settings → Tally → Bool
+unfolding viewAllowed blockAllowed isName isMask
+tallyGood g t = viewAllowed (t .view) && blockAllowed (t .height) (t .name) && isName (t .name) && isMask g (t .mask)
+
+-- (9) "tallies exist from now on for its certified block and its own block in its view"; genesis "has no tally" in view 0
+unfoldable pub talliesThere : List Tally → Statement → Bool
+unfolding any sameBlock ownBlock certificate
+talliesThere ts x =
+    any (sameBlock (ownBlock x 0)) ts && (eqb (certificate x .view) 0 || any (sameBlock (certificate x)) ts)
+
+-- (10) one blame mask a view, of these stations; nobody blames view 0
+unfoldable pub blamesGood : Settings → List ℕ → Bool
+unfolding all isMask
+blamesGood g [] = false
+blamesGood g (m ∷ ms) = eqb m 0 && eqb (length ms) lastView && all (isMask g) ms
+
+-- (11) "log linked by parent to genesis": each logged name, above the one before, is that of a stored propose
+unfoldable pub linked : List Statement → ℕ → ℕ → List ℕ → Bool
+unfolding any isBlock
+linked xs h parent [] = true
+linked xs h parent (b ∷ l) = any (λ x. isBlock (suc h) b x && eqb parent (x .link)) xs && linked xs (suc h) b l
+
+unfoldable pub wellFormed : State → Bool
+unfolding goodSettings viewAllowed clocksInOrder lockGood all statementGood distinct sameStatement tallyGood sameBlock talliesThere blamesGood linked
+wellFormed s =
+    -- (1) settings in range
+    goodSettings (s .settings)
+    -- (2) the view in range
+    && viewAllowed (s .view)
+    && clocksInOrder s
+    && lockGood s
+    -- (5) counts in range
+    && leb (length (s .statements)) mostStatements
+    && leb (length (s .tallies)) mostTallies
+    -- (6), (7) statements allowed and distinct
+    && all (statementGood s) (s .statements)
+    && distinct sameStatement (s .statements)
+    -- (8) tallies allowed and distinct
+    && all (tallyGood (s .settings)) (s .tallies)
+    && distinct sameBlock (s .tallies)
+    && all (talliesThere (s .tallies)) (s .statements)
+    && blamesGood (s .settings) (s .blames)
+    && linked (s .statements) 0 0 (s .log)

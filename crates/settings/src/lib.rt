@@ -1,0 +1,130 @@
+// The settings of a station: the limits of 01, which code reads here and nowhere else, and what follows from n and the own number.
+ghost use mathlib.Core.Path.{_≡_};
+ghost use Prim.Native.Nat.{_<_, _^_};
+ghost use Rattle.rules.specs.Limits.{maskBits};
+ghost use Rattle.rules.specs.Sizes.{leader, quorum, only};
+ghost use Rattle.settings.specs.Made.{made, settingsOf, tied};
+
+pub struct Settings {
+    pub n: u64,
+    pub delay: u64,
+    pub own: u64,
+}
+
+pub enum Made {
+    Good(Settings),
+    Bad,
+}
+
+// Every limit, as the definitions have them.
+pub struct Limits {
+    pub least_stations: u64,
+    pub most_stations: u64,
+    pub least_delay: u64,
+    pub most_delay: u64,
+    pub first_view: u64,
+    pub last_view: u64,
+    pub last_height: u64,
+    pub most_statements: usize,
+    pub most_tallies: usize,
+    pub last_clock: u64,
+    pub least_out: usize,
+}
+
+impl Settings {
+    pub const LEAST_STATIONS: u64 = 3;
+
+    pub const MOST_STATIONS: u64 = 15;
+
+    pub const LEAST_DELAY: u64 = 1;
+
+    pub const MOST_DELAY: u64 = 10_000;
+
+    pub const FIRST_VIEW: u64 = 1;
+
+    pub const LAST_VIEW: u64 = 32;
+
+    pub const LAST_HEIGHT: u64 = 65_535;
+
+    pub const MOST_STATEMENTS: usize = 128;
+
+    pub const MOST_TALLIES: usize = 256;
+
+    pub const LAST_CLOCK: u64 = 4_000_000_000;
+
+    pub const LEAST_OUT: usize = 32_768;
+
+    // The settings, or that they are bad.
+    pub fn new(n: u64, delay: u64, own: u64) -> Made
+        ensures { λ r. ⌜ r ≡ made n delay own ⌝ }
+    {
+        if n % 2 != 1 {
+            return Made::Bad;
+        }
+        if n < Settings::LEAST_STATIONS {
+            return Made::Bad;
+        }
+        if Settings::MOST_STATIONS < n {
+            return Made::Bad;
+        }
+        if delay < Settings::LEAST_DELAY {
+            return Made::Bad;
+        }
+        if Settings::MOST_DELAY < delay {
+            return Made::Bad;
+        }
+        if n <= own {
+            return Made::Bad;
+        }
+        Made::Good(Settings { n, delay, own })
+    }
+
+    // The limits that code reads are those of the definitions.
+    pub fn limits() -> Limits
+        ensures { λ r. ⌜ r ≡ tied ⌝ }
+    {
+        Limits {
+            least_stations: Settings::LEAST_STATIONS,
+            most_stations: Settings::MOST_STATIONS,
+            least_delay: Settings::LEAST_DELAY,
+            most_delay: Settings::MOST_DELAY,
+            first_view: Settings::FIRST_VIEW,
+            last_view: Settings::LAST_VIEW,
+            last_height: Settings::LAST_HEIGHT,
+            most_statements: Settings::MOST_STATEMENTS,
+            most_tallies: Settings::MOST_TALLIES,
+            last_clock: Settings::LAST_CLOCK,
+            least_out: Settings::LEAST_OUT,
+        }
+    }
+
+    // The leader of a view.
+    pub fn leader(self, view: u64) -> u64
+        requires { ⌜ 0 < self .n ⌝ }
+        ensures { λ r. ⌜ r ≡ leader (settingsOf self) view ⌝ }
+    {
+        view % self.n
+    }
+
+    // Whether a mask has f+1 voters.
+    pub fn quorum(self, mask: u64) -> bool
+        requires { ⌜ mask < 2 ^ maskBits ⌝ }
+        ensures { λ r. ⌜ r ≡ quorum (settingsOf self) mask ⌝ }
+    {
+        self.n / 2 < widened(u64::count_ones(mask))
+    }
+}
+
+fn widened(x: u32) -> u64
+    ensures { λ r. ⌜ r ≡ x ⌝ }
+{
+    x as u64
+}
+
+// The mask of one station.
+pub fn only(station: u64) -> u64
+    requires { ⌜ station < maskBits ⌝ }
+    ensures { λ r. ⌜ r ≡ only station ⌝ }
+{
+    1 << station
+}
