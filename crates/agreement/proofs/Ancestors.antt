@@ -4,31 +4,29 @@ use mathlib.Core.Path.{_≡_, subst, subst₂, refl, sym, ap, _∙_}
 use Prim.Native.Nat.{ℕ, zero, suc, _+_, _-_, _*_, _≤_, _<_}
 use native.Mathlib.Omega.{arith}
 use native.Mathlib.Decide.{decLt, decLe}
-use mathlib.Core.Bool.{Bool, true, false, not, _&&_}
-use mathlib.Core.List.{List, [], _∷_, _++_, IsPrefix, List·Memᴰ}
+use mathlib.Core.Bool.{true, false}
+use mathlib.Core.List.{List, IsPrefix, List·Memᴰ}
 use mathlib.Core.Logic.{_⊎_, inl, inr}
-use mathlib.Core.Option.{Option, none, some}
-use lib.Dec.{eqb}
+use mathlib.Core.Option.{none, some}
 use Rattle.rules.specs.Lists.{first, any}
 use Rattle.rules.specs.Sizes.{Settings}
-use Rattle.rules.specs.Messages.{Message, propose, vote, Effect, toAll}
+use Rattle.rules.specs.Messages.{propose, vote, toAll}
 use Rattle.rules.specs.Words.{Statement, message, sameStatement, State, inView}
-use Rattle.rules.specs.Inputs.{isIn, isBlock, due, chain, commits}
+use Rattle.rules.specs.Inputs.{isBlock, due, chain}
 use Rattle.rules.proofs.Tests.{by-bool, by-option, no-bool}
 use Rattle.rules.proofs.Truths.{eq-eqb}
-use Rattle.rules.proofs.Searches.{All, all-of, any-mem, first-any, first-mem, first-none}
+use Rattle.rules.proofs.Searches.{all-of, any-mem, first-any, first-mem, first-none}
 use Rattle.rules.proofs.Statements.{In, same-like, no-conflict-newView}
 use Rattle.rules.proofs.Moves.{counted, logAfter}
 use Rattle.rules.proofs.Kept.{true-in, moves-fixed, moves-kept, VoteKept, moves-vote}
 use Rattle.rules.proofs.Held.{held-stored}
-use Rattle.rules.proofs.Votes.{Cast, Stands}
-use Rattle.rules.proofs.Commits.{Committed, commits-some, Due, facts-due}
+use Rattle.rules.proofs.Commits.{commits-some, Due, facts-due}
 use Rattle.agreement.specs.Schedule.{Event, commonTick, ticks, at, Says, lineage}
-use Rattle.agreement.proofs.Lineage.{up, propose-facts, AllStored, chain-whole}
+use Rattle.agreement.proofs.Lineage.{up, propose-facts, chain-whole}
 use Rattle.agreement.proofs.Events.{begun, begun-same}
 use Rattle.agreement.proofs.Clock.{clock-suc, clock-before}
 use Rattle.agreement.proofs.Group.{Group, good-facts, st, ck, Ok, G, SaidAt, VotedBy, begun-at, moves-of, at-settings, at-clock, kept-run, orderly-run, proper-run, reach}
-use Rattle.agreement.proofs.Behind.{SoundVote, Behind, Grounds, grounds}
+use Rattle.agreement.proofs.Behind.{SoundVote, Grounds, grounds}
 use Rattle.agreement.proofs.Logs.{tick-log, counted-same, RightIn, stored-lineage}
 
 module _ (X : Group) where

@@ -1,26 +1,24 @@
 -- Behind every sound vote stands a statement, and behind its certificate a sound vote that is no later: for a propose the parent
 -- in the same view, for a new-view the same block in an earlier view, down to genesis in view 0. Assumes nothing.
-use mathlib.Core.Path.{_≡_, subst, refl, sym, ap, _∙_}
-use Prim.Native.Nat.{ℕ, zero, suc, _+_, _-_, _≤_, _<_, _^_}
+use mathlib.Core.Path.{_≡_, subst, refl, sym, _∙_}
+use Prim.Native.Nat.{ℕ, suc, _-_, _≤_, _<_}
 use native.Mathlib.Omega.{arith}
-use mathlib.Core.Bool.{Bool, true, false}
-use mathlib.Core.List.{List}
+use mathlib.Core.Bool.{true, false}
 use mathlib.Core.Logic.{_⊎_, inl, inr}
-use mathlib.Core.Option.{Option, none, some}
 use lib.Dec.{eqb}
 use Rattle.rules.specs.Lists.{first}
-use Rattle.rules.specs.Sizes.{Settings, bit}
-use Rattle.rules.specs.Messages.{Message, vote, maskAllowed, Effect, toAll}
-use Rattle.rules.specs.Words.{Statement, message, sameStatement, Tally, State}
+use Rattle.rules.specs.Sizes.{bit}
+use Rattle.rules.specs.Messages.{vote, maskAllowed, toAll}
+use Rattle.rules.specs.Words.{Statement, message, sameStatement, State}
 use Rattle.rules.proofs.Tests.{eqb-eq, by-bool, by-option, no-bool}
 use Rattle.rules.proofs.Searches.{All, all-first, first-any, first-none}
-use Rattle.rules.proofs.Statements.{In, like, same-like}
+use Rattle.rules.proofs.Statements.{In, same-like}
 use Rattle.rules.proofs.Allowed.{mask-facts, certificate-zero, certificate-later, allowed-rights}
 use Rattle.rules.proofs.Moves.{carried}
 use Rattle.rules.proofs.Orderly.{past-range}
-use Rattle.rules.proofs.Votes.{Cast, Stands}
+use Rattle.rules.proofs.Votes.{Cast}
 use Rattle.rules.proofs.Proper.{Right, Proper}
-use Rattle.agreement.specs.Schedule.{Event, Says}
+use Rattle.agreement.specs.Schedule.{Says}
 use Rattle.agreement.proofs.Events.{Brings, begun}
 use Rattle.agreement.proofs.Group.{Group, st, ck, Ok, G, SaidAt, VotedBy, begun-at, proper-run, chain-proper, cast-run}
 use Rattle.agreement.proofs.Follow.{names-sound}

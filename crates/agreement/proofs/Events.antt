@@ -1,21 +1,21 @@
 -- One event, seen from one station: it counts and commits if it is a tick, and then goes by moves. Assumes nothing.
-use mathlib.Core.Path.{_≡_, subst, refl, sym, ap, _∙_}
-use Prim.Native.Nat.{ℕ, zero, suc, _+_, _≤_, _<_}
+use mathlib.Core.Path.{_≡_, refl}
+use Prim.Native.Nat.{ℕ, _+_}
 use native.Mathlib.Omega.{arith}
-use mathlib.Core.Bool.{Bool, true, false}
-use mathlib.Core.List.{List, [], _∷_, _++_, List·Memᴰ, List·Memᴰ·head, List·Memᴰ·tail}
+use mathlib.Core.Bool.{true, false}
+use mathlib.Core.List.{List, [], _∷_, _++_, List·Memᴰ, List·Memᴰ·tail}
 use mathlib.Core.Logic.{_⊎_, inl, inr}
-use mathlib.Core.Option.{Option, none, some}
+use mathlib.Core.Option.{some}
 use lib.Dec.{eqb}
 use lib.ListN.{length}
 use Rattle.rules.specs.Sizes.{Settings}
-use Rattle.rules.specs.Messages.{Message, read, Effect, toAll, toOne, committed}
-use Rattle.rules.specs.Words.{State, inView, waiting}
-use Rattle.rules.specs.Inputs.{saying, withClock, withLog, blamesOf, blameFull, offered, due, commits, reports, entersNow}
-use Rattle.rules.specs.Refusals.{Outcome, done, running, step, offer, tick}
+use Rattle.rules.specs.Messages.{Message, read, Effect, committed}
+use Rattle.rules.specs.Words.{State}
+use Rattle.rules.specs.Inputs.{saying, withClock, withLog, blamesOf, blameFull, offered, entersNow}
+use Rattle.rules.specs.Refusals.{done, running, step, offer}
 use Rattle.rules.proofs.Tests.{eqb-eq, by-bool}
 use Rattle.rules.proofs.Truths.{eq-eqb}
-use Rattle.rules.proofs.Searches.{All, all-append, all-split, to-all}
+use Rattle.rules.proofs.Searches.{All}
 use Rattle.rules.proofs.Moves.{Outside, counted, logAfter, news, Moves, here, step-moves, offer-moves, tick-moves}
 use Rattle.rules.proofs.Kept.{Kept, kept-refl, tick-settled}
 use Rattle.rules.proofs.Orderly.{Orderly, clock-orderly}

@@ -1,19 +1,18 @@
 -- G4: every sound vote that ranks at or above a ripe propose is for a block that extends it. Assumes nothing.
-use mathlib.Core.Path.{_≡_, subst, subst₂, refl, sym, ap, _∙_}
+use mathlib.Core.Path.{_≡_, subst, subst₂, refl, sym, _∙_}
 use Prim.Native.Nat.{ℕ, zero, suc, _+_, _≤_, _<_}
 use native.Mathlib.Omega.{arith}
 use native.Mathlib.Decide.{decLt}
-use mathlib.Core.Bool.{Bool, true, false}
+use mathlib.Core.Bool.{true, false}
 use mathlib.Core.Logic.{_⊎_, inl, inr}
-use Rattle.rules.specs.Messages.{vote, toAll}
 use Rattle.rules.specs.Words.{Statement, conflict, Tally, certificate, below}
 use Rattle.rules.proofs.Tests.{by-bool}
 use Rattle.rules.proofs.Statements.{no-conflict-propose, no-conflict-newView}
 use Rattle.rules.proofs.Tallies.{AtLeast, at-least-trans, not-below}
 use Rattle.agreement.proofs.Lineage.{up}
-use Rattle.agreement.proofs.Group.{Group, ck, Ok}
+use Rattle.agreement.proofs.Group.{Group, ck}
 use Rattle.agreement.proofs.Ripe.{Ripe, ripe-view, no-rival, cast-lock}
-use Rattle.agreement.proofs.Behind.{SoundVote, Behind, Grounds, grounds}
+use Rattle.agreement.proofs.Behind.{SoundVote, Behind, grounds}
 
 module _ (X : Group) (r k0 t : ℕ) (x : Statement) (R : Ripe X r k0 t x) where
   open Group X using (n, D, faulty, event, next, parentOf)

@@ -1,14 +1,14 @@
 -- G1, G2: a quorum names a sound station; where one sound station has entered a view, all have D ticks later. Assumes nothing.
-use mathlib.Core.Path.{_≡_, subst, refl, sym, ap, _∙_}
-use Prim.Native.Nat.{ℕ, zero, suc, _+_, _*_, _/_, _%_, _≤_, _<_, _^_}
+use mathlib.Core.Path.{_≡_, sym, _∙_}
+use Prim.Native.Nat.{ℕ, suc, _+_, _≤_, _<_, _^_}
 use native.Mathlib.Omega.{arith}
 use native.Mathlib.Nat.{le-of-lt}
 use native.Mathlib.Decide.{decLt}
-use mathlib.Core.Bool.{Bool, true, false}
+use mathlib.Core.Bool.{true}
 use Rattle.rules.specs.Limits.{lastView}
-use Rattle.rules.specs.Sizes.{Settings, bit, quorum}
-use Rattle.rules.specs.Messages.{Message, blameSet, vote, toAll}
-use Rattle.rules.specs.Words.{Statement, message, conflict, State, Phase, inView, waiting, stopped}
+use Rattle.rules.specs.Sizes.{bit, quorum}
+use Rattle.rules.specs.Messages.{blameSet}
+use Rattle.rules.specs.Words.{message, inView}
 use Rattle.rules.specs.Inputs.{blameFull}
 use Rattle.rules.proofs.Tests.{no-bool}
 use Rattle.rules.proofs.Masks.{bit-below, quorum-sound}

@@ -1,38 +1,38 @@
 -- What the proof needs of a schedule, and what then holds of each sound station at every moment. `next k` is the clock to which a
 -- tick at moment k would go: the clock after event k where the schedule goes on. Assumes nothing.
 use mathlib.Core.Path.{_≡_, subst, refl, sym, ap, _∙_}
-use Prim.Native.Nat.{ℕ, zero, suc, _+_, _*_, _/_, _%_, _≤_, _<_, _^_}
+use Prim.Native.Nat.{ℕ, zero, suc, _+_, _/_, _%_, _≤_, _<_}
 use native.Mathlib.Omega.{arith}
-use native.Mathlib.Decide.{decLt, decLe, ℕ-discrete}
-use mathlib.Core.Bool.{Bool, true, false, _&&_}
-use mathlib.Core.List.{List, [], _∷_, _++_, List·Memᴰ}
+use native.Mathlib.Decide.{decLe, ℕ-discrete}
+use mathlib.Core.Bool.{true, _&&_}
+use mathlib.Core.List.{List, _++_, List·Memᴰ}
 use mathlib.Core.Logic.{_⊎_, inl, inr}
-use mathlib.Core.Option.{Option, none, some}
+use mathlib.Core.Option.{some}
 use lib.Dec.{eqb, leb, ltb}
-use lib.ListN.{length, length-replicate}
-use Rattle.rules.specs.Limits.{leastStations, mostStations, leastDelay, mostDelay, maskBits, firstView, lastView}
+use lib.ListN.{length}
+use Rattle.rules.specs.Limits.{leastStations, mostStations, leastDelay, mostDelay, firstView, lastView}
 use Rattle.rules.specs.Lists.{within}
 use Rattle.rules.specs.Sizes.{Settings, goodSettings, leader, bit, count, quorum}
 use Rattle.rules.specs.Messages.{Message, newView, propose, vote, blame, blameSet, status, read, write, maskAllowed, certificateAllowed, allowed, Effect, toAll, toOne, committed}
-use Rattle.rules.specs.Words.{Tally, State, inView, waiting, fresh}
+use Rattle.rules.specs.Words.{Tally, State, waiting, fresh}
 use Rattle.rules.specs.Inputs.{offered}
 use Rattle.rules.specs.Refusals.{Outcome, running, step}
-use Rattle.rules.proofs.Tests.{eqb-eq, leb-le, by-bool}
-use Rattle.rules.proofs.Truths.{ltb-lt, and-true}
+use Rattle.rules.proofs.Tests.{eqb-eq, leb-le}
+use Rattle.rules.proofs.Truths.{and-true}
 use Rattle.rules.proofs.Searches.{All, all-append, all-map, all-of, to-all}
 use Rattle.rules.proofs.Bytes.{Bytes}
 use Rattle.rules.proofs.Written.{read-write}
 use Rattle.rules.proofs.Statements.{Once}
-use Rattle.rules.proofs.Allowed.{IsName, Named, allowed-fitting, fitting-named, read-fits}
-use Rattle.rules.proofs.Moves.{Outside, carried, Moves}
-use Rattle.rules.proofs.Kept.{no-phase, moves-fixed, Kept, kept-refl, kept-trans, moves-kept, VoteKept, moves-vote, moves-once, moves-late, settled-waits}
-use Rattle.rules.proofs.Orderly.{Orderly, fresh-orderly, moves-orderly, Told, Past, past-range}
+use Rattle.rules.proofs.Allowed.{IsName, allowed-fitting, fitting-named, read-fits}
+use Rattle.rules.proofs.Moves.{carried, Moves}
+use Rattle.rules.proofs.Kept.{no-phase, moves-fixed, Kept, kept-refl, kept-trans, moves-kept, moves-once, moves-late, settled-waits}
+use Rattle.rules.proofs.Orderly.{Orderly, fresh-orderly, moves-orderly, past-range}
 use Rattle.rules.proofs.Held.{Held, held-kept, step-held, HeldSaid, moves-said}
 use Rattle.rules.proofs.Votes.{Cast, CastSaid, moves-cast}
 use Rattle.rules.proofs.Proper.{Right, Proper, Known, Sayable, Parented, fresh-proper, proper-map, moves-proper}
 use Rattle.agreement.specs.Schedule.{Event, idle, commonTick, given, offeredTo, happens, ticks, settingsOf, at, out, clock, Says, Sound, IsLent, Hands, Offers}
 use Rattle.agreement.proofs.Clock.{clock-suc, clock-mono, clock-before}
-use Rattle.agreement.proofs.Events.{GivenBy, OfferedBy, Brings, begun, before, event-moves, begun-clock, begun-same, begun-kept, begun-orderly, begun-proper, before-all, mem-after, event-settled, ticks-two, ticks-given, happens-given}
+use Rattle.agreement.proofs.Events.{GivenBy, OfferedBy, Brings, begun, before, event-moves, begun-clock, begun-same, begun-kept, begun-orderly, begun-proper, before-all, mem-after, event-settled, ticks-two, happens-given}
 
 -- good settings, as facts
 pub good-facts : (g : Settings) → goodSettings g ≡ true → (g .n % 2 ≡ 1) × (leastStations ≤ g .n) × (g .n ≤ mostStations) × (leastDelay ≤ g .D)

@@ -2,18 +2,17 @@
 use mathlib.Core.Path.{_≡_, subst, subst₂, refl, sym, ap, _∙_}
 use Prim.Native.Nat.{ℕ, zero, suc, _+_, _-_, _≤_, _<_}
 use native.Mathlib.Omega.{arith}
-use mathlib.Core.Bool.{Bool, true, false, not, _&&_}
+use mathlib.Core.Bool.{true, false, not, _&&_}
 use mathlib.Core.List.{List, [], _∷_, _++_, append-assoc, append-nil, IsPrefix}
-use mathlib.Core.Logic.{_⊎_, inl, inr}
-use mathlib.Core.Option.{Option, none, some, Option·some-injective}
+use mathlib.Core.Option.{some, Option·some-injective}
 use lib.Dec.{eqb}
 use lib.ListN.{length, length-append}
 use Rattle.rules.specs.Lists.{first, any}
 use Rattle.rules.specs.Sizes.{Settings}
-use Rattle.rules.specs.Messages.{Message, propose, blockAllowed}
+use Rattle.rules.specs.Messages.{blockAllowed}
 use Rattle.rules.specs.Words.{Statement, message}
 use Rattle.rules.specs.Inputs.{isBlock, chainTo, chain}
-use Rattle.rules.proofs.Tests.{eqb-eq, by-bool, by-option, no-some, no-bool}
+use Rattle.rules.proofs.Tests.{eqb-eq, by-option, no-some, no-bool}
 use Rattle.rules.proofs.Truths.{eq-eqb, and-true, not-true}
 use Rattle.rules.proofs.Searches.{All, all-first, first-any, first-none}
 use Rattle.rules.proofs.Allowed.{block-zero, allowed-rights}

@@ -1,20 +1,19 @@
 -- L7 along the run and G5: a sound station's log is the lineage of a ripe propose, and of two such lineages one begins the other;
 -- what was reported is the log. Assumes nothing.
 use mathlib.Core.Path.{_≡_, subst, refl, sym, ap, _∙_}
-use Prim.Native.Nat.{ℕ, zero, suc, _+_, _*_, _≤_, _<_}
+use Prim.Native.Nat.{ℕ, zero, suc, _+_, _*_, _≤_}
 use native.Mathlib.Omega.{arith}
-use mathlib.Core.Bool.{Bool, true, false}
+use mathlib.Core.Bool.{true, false}
 use mathlib.Core.List.{List, [], _∷_, _++_, append-nil, IsPrefix, List·Memᴰ}
 use mathlib.Core.Logic.{_⊎_, inl, inr}
-use mathlib.Core.Option.{Option, none, some, Option·some-injective}
+use mathlib.Core.Option.{none, some, Option·some-injective}
 use lib.ListN.{length, drop}
 use lib.Seq.{drop-append-seam}
-use Rattle.rules.specs.Lists.{first}
 use Rattle.rules.specs.Sizes.{Settings}
-use Rattle.rules.specs.Messages.{Message, vote, Effect, toAll, toOne, committed}
-use Rattle.rules.specs.Words.{Statement, message, sameStatement, State, inView, fresh}
+use Rattle.rules.specs.Messages.{Effect, toAll, toOne, committed}
+use Rattle.rules.specs.Words.{Statement, message, State, inView, fresh}
 use Rattle.rules.specs.Inputs.{withClock, withLog, due, chain, commits, reports}
-use Rattle.rules.specs.Refusals.{running, tick}
+use Rattle.rules.specs.Refusals.{running}
 use Rattle.rules.proofs.Searches.{All, all-of}
 use Rattle.rules.proofs.Statements.{once-first}
 use Rattle.rules.proofs.Tallies.{AtLeast, at-least-either}
@@ -22,9 +21,9 @@ use Rattle.rules.proofs.Moves.{counted, logAfter, news, tick-moves}
 use Rattle.rules.proofs.Kept.{in-true, moves-fixed}
 use Rattle.rules.proofs.Orderly.{Voted}
 use Rattle.rules.proofs.Proper.{Right}
-use Rattle.rules.proofs.Commits.{begins-merge, Committed, commits-some, commits-none, Due, due-facts, reports-append, moves-messages}
+use Rattle.rules.proofs.Commits.{begins-merge, commits-some, commits-none, Due, due-facts, reports-append, moves-messages}
 use Rattle.rules.proofs.Splits.{dueCommits}
-use Rattle.agreement.specs.Schedule.{Event, idle, commonTick, given, offeredTo, happens, ticks, at, out, Says, Linked, lineage, reportsIn, reported}
+use Rattle.agreement.specs.Schedule.{Event, idle, commonTick, given, offeredTo, happens, ticks, at, out, Linked, lineage, reportsIn, reported}
 use Rattle.agreement.proofs.Lineage.{up, lineage-up, lineage-linked, chain-lineage}
 use Rattle.agreement.proofs.Events.{Brings, begun, before}
 use Rattle.agreement.proofs.Clock.{clock-suc}

@@ -1,11 +1,11 @@
 -- The premises of 01 give what the proof needs. Of what is forged it needs the votes alone, of a block the parent alone, and that
 -- a delivery comes after its sending is not used. Assumes nothing.
-use mathlib.Core.Path.{_≡_, subst, refl, sym, ap, _∙_}
-use Prim.Native.Nat.{ℕ, zero, suc, _+_, _≤_, _<_}
+use mathlib.Core.Path.{_≡_, subst, sym}
+use Prim.Native.Nat.{ℕ, suc, _+_, _≤_, _<_}
 use native.Mathlib.Omega.{arith}
 use mathlib.Core.Logic.{_⊎_, inl, inr}
-use mathlib.Core.Option.{Option, none, some, Option·some-injective}
-use Rattle.rules.specs.Sizes.{only, bit}
+use mathlib.Core.Option.{some, Option·some-injective}
+use Rattle.rules.specs.Sizes.{bit}
 use Rattle.rules.specs.Messages.{Message, newView, propose, vote, blame, blameSet, status, write, toAll}
 use Rattle.rules.specs.Words.{Tally}
 use Rattle.rules.proofs.Tests.{no-some}

@@ -1,26 +1,26 @@
 -- Refusal 7 never happens to a station that was sound until that tick. The schedule is cut before the tick at which it
 -- would happen; up to there all sound stations run, so all that was proved holds there, and what is due agrees with the log. Assumes nothing.
 use mathlib.Core.Path.{_≡_, subst, refl, sym, ap, _∙_}
-use Prim.Native.Nat.{ℕ, zero, suc, _+_, _-_, _*_, _≤_, _<_}
+use Prim.Native.Nat.{ℕ, zero, suc, _+_, _-_, _≤_, _<_}
 use native.Mathlib.Omega.{arith}
 use native.Mathlib.Decide.{decLt, decLe}
-use mathlib.Core.Bool.{Bool, true, false}
-use mathlib.Core.List.{List, [], _∷_, _++_, List·Memᴰ, List·Memᴰ·not-nil}
+use mathlib.Core.Bool.{true, false}
+use mathlib.Core.List.{List, [], List·Memᴰ, List·Memᴰ·not-nil}
 use mathlib.Core.Logic.{_⊎_, inl, inr}
-use mathlib.Core.Option.{Option, none, some}
+use mathlib.Core.Option.{none, some}
 use lib.Dec.{ltb, eqb}
 use Rattle.rules.specs.Sizes.{bit}
 use Rattle.rules.specs.Messages.{Message, vote, write, Effect, toAll}
-use Rattle.rules.specs.Words.{Cause, full, split, clock as late, Phase, inView, waiting, stopped, Tally, State, fresh}
+use Rattle.rules.specs.Words.{full, split, clock as late, Phase, inView, waiting, stopped, Tally, State, fresh}
 use Rattle.rules.specs.Inputs.{saying, offered}
-use Rattle.rules.specs.Refusals.{Outcome, done, running, step, offer, tick}
+use Rattle.rules.specs.Refusals.{done, running}
 use Rattle.rules.proofs.Tests.{by-bool, no-bool}
 use Rattle.rules.proofs.Truths.{lt-ltb, ltb-lt}
 use Rattle.rules.proofs.Moves.{carried}
 use Rattle.rules.proofs.Proper.{Parented}
 use Rattle.rules.proofs.Splits.{Split, dueCommits, step-split, offer-split, tick-split}
 use Rattle.agreement.specs.Schedule.{Event, idle, commonTick, given, offeredTo, happens, ticks, at, out, clock, Says, Sound, NeverFull, SoundRun, IsLent, Hands, Offers, Premises}
-use Rattle.agreement.proofs.Clock.{clock-suc, clock-mono}
+use Rattle.agreement.proofs.Clock.{clock-suc}
 use Rattle.agreement.proofs.Group.{Group}
 use Rattle.agreement.proofs.Logs.{commits-agree}
 use Rattle.agreement.proofs.Needed.{one-tick, genuine-voters, block-parent, delivered}

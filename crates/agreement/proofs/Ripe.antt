@@ -1,18 +1,17 @@
 -- G3: a propose is ripe when a sound station that voted for it at clock t is in its view as the tick to t+2D+1 begins. Then no
 -- sound station has quit the view by t+D, all have voted for it and for nothing that conflicts, and all lock at or above it later. Assumes nothing.
-use mathlib.Core.Path.{_≡_, subst, refl, sym, ap, _∙_}
-use Prim.Native.Nat.{ℕ, zero, suc, _+_, _*_, _/_, _%_, _≤_, _<_}
+use mathlib.Core.Path.{_≡_, subst, sym, ap, _∙_}
+use Prim.Native.Nat.{ℕ, zero, suc, _+_, _*_, _%_, _≤_, _<_}
 use native.Mathlib.Omega.{arith}
 use native.Mathlib.Nat.{le-of-eq, lt-of-lt-of-le}
 use native.Mathlib.Decide.{decLt, decLe}
-use mathlib.Core.Bool.{Bool, true, false}
+use mathlib.Core.Bool.{false}
 use mathlib.Core.List.{List}
-use mathlib.Core.Option.{Option, none, some}
 use Rattle.rules.specs.Limits.{maskBits, firstView}
-use Rattle.rules.specs.Lists.{first, any}
+use Rattle.rules.specs.Lists.{first}
 use Rattle.rules.specs.Sizes.{Settings, bit}
-use Rattle.rules.specs.Messages.{Message, vote, Effect, toAll}
-use Rattle.rules.specs.Words.{Statement, message, sameStatement, conflict, Tally, voters, State, Phase, inView, waiting, fresh}
+use Rattle.rules.specs.Messages.{vote, Effect}
+use Rattle.rules.specs.Words.{Statement, message, sameStatement, conflict, Tally, voters, State, inView, waiting, fresh}
 use Rattle.rules.proofs.Tests.{by-option, no-bool}
 use Rattle.rules.proofs.Searches.{first-none}
 use Rattle.rules.proofs.Statements.{In, in-cong}
@@ -21,7 +20,7 @@ use Rattle.rules.proofs.Moves.{Moves}
 use Rattle.rules.proofs.Kept.{by-phase, moves-kept}
 use Rattle.rules.proofs.Orderly.{Told, Past, past-told, Voted}
 use Rattle.rules.proofs.Held.{block, held-stored}
-use Rattle.rules.proofs.Votes.{Cast, Stands}
+use Rattle.rules.proofs.Votes.{Cast}
 use Rattle.rules.proofs.Locks.{HasAll, Locked, moves-locked}
 use Rattle.agreement.specs.Schedule.{Event, at}
 use Rattle.agreement.proofs.Events.{Brings, begun, begun-same, begun-kept}

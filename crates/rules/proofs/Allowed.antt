@@ -1,23 +1,23 @@
 -- What is allowed, kind by kind, as facts; what is allowed and whose names have 32 bytes can be written and read back; what is
 -- read from bytes fits. Assumes nothing.
-use mathlib.Core.Path.{_≡_, subst, refl, sym, ap, _∙_}
-use Prim.Native.Nat.{ℕ, zero, suc, _+_, _-_, _*_, _/_, _%_, _^_, _≤_, _<_}
-use native.Mathlib.Nat.{pow-suc, mul-comm, mod-lt, div-lt-iff-lt-mul, pow-le-pow-right, lt-of-lt-of-le}
+use mathlib.Core.Path.{_≡_, subst, refl}
+use Prim.Native.Nat.{ℕ, zero, suc, _+_, _-_, _^_, _≤_, _<_}
+use native.Mathlib.Nat.{pow-suc, mul-comm, mod-lt, div-lt-iff-lt-mul, pow-le-pow-right}
 use native.Mathlib.Omega.{arith}
-use mathlib.Core.Bool.{Bool, true, false, _&&_}
+use mathlib.Core.Bool.{true, false}
 use mathlib.Core.List.{List, [], _∷_, _++_}
-use mathlib.Core.Option.{Option, none, some}
+use mathlib.Core.Option.{some}
 use lib.ListN.{length}
 use lib.Dec.{leb, ltb, eqb}
 use Rattle.rules.specs.Limits.{mostStations, firstView, lastView, lastHeight}
-use Rattle.rules.specs.Lists.{be, unbe, iff, within}
+use Rattle.rules.specs.Lists.{unbe, iff, within}
 use Rattle.rules.specs.Sizes.{Settings, leader, quorum}
-use Rattle.rules.specs.Messages.{Message, newView, propose, vote, blame, blameSet, status, field, width, table, rowOf, tagsOf, kind, values, writes, write, InWidth, Fitting, read, viewAllowed, blockAllowed, maskAllowed, certificateAllowed, allowed}
-use Rattle.rules.proofs.Tests.{eqb-eq, le-leb, leb-le, by-bool, no-bool}
+use Rattle.rules.specs.Messages.{Message, newView, propose, vote, blame, blameSet, status, field, width, table, rowOf, tagsOf, kind, values, writes, InWidth, Fitting, read, viewAllowed, blockAllowed, maskAllowed, certificateAllowed, allowed}
+use Rattle.rules.proofs.Tests.{eqb-eq, le-leb, leb-le, by-bool}
 use Rattle.rules.proofs.Truths.{eq-eqb, lt-ltb, ltb-lt, and-true, true-and, iff-eq}
 use Rattle.rules.proofs.Searches.{All}
 use Rattle.rules.proofs.Bytes.{Bytes, none as no-bytes, one, pow-pos}
-use Rattle.rules.proofs.Written.{writes-cons, write-eq, read-write}
+use Rattle.rules.proofs.Written.{writes-cons, write-eq}
 use Rattle.rules.proofs.ReadBack.{write-read}
 
 -- ---- the parts of allowed

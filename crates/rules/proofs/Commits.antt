@@ -1,22 +1,19 @@
 -- L7: what the commits of a tick make of the log. It grows at its end, it is the old one or the chain of a due propose, each due
 -- chain begins it, and what is reported is what it gained. Assumes nothing.
 use mathlib.Core.Path.{_≡_, subst, refl, sym, ap, _∙_}
-use Prim.Native.Nat.{ℕ, zero, suc, _+_, _-_, _*_, _≤_, _<_}
+use Prim.Native.Nat.{ℕ, suc, _+_, _-_, _*_, _≤_}
 use native.Mathlib.Omega.{arith}
-use native.Mathlib.Nat.{add-suc}
-use mathlib.Core.Bool.{Bool, true, false, not, _&&_}
+use mathlib.Core.Bool.{true, false, not, _&&_}
 use mathlib.Core.List.{List, [], _∷_, _++_, append-assoc, append-nil, IsPrefix, head-eq-of-cons-eq, tail-eq-of-cons-eq, List·Memᴰ, List·Memᴰ·head, List·Memᴰ·tail, List·Memᴰ·not-nil}
 use mathlib.Core.Logic.{_⊎_, inl, inr}
-use mathlib.Core.Option.{Option, none, some, Option·map, Option·some-injective, map-eq-some-iff}
-use lib.Dec.{leb, eqb}
-use lib.ListN.{length, drop, length-append}
-use lib.Seq.{drop-at}
-use Rattle.rules.specs.Lists.{keep, sorted}
+use mathlib.Core.Option.{none, some, Option·some-injective, map-eq-some-iff}
+use lib.Dec.{eqb}
+use lib.ListN.{length}
 use Rattle.rules.specs.Messages.{Message, Effect, toAll, toOne, committed}
-use Rattle.rules.specs.Words.{Statement, Phase, inView, State}
+use Rattle.rules.specs.Words.{Statement, State}
 use Rattle.rules.specs.Inputs.{saying, _▸_, isIn, belowLock, votedFor, ballot, isDue, due, chain, merge, commit, commits, reports, report, current, inOrder, votingAll}
 use Rattle.rules.proofs.Tests.{eqb-eq, leb-le, le-leb, by-bool, by-option, no-some, no-bool}
-use Rattle.rules.proofs.Truths.{eq-eqb, and-true, true-and, not-true}
+use Rattle.rules.proofs.Truths.{eq-eqb, and-true, not-true}
 use Rattle.rules.proofs.Searches.{All, all-append, by-mem, mem-keep, keep-mem, mem-sorted, sorted-mem}
 use Rattle.rules.proofs.Moves.{Outside, arrived, Move, joins, stores, passes, casts, clashes, accuses, fills, complains, entersFull, entersPair, enters, Moves, here, more, voting-low, voting-high}
 use Rattle.rules.proofs.Held.{report-all}

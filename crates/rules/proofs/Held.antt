@@ -1,27 +1,27 @@
 -- What a station is handed it holds from then on, in every view and phase, and what it says to all it holds. Assumes nothing.
-use mathlib.Core.Path.{_≡_, subst, refl, sym, ap, _∙_}
+use mathlib.Core.Path.{_≡_, subst, refl, sym, _∙_}
 use Prim.Native.Nat.{ℕ, suc, _+_, _≤_, _<_}
 use native.Mathlib.Omega.{arith}
-use mathlib.Core.Bool.{Bool, true, false, _&&_}
-use mathlib.Core.List.{List, [], _∷_, _++_, List·Memᴰ}
-use mathlib.Core.Option.{Option, none, some}
+use mathlib.Core.Bool.{Bool, true, false}
+use mathlib.Core.List.{List, [], _∷_, List·Memᴰ}
+use mathlib.Core.Option.{none, some}
 use lib.Dec.{eqb}
 use lib.ListN.{length}
 use Rattle.rules.specs.Limits.{firstView, lastView}
 use Rattle.rules.specs.Lists.{first, any, keep}
-use Rattle.rules.specs.Sizes.{Settings, leader, only, bit, joined, quorum}
+use Rattle.rules.specs.Sizes.{Settings, leader, only, bit, quorum}
 use Rattle.rules.specs.Messages.{Message, newView, propose, vote, blame, blameSet, status, read, allowed, Effect, toAll, toOne, committed}
 use Rattle.rules.specs.Words.{Statement, message, sameStatement, conflict, Tally, ownBlock, joinCertificate, voters, State}
-use Rattle.rules.specs.Inputs.{Work, saying, _▸_, withPhase, withTables, withBlames, withLog, entering, isIn, quit, belowLock, votedFor, ballot, voting, certificateJoined, stored, statement, tallied, blamesOf, blamed, blameFull, blaming, handled, reports, report, current, pair, inOrder, votingAll}
+use Rattle.rules.specs.Inputs.{saying, _▸_, withPhase, withTables, withBlames, withLog, entering, isIn, quit, belowLock, votedFor, ballot, voting, certificateJoined, stored, statement, tallied, blamesOf, blamed, blameFull, blaming, handled, reports, report, current, inOrder, votingAll}
 use Rattle.rules.specs.Refusals.{hasRoom, ifRoom, running, step}
 use Rattle.rules.proofs.Tests.{eqb-eq, by-bool, by-option, no-bool}
 use Rattle.rules.proofs.Truths.{and-true}
-use Rattle.rules.proofs.Searches.{All, all-append, all-map, all-of, to-all, mem-keep, first-mem}
+use Rattle.rules.proofs.Searches.{All, all-append, all-map, to-all, mem-keep, first-mem}
 use Rattle.rules.proofs.Statements.{like, same-refl, In, mem-in, in-cong, in-append, in-last, in-noted, pair-some, mem-order}
 use Rattle.rules.proofs.Tallies.{only-bit, same-block, voters-joined}
 use Rattle.rules.proofs.Allowed.{view-range, mask-facts, allowed-rights}
 use Rattle.rules.proofs.Moves.{Outside, arrived, fillsNow, Move, joins, stores, passes, casts, clashes, accuses, fills, complains, entersFull, entersPair, enters, Moves, here, more, voting-low, voting-high}
-use Rattle.rules.proofs.Kept.{in-true, blamed-here, quorum-right, moves-fixed, Kept, move-kept, moves-kept, voted-kept, votingAll-kept}
+use Rattle.rules.proofs.Kept.{blamed-here, quorum-right, moves-fixed, Kept, move-kept, moves-kept, voted-kept, votingAll-kept}
 
 -- a block in a view
 abbrev pub block : ℕ → ℕ → ℕ → Tally

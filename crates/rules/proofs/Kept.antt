@@ -3,28 +3,28 @@
 use mathlib.Core.Path.{_≡_, subst, refl, sym, ap, _∙_}
 use Prim.Native.Nat.{ℕ, zero, suc, _+_, _≤_, _<_}
 use native.Mathlib.Omega.{arith}
-use mathlib.Core.Bool.{Bool, true, false, _&&_}
+use mathlib.Core.Bool.{true, false}
 use mathlib.Core.List.{List, [], _∷_, _++_}
 use mathlib.Core.Logic.{_⊎_, inl, inr}
-use mathlib.Core.Option.{Option, none, some}
+use mathlib.Core.Option.{some}
 use lib.Dec.{eqb, ltb}
 use lib.Bits.{or-comm}
 use lib.ListN.{length, getD, set, length-set}
 use lib.Seq.{getD-set-same}
 use Rattle.rules.specs.Limits.{lastView, lastClock}
-use Rattle.rules.specs.Lists.{first, any, alter}
+use Rattle.rules.specs.Lists.{first}
 use Rattle.rules.specs.Sizes.{Settings, only, bit, joined, quorum}
-use Rattle.rules.specs.Messages.{Message, Effect}
+use Rattle.rules.specs.Messages.{Effect}
 use Rattle.rules.specs.Words.{Statement, sameStatement, Tally, ownBlock, certificate, join, joinCertificate, voters, Phase, inView, waiting, stopped, State}
-use Rattle.rules.specs.Inputs.{Work, saying, _▸_, withPhase, withClock, withTables, withBlames, withLog, entering, isIn, quit, belowLock, noted, votedFor, stored, blamesOf, blamed, blameFull, due, commits, logging, complain, lead, entersNow, entered, current, pair, inOrder, votingAll, arrive, enter, ticked}
+use Rattle.rules.specs.Inputs.{Work, saying, _▸_, withPhase, withClock, withTables, withBlames, withLog, entering, isIn, quit, belowLock, votedFor, stored, blamesOf, blamed, blameFull, due, commits, logging, complain, lead, entersNow, entered, current, pair, inOrder, votingAll, arrive, enter, ticked}
 use Rattle.rules.specs.Refusals.{hasRoom, ifRoom, running, tick}
-use Rattle.rules.proofs.Tests.{eqb-eq, by-bool, by-option, no-some, no-bool}
+use Rattle.rules.proofs.Tests.{eqb-eq, by-bool, by-option, no-bool}
 use Rattle.rules.proofs.Truths.{eq-eqb, lt-ltb, ltb-lt, and-true, true-and}
 use Rattle.rules.proofs.Searches.{first-kept, first-any}
 use Rattle.rules.proofs.Masks.{quorum-joined}
-use Rattle.rules.proofs.Statements.{same-sym, in-cong, in-append, in-noted, first-noted, first-other, In, Once, once-append, once-noted}
+use Rattle.rules.proofs.Statements.{in-cong, in-append, in-noted, first-other, In, Once, once-append, once-noted}
 use Rattle.rules.proofs.Tallies.{count-quorum, voters-join, voters-certificate}
-use Rattle.rules.proofs.Moves.{Outside, arrived, fillsNow, Move, joins, stores, passes, casts, clashes, accuses, fills, complains, entersFull, entersPair, enters, Moves, here, more, voting-low, voting-high, arrive-full, arrive-pair, arrive-clean}
+use Rattle.rules.proofs.Moves.{Outside, arrived, Move, joins, stores, passes, casts, clashes, accuses, fills, complains, entersFull, entersPair, enters, Moves, here, more, voting-low, voting-high, arrive-full, arrive-pair, arrive-clean}
 
 -- ---- phases
 

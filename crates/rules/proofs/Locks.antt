@@ -2,12 +2,12 @@
 use mathlib.Core.Path.{_≡_, refl, ap, _∙_}
 use Prim.Native.Nat.{ℕ, _+_, _/_, _%_, _≤_, _<_}
 use native.Mathlib.Omega.{arith}
-use mathlib.Core.List.{List, [], _∷_, _++_}
+use mathlib.Core.List.{List}
 use mathlib.Core.Logic.{_⊎_, inl, inr}
 use Rattle.rules.specs.Limits.{maskBits}
 use Rattle.rules.specs.Sizes.{Settings, bit, count}
-use Rattle.rules.specs.Messages.{Message, Effect}
-use Rattle.rules.specs.Words.{Tally, voters, highest, State}
+use Rattle.rules.specs.Messages.{Effect}
+use Rattle.rules.specs.Words.{Tally, voters, State}
 use Rattle.rules.specs.Inputs.{withPhase, withTables, withBlames, withLog, entering, votedFor, stored, blamed, nextLock, current, inOrder}
 use Rattle.rules.proofs.Tallies.{Above, sound-quorum, count-quorum, highest-above}
 use Rattle.rules.proofs.Moves.{Outside, arrived, Move, joins, stores, passes, casts, clashes, accuses, fills, complains, entersFull, entersPair, enters, Moves, here, more}

@@ -5,14 +5,14 @@ use mathlib.Core.Path.{_≡_, subst, refl, sym, ap, _∙_}
 use Prim.Native.Nat.{ℕ, suc, _+_, _-_}
 use mathlib.Core.Bool.{Bool, true, false, _&&_}
 use mathlib.Core.List.{List, [], _∷_, _++_, append-assoc, append-nil}
-use mathlib.Core.Option.{Option, none, some, Option·map, Option·some-injective}
+use mathlib.Core.Option.{Option, none, some, Option·some-injective}
 use lib.ListN.{length, drop}
 use lib.Dec.{eqb}
 use Rattle.rules.specs.Limits.{lastClock}
 use Rattle.rules.specs.Lists.{first, any}
-use Rattle.rules.specs.Sizes.{Settings, only}
+use Rattle.rules.specs.Sizes.{only}
 use Rattle.rules.specs.Messages.{Message, newView, propose, vote, blame, blameSet, status, read, allowed, Effect, toAll}
-use Rattle.rules.specs.Words.{Statement, message, sameStatement, conflict, Tally, certificate, joinCertificate, Phase, waiting, State}
+use Rattle.rules.specs.Words.{Statement, message, sameStatement, conflict, Tally, certificate, joinCertificate, waiting, State}
 use Rattle.rules.specs.Inputs.{Work, saying, _▸_, withPhase, withClock, withTables, withLog, entering, isIn, quit, belowLock, votedFor, ballot, voting, certificateJoined, stored, statement, tallied, blamesOf, blamed, blameFull, blaming, handled, offered, due, commits, reports, logging, overdue, complain, leadsNow, ownNewView, lead, entersNow, nextLock, report, entered, current, pair, inOrder, votingAll, arrive, enter, ticked}
 use Rattle.rules.specs.Refusals.{Outcome, done, hasRoom, ifRoom, running, step, offer, tick}
 use Rattle.rules.proofs.Tests.{by-bool, by-option, no-some, no-bool}

@@ -1,10 +1,10 @@
 -- L2, L3, L5: in a view no two stored statements of it conflict and its blames are no quorum, every stored propose of it is voted
 -- for, from the entry on; who quits tells all why; how the station came into its view. S c e: the station said e at clock c. Assumes nothing.
 use mathlib.Core.Path.{_≡_, subst, refl, sym, ap, _∙_}
-use Prim.Native.Nat.{ℕ, zero, suc, _+_, _≤_, _<_}
+use Prim.Native.Nat.{ℕ, _+_, _≤_, _<_}
 use native.Mathlib.Omega.{arith}
 use native.Mathlib.Decide.{decLt}
-use mathlib.Core.Bool.{Bool, true, false, _&&_}
+use mathlib.Core.Bool.{true, false}
 use mathlib.Core.List.{List, [], _∷_, _++_}
 use mathlib.Core.Logic.{_⊎_, inl, inr}
 use mathlib.Core.Option.{Option, none, some, Option·map, map-eq-some-iff}
@@ -12,16 +12,16 @@ use lib.Dec.{eqb}
 use Rattle.rules.specs.Limits.{firstView, lastView}
 use Rattle.rules.specs.Lists.{first, any, keep, alter}
 use Rattle.rules.specs.Sizes.{Settings, joined, quorum}
-use Rattle.rules.specs.Messages.{Message, vote, blameSet, Effect, toAll}
-use Rattle.rules.specs.Words.{Statement, message, sameStatement, conflict, Tally, Phase, inView, waiting, stopped, State, fresh}
+use Rattle.rules.specs.Messages.{vote, blameSet, Effect, toAll}
+use Rattle.rules.specs.Words.{Statement, message, sameStatement, conflict, Tally, inView, waiting, State, fresh}
 use Rattle.rules.specs.Inputs.{Work, saying, _▸_, withPhase, withClock, withTables, withBlames, withLog, entering, isIn, belowLock, noted, votedFor, ballot, voting, stored, blamesOf, blamed, blameFull, entersNow, report, current, pair, inOrder, votingAll}
 use Rattle.rules.proofs.Tests.{eqb-eq, by-bool, no-some, no-bool}
 use Rattle.rules.proofs.Truths.{and-true, and-false}
 use Rattle.rules.proofs.Searches.{first-any, first-append, All, all-split, mem-keep}
-use Rattle.rules.proofs.Statements.{like, same-like, same-self, same-sym, same-cong, conflict-sym, conflict-view, In, in-keep, in-order, in-noted, first-noted, first-other, Clean, clean-append, clean-view, pair-some}
+use Rattle.rules.proofs.Statements.{same-like, same-self, same-sym, same-cong, conflict-sym, conflict-view, In, in-keep, in-order, in-noted, first-noted, first-other, Clean, clean-append, clean-view, pair-some}
 use Rattle.rules.proofs.Tallies.{no-quorum}
 use Rattle.rules.proofs.Moves.{Outside, arrived, fillsNow, Move, joins, stores, passes, casts, clashes, accuses, fills, complains, entersFull, entersPair, enters, Moves, here, more, voting-low, voting-high}
-use Rattle.rules.proofs.Kept.{no-phase, waiting-clock, in-true, true-in, enters-at, blamed-cases, move-fixed, moves-fixed}
+use Rattle.rules.proofs.Kept.{no-phase, waiting-clock, in-true, true-in, enters-at, blamed-cases, moves-fixed}
 
 pair-view : (v : ℕ) (xs : List Statement) (p : Statement × Statement) → pair (keep (λ y. eqb (y .view) v) xs) ≡ some p → p .0 .view ≡ v
 pair-view v xs p f = eqb-eq (p .0 .view) v (mem-keep (λ (y : Statement). eqb (y .view) v) xs (p .0) (pair-some _ p f .1) .1)

@@ -2,33 +2,32 @@
 -- block b of height h in view v is known); what is stored and what is said is allowed, and a propose's parent is that of its name.
 -- What is known of what comes from outside, and of the own votes, is a hypothesis of each law. Assumes nothing.
 use mathlib.Core.Path.{_≡_, subst, subst₂, subst₃, refl, sym, ap, _∙_}
-use Prim.Native.Nat.{ℕ, zero, suc, _+_, _-_, _*_, _/_, _%_, _^_, _≤_, _<_}
+use Prim.Native.Nat.{ℕ, zero, suc, _+_, _-_, _*_, _^_, _≤_, _<_}
 use native.Mathlib.Nat.{pow-suc, pow-le-pow-right, one-le-pow}
 use native.Mathlib.Omega.{arith}
 use native.Mathlib.Decide.{ℕ-discrete}
 use mathlib.Core.Bool.{Bool, true, false, not, _&&_}
-use mathlib.Core.List.{List, [], _∷_, _++_, List·Memᴰ, List·Memᴰ·head, List·Memᴰ·tail}
+use mathlib.Core.List.{List, [], _∷_, List·Memᴰ, List·Memᴰ·head, List·Memᴰ·tail}
 use mathlib.Core.Logic.{_⊎_, inl, inr}
-use mathlib.Core.Option.{Option, none, some, Option·some-injective}
-use lib.Dec.{leb, ltb, eqb}
+use mathlib.Core.Option.{some, Option·some-injective}
+use lib.Dec.{ltb, eqb}
 use lib.ListN.{getD, replicate}
-use Rattle.rules.specs.Limits.{mostStations, firstView, lastView, lastHeight}
-use Rattle.rules.specs.Lists.{first, any, keep, alter, iff}
+use Rattle.rules.specs.Limits.{firstView, lastView, lastHeight}
+use Rattle.rules.specs.Lists.{iff}
 use Rattle.rules.specs.Sizes.{Settings, leader, only, bit, joined, quorum}
-use Rattle.rules.specs.Messages.{Message, newView, propose, vote, blame, blameSet, status, viewAllowed, blockAllowed, maskAllowed, certificateAllowed, allowed, Effect, toAll, toOne, committed}
+use Rattle.rules.specs.Messages.{Message, newView, propose, vote, blame, blameSet, status, viewAllowed, blockAllowed, certificateAllowed, allowed, Effect, toAll, toOne, committed}
 use Rattle.rules.specs.Words.{Statement, message, sameStatement, conflict, Tally, ownBlock, certificate, sameBlock, grown, join, joinCertificate, voters, genesis, highest, Phase, waiting, State, fresh}
-use Rattle.rules.specs.Inputs.{saying, _▸_, withPhase, withClock, withTables, withBlames, withLog, entering, isIn, belowLock, noted, votedFor, ballot, stored, blamesOf, blamed, blameFull, leads, isOpened, isUsed, top, extendable, above, offered, leadsNow, ownNewView, entersNow, nextLock, report, current, pair, inOrder, votingAll}
+use Rattle.rules.specs.Inputs.{saying, _▸_, withPhase, withTables, withBlames, withLog, entering, isIn, belowLock, noted, votedFor, ballot, stored, blamesOf, blamed, blameFull, leads, isOpened, isUsed, top, extendable, above, offered, leadsNow, ownNewView, entersNow, nextLock, report, current, inOrder, votingAll}
 use Rattle.rules.proofs.Tests.{eqb-eq, by-bool, by-option, no-some, no-bool}
 use Rattle.rules.proofs.Truths.{ltb-lt, and-true, not-true}
 use Rattle.rules.proofs.Searches.{All, all-append, all-split, all-map, all-of, to-all, all-alter, mem-keep, first-mem}
 use Rattle.rules.proofs.Bytes.{pow-pos}
 use Rattle.rules.proofs.Masks.{joined-bit, joined-lt}
 use Rattle.rules.proofs.Statements.{mem-order, pair-some}
-use Rattle.rules.proofs.Tallies.{only-bit, bit-only, no-bit, block-eq, voters-tally, highest-tally}
-use Rattle.rules.proofs.Allowed.{view-range, range-view, block-height, above-block, mask-facts, facts-mask, certificate-zero, certificate-later, genesis-certificate, later-certificate, Rights, allowed-rights, rights-allowed, IsName, Named}
-use Rattle.rules.proofs.Moves.{Outside, Origin, handed, led, made, carried, Accused, named, listed, own, New, arrived, fillsNow, Move, joins, stores, passes, casts, clashes, accuses, fills, complains, entersFull, entersPair, enters, Moves, here, more, voting-low, voting-high, carried-certificate}
-use Rattle.rules.proofs.Kept.{in-true, enters-at, blamed-cases, move-fixed, moves-fixed, move-kept, moves-kept, votingAll-fixed}
-use Rattle.rules.proofs.Held.{reports-all}
+use Rattle.rules.proofs.Tallies.{bit-only, no-bit, block-eq, voters-tally, highest-tally}
+use Rattle.rules.proofs.Allowed.{view-range, range-view, above-block, mask-facts, facts-mask, certificate-later, genesis-certificate, later-certificate, allowed-rights, rights-allowed, IsName, Named}
+use Rattle.rules.proofs.Moves.{Outside, Origin, handed, led, made, carried, Accused, named, listed, own, arrived, Move, joins, stores, passes, casts, clashes, accuses, fills, complains, entersFull, entersPair, enters, Moves, here, more, voting-low, voting-high, carried-certificate}
+use Rattle.rules.proofs.Kept.{in-true, enters-at, blamed-cases, move-kept, moves-kept}
 
 pub only-lt : (n a : ℕ) → a < n → only a < 2 ^ n
 unfolding only

@@ -1,17 +1,17 @@
 -- A station stops with cause split only at a tick whose due commits differ: moves never stop it. Assumes nothing.
-use mathlib.Core.Path.{_≡_, refl, sym, ap, _∙_}
-use Prim.Native.Nat.{ℕ, suc, _+_}
+use mathlib.Core.Path.{_≡_, refl, sym}
+use Prim.Native.Nat.{ℕ}
 use native.Mathlib.Omega.{arith}
-use mathlib.Core.Bool.{Bool, true, false}
-use mathlib.Core.List.{List, [], _∷_, _++_}
-use mathlib.Core.Option.{Option, none, some}
+use mathlib.Core.Bool.{true}
+use mathlib.Core.List.{List}
+use mathlib.Core.Option.{Option, none}
 use lib.Dec.{eqb}
 use Rattle.rules.specs.Limits.{lastClock}
-use Rattle.rules.specs.Messages.{Message, read, allowed, Effect}
-use Rattle.rules.specs.Words.{Cause, full, split, clock, Phase, inView, waiting, stopped, State}
-use Rattle.rules.specs.Inputs.{Work, saying, _▸_, withPhase, withClock, withTables, withBlames, withLog, entering, votedFor, stored, blamed, handled, offered, due, commits, logging, complain, lead, enter, current, inOrder, ticked}
-use Rattle.rules.specs.Refusals.{Outcome, done, hasRoom, ifRoom, running, step, offer, tick}
-use Rattle.rules.proofs.Tests.{by-bool, by-option, no-some, no-bool}
+use Rattle.rules.specs.Messages.{read, allowed, Effect}
+use Rattle.rules.specs.Words.{full, split, clock, stopped, State}
+use Rattle.rules.specs.Inputs.{Work, saying, _▸_, withPhase, withClock, withTables, withBlames, withLog, entering, votedFor, stored, blamed, handled, offered, due, commits, logging, complain, lead, enter, current, inOrder}
+use Rattle.rules.specs.Refusals.{done, hasRoom, ifRoom, running, step, offer, tick}
+use Rattle.rules.proofs.Tests.{by-bool, by-option, no-bool}
 use Rattle.rules.proofs.Moves.{Outside, handed, made, arrived, counted, Move, joins, stores, passes, casts, clashes, accuses, fills, complains, entersFull, entersPair, enters, Moves, here, more, ticked-some, handled-moves, then-moves, complain-moves, lead-moves, enter-moves}
 use Rattle.rules.proofs.Kept.{votingAll-fixed}
 

@@ -1,7 +1,7 @@
 -- The table of statements: what is the same, what conflicts, and that no statement is stored twice. The table is seen only by
 -- what a search finds. Assumes nothing.
 use mathlib.Core.Path.{_≡_, subst, refl, sym, ap, _∙_}
-use Prim.Native.Nat.{ℕ, suc, _≤_, _<_}
+use Prim.Native.Nat.{ℕ, suc, _<_}
 use native.Mathlib.Omega.{arith}
 use native.Mathlib.Decide.{decLe}
 use mathlib.Core.Bool.{Bool, true, false, not, _&&_, _||_}
@@ -10,12 +10,11 @@ use mathlib.Core.Logic.{_⊎_, inl, inr}
 use mathlib.Core.Option.{Option, none, some, Option·map, Option·some-injective}
 use lib.Dec.{eqb, leb}
 use Rattle.rules.specs.Lists.{iff, first, any, keep, alter}
-use Rattle.rules.specs.Messages.{Message, newView, propose}
-use Rattle.rules.specs.Words.{Statement, message, sameStatement, conflict, State}
+use Rattle.rules.specs.Words.{Statement, sameStatement, conflict, State}
 use Rattle.rules.specs.Inputs.{noted, pair, current, inOrder}
 use Rattle.rules.proofs.Tests.{eqb-eq, le-leb, by-bool, by-option, no-some, no-bool}
 use Rattle.rules.proofs.Truths.{eq-eqb, eqb-sym, and-true, or-true, iff-eq, iff-refl, iff-sym}
-use Rattle.rules.proofs.Searches.{by-mem, any-append, any-alter, any-sorted, any-mem, first-any, mem-keep, mem-sorted, All, all-of, to-all, first-mem}
+use Rattle.rules.proofs.Searches.{by-mem, any-append, any-alter, any-sorted, any-mem, first-any, mem-keep, mem-sorted, first-mem}
 
 -- ---- the same statement
 

@@ -4,18 +4,17 @@ use mathlib.Core.Path.{_≡_, refl, sym, ap, _∙_}
 use Prim.Native.Nat.{ℕ, zero, suc, _+_, _-_, _*_, _/_, _%_, _≤_, _<_, _^_}
 use native.Mathlib.Omega.{arith}
 use native.Mathlib.Nat.{pow-suc, zero-div, div-self, one-le-pow, mul-comm, div-div-eq-div-mul, mul-div-cancel}
-use native.Mathlib.Decide.{decLt, ℕ-discrete}
+use native.Mathlib.Decide.{decLt}
 use mathlib.Core.Bool.{Bool, true, false, not, _&&_, _||_}
 use mathlib.Core.List.{List, [], _∷_, List·Memᴰ, List·Memᴰ·head, List·Memᴰ·tail}
 use mathlib.Core.Logic.{_⊎_, inl, inr}
 use lib.Dec.{eqb, ltb}
-use lib.Bits.{or-comm}
 use lib.Count.{onesIn}
 use Rattle.rules.specs.Limits.{maskBits}
 use Rattle.rules.specs.Sizes.{Settings, faults, only, bit, joined, count, quorum}
 use Rattle.rules.specs.Words.{Tally, sameBlock, grown, join, joinCertificate, voters, certified, below, higher, genesis, highest}
 use Rattle.rules.proofs.Tests.{eqb-eq, by-bool, no-bool}
-use Rattle.rules.proofs.Truths.{eq-eqb, eqb-sym, lt-ltb, ltb-lt, and-true, true-and, or-true, or-right, or-false, not-true}
+use Rattle.rules.proofs.Truths.{eq-eqb, lt-ltb, ltb-lt, and-true, true-and, or-true, or-right, or-false, not-true}
 use Rattle.rules.proofs.Masks.{joined-bit, joined-left, joined-right, count-joined, count-more, count-none, bit-below, quorum-count}
 
 -- ---- masks of one station, and of all sound ones

@@ -1,9 +1,9 @@
 -- More of tests: and, or, not, the order of numbers, each taken apart and put together. Assumes nothing.
 use mathlib.Core.Path.{_≡_, refl, sym, _∙_}
-use Prim.Native.Nat.{ℕ, _≤_, _<_}
+use Prim.Native.Nat.{ℕ, _<_}
 use mathlib.Core.Bool.{Bool, true, false, not, _&&_, _||_}
 use mathlib.Core.Logic.{_⊎_, inl, inr}
-use lib.Dec.{leb, ltb, eqb, ltb→lt, lt→ltb}
+use lib.Dec.{ltb, eqb, ltb→lt, lt→ltb}
 use Rattle.rules.specs.Lists.{iff}
 use Rattle.rules.proofs.Tests.{yes-true, true-yes, eqb-self, eqb-eq, by-bool, no-bool}
 

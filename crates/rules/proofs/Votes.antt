@@ -1,11 +1,11 @@
 -- L4: a vote is cast only in its view, for a statement stored there and said just before it: a propose, or a new-view whose
 -- certificate ranks at or above the lock. S c e: the station said e at clock c. Assumes nothing.
-use mathlib.Core.Path.{_≡_, subst, refl, sym, ap, _∙_}
-use Prim.Native.Nat.{ℕ, suc, _+_}
-use mathlib.Core.Bool.{Bool, true, false, _&&_}
+use mathlib.Core.Path.{_≡_, refl, sym, _∙_}
+use Prim.Native.Nat.{ℕ, _+_}
+use mathlib.Core.Bool.{Bool, true, false}
 use mathlib.Core.List.{List, [], _∷_, _++_}
 use Rattle.rules.specs.Messages.{Message, newView, propose, vote, blame, blameSet, status, Effect, toAll, toOne, committed}
-use Rattle.rules.specs.Words.{Statement, message, certificate, below, Phase, inView, State}
+use Rattle.rules.specs.Words.{Statement, message, certificate, below, inView, State}
 use Rattle.rules.specs.Inputs.{saying, _▸_, withPhase, withTables, withBlames, withLog, entering, belowLock, votedFor, ballot, stored, blamed, report, current, inOrder, votingAll}
 use Rattle.rules.proofs.Tests.{by-bool}
 use Rattle.rules.proofs.Truths.{and-false}
@@ -14,7 +14,7 @@ use Rattle.rules.proofs.Statements.{In, mem-in, in-last, in-noted, mem-
 use Rattle.rules.proofs.Moves.{Outside, arrived, Move, joins, stores, passes, casts, clashes, accuses, fills, complains, entersFull, entersPair, enters, Moves, here, more, voting-low, voting-high}
 use Rattle.rules.proofs.Kept.{in-true, moves-fixed, votingAll-fixed, voted-kept, votingAll-kept}
 use Rattle.rules.proofs.Orderly.{Orderly, move-orderly, moves-orderly}
-use Rattle.rules.proofs.Held.{report-all, reports-all}
+use Rattle.rules.proofs.Held.{report-all}
 
 module _ (S : ℕ → Effect → Type 0) where
   -- in t, a vote for (v, h, b) is as it should be
