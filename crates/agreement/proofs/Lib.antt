@@ -11,3 +11,4 @@ pub mod Ancestors
 pub mod Needed
 pub mod NoSplit
 pub mod Theorems
+pub mod Checked
