@@ -12,3 +12,4 @@ pub mod Needed
 pub mod NoSplit
 pub mod Theorems
 pub mod Checked
+pub mod Examples

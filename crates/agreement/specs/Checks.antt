@@ -153,3 +153,8 @@ module _ (n D : ℕ) (es : List Event) (faulty : ℕ) where
     oneNamed =
         every (length es) (λ k. taken k isOneBlock
         && offeredAs (listed es k) (λ j b. implies (isSound j) (ifSome (offered b (at n D (listed es) j k)) isOneBlock)))
+
+    -- the tests of a schedule: who runs, what is lent, in time, genuine, one block per name
+    unfoldable pub verdict : List Bool
+    unfolding allRun allLent allInTime noneForged oneNamed
+    verdict = allRun ∷ allLent ∷ allInTime ∷ noneForged ∷ oneNamed ∷ []
