@@ -66,3 +66,98 @@ pub two-views-logs : (at 3 1 (listed twoViews) 0 58 .log ≡ 77 ∷ 78 ∷ 79 �
     × (at 3 1 (listed twoViews) 0 58 .view ≡ 3)
 unfolding at listed twoViews
 two-views-logs = (refl, refl, refl)
+
+-- ---- all but one premise hold, and the logs split
+
+-- of the logs of stations i and j at moment k neither begins the other
+abbrev Differ : (n D : ℕ) → List Event → (i j k : ℕ) → Type 0
+Differ n D es i j k =
+    ¬ (IsPrefix (at n D (listed es) i k .log) (at n D (listed es) j k .log) ⊎ IsPrefix (at n D (listed es) j k .log) (at n D (listed es) i k .log))
+
+differ : (x y a b : List ℕ) → x ≡ a → y ≡ b → merge a b ≡ none → ¬ (IsPrefix x y ⊎ IsPrefix y x)
+differ x y a b p q m o = begins-merge a b (subst₂ (λ (u v : List ℕ). IsPrefix u v ⊎ IsPrefix v u) p q o) m
+
+held-back-logs : (at 3 1 (listed heldBack) 0 7 .log ≡ 77 ∷ []) × (at 3 1 (listed heldBack) 2 7 .log ≡ 78 ∷ [])
+unfolding at listed heldBack
+held-back-logs = (refl, refl)
+
+-- all but delivery in time
+pub held-back : GoodSettings 3 1 (listed heldBack) 2 × AtMostF 3 1 (listed heldBack) 2 × NeverFull 3 1 (listed heldBack) 2 × ProperBuffers 3 1 (listed heldBack) 2
+    × NoForgery 3 1 (listed heldBack) 2 × OneName 3 1 (listed heldBack) 2 rivalHeight rivalParent × Differ 3 1 heldBack 0 2 7
+unfolding verdict goodSettings count merge
+held-back =
+    let v = held-back-verdict in (
+      refl,
+      omega arith,
+      run-checked 3 1 heldBack 2 (at-place 0 _ _ v),
+      lent-checked 3 1 heldBack 2 (at-place 1 _ _ v),
+      forgery-checked 3 1 heldBack 2 (at-place 3 _ _ v),
+      names-checked 3 1 heldBack 2 rivalHeight rivalParent (at-place 4 _ _ v),
+      differ _ _ (77 ∷ []) (78 ∷ []) (held-back-logs .0) (held-back-logs .1) refl,
+    )
+
+two-parents-logs : (at 3 1 (listed twoParents) 0 46 .log ≡ 77 ∷ 99 ∷ 100 ∷ 101 ∷ []) × (at 3 1 (listed twoParents) 2 46 .log ≡ 78 ∷ 99 ∷ 100 ∷ 101 ∷ [])
+unfolding at listed twoParents
+two-parents-logs = (refl, refl)
+
+-- all but one block per name
+pub two-parents : GoodSettings 3 1 (listed twoParents) 2 × AtMostF 3 1 (listed twoParents) 2 × NeverFull 3 1 (listed twoParents) 2 × ProperBuffers 3 1 (listed twoParents) 2
+    × InTime 3 1 (listed twoParents) 2 × NoForgery 3 1 (listed twoParents) 2 × Differ 3 1 twoParents 0 2 46
+unfolding verdict goodSettings count merge
+two-parents =
+    let v = two-parents-verdict in (
+      refl,
+      omega arith,
+      run-checked 3 1 twoParents 2 (at-place 0 _ _ v),
+      lent-checked 3 1 twoParents 2 (at-place 1 _ _ v),
+      time-checked 3 1 twoParents 2 (at-place 2 _ _ v),
+      forgery-checked 3 1 twoParents 2 (at-place 3 _ _ v),
+      differ _ _ (77 ∷ 99 ∷ 100 ∷ 101 ∷ []) (78 ∷ 99 ∷ 100 ∷ 101 ∷ []) (two-parents-logs .0) (two-parents-logs .1) refl,
+    )
+
+-- ---- all but one premise hold, and a commit is missed: station 0 votes for a propose of name 99 and height 2 at clock 0 (event 0), is in its
+-- view as the tick to 2D+1 begins (event 7), and has not logged it after that tick
+
+abbrev Missed : (n : ℕ) → List Event → (mask : ℕ) → Type 0
+Missed n es m =
+    Says n 1 (listed es) 0 0 (toAll (propose 1 2 99 98 m 1)) × Says n 1 (listed es) 0 0 (toAll (vote 1 2 99 0)) × (listed es 7 ≡ commonTick)
+    × (clock n 1 (listed es) 7 ≡ clock n 1 (listed es) 1 + 2 * 1) × (at n 1 (listed es) 0 7 .phase ≡ inView) × (at n 1 (listed es) 0 7 .view ≡ 1)
+    × (at n 1 (listed es) 0 8 .log ≡ [])
+
+forged-missed : Missed 3 forgedVotes 3
+unfolding at out clock listed forgedVotes
+forged-missed = (List·Memᴰ·head refl, List·Memᴰ·tail (List·Memᴰ·head refl), refl, refl, refl, refl, refl)
+
+-- all but no forgery
+pub forged : GoodSettings 3 1 (listed forgedVotes) 2 × AtMostF 3 1 (listed forgedVotes) 2 × NeverFull 3 1 (listed forgedVotes) 2 × ProperBuffers 3 1 (listed forgedVotes) 2
+    × InTime 3 1 (listed forgedVotes) 2 × OneName 3 1 (listed forgedVotes) 2 heightOf parentOf × Missed 3 forgedVotes 3
+unfolding verdict goodSettings count
+forged =
+    let v = forged-verdict in (
+      refl,
+      omega arith,
+      run-checked 3 1 forgedVotes 2 (at-place 0 _ _ v),
+      lent-checked 3 1 forgedVotes 2 (at-place 1 _ _ v),
+      time-checked 3 1 forgedVotes 2 (at-place 2 _ _ v),
+      names-checked 3 1 forgedVotes 2 heightOf parentOf (at-place 4 _ _ v),
+      forged-missed,
+    )
+
+many-faulty-missed : Missed 5 manyFaulty 14
+unfolding at out clock listed manyFaulty
+many-faulty-missed = (List·Memᴰ·head refl, List·Memᴰ·tail (List·Memᴰ·head refl), refl, refl, refl, refl, refl)
+
+-- all but at most f faulty
+pub many-faulty : GoodSettings 5 1 (listed manyFaulty) 14 × NeverFull 5 1 (listed manyFaulty) 14 × ProperBuffers 5 1 (listed manyFaulty) 14 × InTime 5 1 (listed manyFaulty) 14
+    × NoForgery 5 1 (listed manyFaulty) 14 × OneName 5 1 (listed manyFaulty) 14 heightOf parentOf × Missed 5 manyFaulty 14
+unfolding verdict goodSettings
+many-faulty =
+    let v = many-faulty-verdict in (
+      refl,
+      run-checked 5 1 manyFaulty 14 (at-place 0 _ _ v),
+      lent-checked 5 1 manyFaulty 14 (at-place 1 _ _ v),
+      time-checked 5 1 manyFaulty 14 (at-place 2 _ _ v),
+      forgery-checked 5 1 manyFaulty 14 (at-place 3 _ _ v),
+      names-checked 5 1 manyFaulty 14 heightOf parentOf (at-place 4 _ _ v),
+      many-faulty-missed,
+    )
