@@ -134,10 +134,6 @@ ticks-two commonTick = inr (refl, refl)
 ticks-two (given j bs) = inl refl
 ticks-two (offeredTo j b) = inl refl
 
-pub ticks-given : (j : ℕ) (bs : List ℕ) → ticks (given j bs) ≡ 0
-unfolding ticks
-ticks-given j bs = refl
-
 pub happens-given : (j : ℕ) (bs : List ℕ) (s : State) → happens j (given j bs) s ≡ step bs s
 unfolding happens
 happens-given j bs s = rw (eq-eqb j j refl, happens)
