@@ -64,7 +64,7 @@ pub enum Read {
 pub fn read_message(message: &[u8]) -> Read
     ensures { λ r. ⌜ readOf r ≡ read (now (message .entry)) ⌝ }
 {
-    let kind = reader::number_at(message, 0, 1, 1);
+    let kind = reader::read_number(message, 0, 1, 1);
     let at = kind.next;
     let number = kind.value;
     match number {

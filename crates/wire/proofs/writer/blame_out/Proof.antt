@@ -3,27 +3,19 @@ use Rattle.wire.proofs.Writing.{first-field, no-fields, message-says}
 use borrow.Author.Needs.{needs}
 use Rattle.wire.proofs.writer.blame_out.Statement.{statement}
 use Rattle.wire.proofs.writer.blame_out.Tie as tie
-use Rattle.wire.proofs.writer.blame_out.Reads as reads
-use Rattle.wire.proofs.writer.blame_out.Lts as lts
-use Rattle.wire.proofs.writer.number_field.Reads as number-field-reads
 
--- src/writer.rt:97:9
 number-field-requires : tie.Need-number-field-requires
 number-field-requires c κs = search needs
 
--- src/writer.rt:98:9
 number-field-requires-2 : tie.Need-number-field-requires-2
 number-field-requires-2 c κs = search needs
 
--- src/writer.rt:99:5
 number-field-requires-3 : tie.Need-number-field-requires-3
 number-field-requires-3 c κs = search needs
 
--- src/writer.rt:93:1
 same-length : tie.Need-same-length
 same-length c = search needs
 
--- src/writer.rt:93:1
 returns : tie.Need-returns
 unfolding tagsOf rowOf table kind values width
 returns c =

@@ -4,32 +4,22 @@ use native.Mathlib.Omega.{arith}
 use borrow.Author.Needs.{needs}
 use Rattle.wire.proofs.writer.block.Statement.{statement}
 use Rattle.wire.proofs.writer.block.Tie as tie
-use Rattle.wire.proofs.writer.block.Reads as reads
-use Rattle.wire.proofs.writer.block.Lts as lts
-use Rattle.wire.proofs.writer.name_field.Reads as name-field-reads
-use Rattle.wire.proofs.writer.number_field.Reads as number-field-reads
 
--- src/writer.rt:44:9
 number-field-requires : tie.Need-number-field-requires
 number-field-requires c κs = search needs
 
--- src/writer.rt:45:9
 number-field-requires-2 : tie.Need-number-field-requires-2
 number-field-requires-2 c κs = search needs
 
--- src/writer.rt:46:9
 number-field-requires-3 : tie.Need-number-field-requires-3
 number-field-requires-3 c κs = search needs
 
--- src/writer.rt:47:5
 name-field-requires : tie.Need-name-field-requires
 name-field-requires c κs = search needs
 
--- src/writer.rt:40:1
 same-length : tie.Need-same-length
 same-length c = search needs
 
--- src/writer.rt:40:1
 returns : tie.Need-returns
 unfolding width
 returns c =

@@ -8,30 +8,20 @@ use native.Mathlib.Omega.{arith}
 use borrow.Author.Needs.{needs}
 use Rattle.wire.proofs.writer.new_view_out.Statement.{statement}
 use Rattle.wire.proofs.writer.new_view_out.Tie as tie
-use Rattle.wire.proofs.writer.new_view_out.Reads as reads
-use Rattle.wire.proofs.writer.new_view_out.Lts as lts
-use Rattle.wire.proofs.writer.block.Reads as block-reads
-use Rattle.wire.proofs.writer.ending.Reads as ending-reads
-use Rattle.wire.proofs.writer.number_field.Reads as number-field-reads
 
--- src/writer.rt:66:9
 block-requires : tie.Need-block-requires
 block-requires c κs = search needs
 
--- src/writer.rt:67:9
 number-field-requires : tie.Need-number-field-requires
 number-field-requires c κs =
     omega (arith, link-word (c .before .before .before .before .before .before .before .before .args .x .link) (256 ^ 4) (lit< tt) (c .before .before .before .before .before .before .before .before .pre .1))
 
--- src/writer.rt:68:5
 ending-requires : tie.Need-ending-requires
 ending-requires c κs = search needs
 
--- src/writer.rt:60:1
 same-length : tie.Need-same-length
 same-length c = search needs
 
--- src/writer.rt:60:1
 returns : tie.Need-returns
 unfolding tagsOf rowOf table kind values width
 returns c =

@@ -4,39 +4,28 @@ use Rattle.wire.proofs.Writing.{number-says}
 use borrow.Author.Needs.{needs}
 use Rattle.wire.proofs.writer.number_field.Statement.{statement}
 use Rattle.wire.proofs.writer.number_field.Tie as tie
-use Rattle.wire.proofs.writer.number_field.Reads as reads
-use Rattle.wire.proofs.writer.number_field.Lts as lts
-use Rattle.fields.proofs.put.Reads as put-reads
 
--- src/writer.rt:22:16
 add-from : tie.Need-add-from
 add-from c = search needs
 
--- src/writer.rt:23:29
 mul-put : tie.Need-mul-put
 mul-put c = search needs
 
--- src/writer.rt:23:29
 add-put : tie.Need-add-put
 add-put c = search needs
 
--- src/writer.rt:23:5
 put-requires : tie.Need-put-requires
 put-requires c κs = search needs
 
--- src/writer.rt:24:5
 put-requires-2 : tie.Need-put-requires-2
 put-requires-2 c κs = search needs
 
--- src/writer.rt:25:5
 add-result : tie.Need-add-result
 add-result c = search needs
 
--- src/writer.rt:18:1
 same-length : tie.Need-same-length
 same-length c = search needs
 
--- src/writer.rt:18:1
 returns : tie.Need-returns
 returns c =
     let a = c .before .before .before .before .before .before .before .before .before .args in

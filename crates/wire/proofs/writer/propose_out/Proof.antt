@@ -5,29 +5,19 @@ use Rattle.wire.proofs.Writing.{first-field, fields-both, message-says}
 use borrow.Author.Needs.{needs}
 use Rattle.wire.proofs.writer.propose_out.Statement.{statement}
 use Rattle.wire.proofs.writer.propose_out.Tie as tie
-use Rattle.wire.proofs.writer.propose_out.Reads as reads
-use Rattle.wire.proofs.writer.propose_out.Lts as lts
-use Rattle.wire.proofs.writer.block.Reads as block-reads
-use Rattle.wire.proofs.writer.ending.Reads as ending-reads
-use Rattle.wire.proofs.writer.name_field.Reads as name-field-reads
 
--- src/writer.rt:78:9
 block-requires : tie.Need-block-requires
 block-requires c κs = search needs
 
--- src/writer.rt:79:9
 name-field-requires : tie.Need-name-field-requires
 name-field-requires c κs = search needs
 
--- src/writer.rt:80:5
 ending-requires : tie.Need-ending-requires
 ending-requires c κs = search needs
 
--- src/writer.rt:72:1
 same-length : tie.Need-same-length
 same-length c = search needs
 
--- src/writer.rt:72:1
 returns : tie.Need-returns
 unfolding tagsOf rowOf table kind values width
 returns c =

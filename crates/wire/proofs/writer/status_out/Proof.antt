@@ -4,36 +4,25 @@ use Rattle.wire.proofs.Writing.{first-field, no-fields, message-says}
 use borrow.Author.Needs.{needs}
 use Rattle.wire.proofs.writer.status_out.Statement.{statement}
 use Rattle.wire.proofs.writer.status_out.Tie as tie
-use Rattle.wire.proofs.writer.status_out.Reads as reads
-use Rattle.wire.proofs.writer.status_out.Lts as lts
-use Rattle.wire.proofs.writer.name_field.Reads as name-field-reads
-use Rattle.wire.proofs.writer.number_field.Reads as number-field-reads
 
--- src/writer.rt:117:9
 number-field-requires : tie.Need-number-field-requires
 number-field-requires c κs = search needs
 
--- src/writer.rt:118:9
 number-field-requires-2 : tie.Need-number-field-requires-2
 number-field-requires-2 c κs = search needs
 
--- src/writer.rt:119:9
 name-field-requires : tie.Need-name-field-requires
 name-field-requires c κs = search needs
 
--- src/writer.rt:120:9
 number-field-requires-3 : tie.Need-number-field-requires-3
 number-field-requires-3 c κs = search needs
 
--- src/writer.rt:121:5
 number-field-requires-4 : tie.Need-number-field-requires-4
 number-field-requires-4 c κs = search needs
 
--- src/writer.rt:113:1
 same-length : tie.Need-same-length
 same-length c = search needs
 
--- src/writer.rt:113:1
 returns : tie.Need-returns
 unfolding tagsOf rowOf table kind values width
 returns c =

@@ -4,24 +4,16 @@ use Rattle.wire.proofs.Writing.{first-field, no-fields, fields-both, me
 use borrow.Author.Needs.{needs}
 use Rattle.wire.proofs.writer.vote_out.Statement.{statement}
 use Rattle.wire.proofs.writer.vote_out.Tie as tie
-use Rattle.wire.proofs.writer.vote_out.Reads as reads
-use Rattle.wire.proofs.writer.vote_out.Lts as lts
-use Rattle.wire.proofs.writer.block.Reads as block-reads
-use Rattle.wire.proofs.writer.number_field.Reads as number-field-reads
 
--- src/writer.rt:88:9
 block-requires : tie.Need-block-requires
 block-requires c κs = search needs
 
--- src/writer.rt:89:5
 number-field-requires : tie.Need-number-field-requires
 number-field-requires c κs = search needs
 
--- src/writer.rt:84:1
 same-length : tie.Need-same-length
 same-length c = search needs
 
--- src/writer.rt:84:1
 returns : tie.Need-returns
 unfolding tagsOf rowOf table kind values width
 returns c =
