@@ -1,3 +1,4 @@
+-- `allowed` meets its contract: by the case of the message. Assumes nothing.
 use Rattle.rules.specs.Messages.{allowed}
 use Rattle.wire.specs.Meaning.{messageOf}
 use borrow.Author.Needs.{needs}
@@ -78,7 +79,9 @@ returns c =
 returns-2 : tie.Need-returns-2
 unfolding messageOf allowed
 returns-2 c =
-    rw (c .before .before .before .before .message2 .given .1, c .before .before .view-allowed .ensures, c .before .block-allowed .ensures)
+    let after-view-allowed = c .before .before in
+    let after-message2 = after-view-allowed .before .before in
+    rw (after-message2 .message2 .given .1, after-view-allowed .view-allowed .ensures, c .before .block-allowed .ensures)
 
 returns-3 : tie.Need-returns-3
 unfolding messageOf allowed

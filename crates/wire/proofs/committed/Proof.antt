@@ -1,3 +1,4 @@
+-- `committed` meets its contract: the head is put, then the height, then the name. Assumes nothing.
 use Rattle.wire.proofs.Writing.{length-committed, committed-says}
 use native.Mathlib.Omega.{arith}
 use Rattle.fields.proofs.Names.{name-lt}
@@ -15,14 +16,16 @@ add-put c = search needs
 
 put-requires-2 : tie.Need-put-requires-2
 put-requires-2 c κs =
-    omega (arith, length-committed (c .before .before .before .before .before .before .args .height) (nameOf (c .before .before .before .before .before .before .args .name)))
+    let start = c .before .before .before .before .before .before in
+    omega (arith, length-committed (start .args .height) (nameOf (start .args .name)))
 
 add-put-name : tie.Need-add-put-name
 add-put-name c = search needs
 
 put-name-requires : tie.Need-put-name-requires
 put-name-requires c κs =
-    omega (arith, length-committed (c .before .before .before .before .before .before .before .before .before .before .args .height) (nameOf (c .before .before .before .before .before .before .before .before .before .before .args .name)))
+    let start = c .before .before .before .before .before .before .before .before .before .before in
+    omega (arith, length-committed (start .args .height) (nameOf (start .args .name)))
 
 add-result : tie.Need-add-result
 add-result c = search needs
@@ -32,9 +35,13 @@ same-length c = search needs
 
 returns : tie.Need-returns
 returns c =
-    let a = c .before .before .before .before .before .before .before .before .before .before .before .before .before .args in
-    committed-says (a .out .now) (a .at) (a .height) (nameOf (a .name)) (omega arith) (name-lt (a .name) (omega arith) (omega arith) (omega arith) (omega arith))
-    (c .before .before .before .before .before .before .before .before .before .before .put .ensures) (c .before .before .before .before .before .before .put2 .ensures) (c .before .before .put-name .ensures)
+    let after-put-name = c .before .before in
+    let after-put2 = after-put-name .before .before .before .before in
+    let after-put = after-put2 .before .before .before .before in
+    let start = after-put .before .before .before in
+    let a = start .args in
+    committed-says (a .out .now) (a .at) (a .height) (nameOf (a .name)) (omega arith) (name-lt (a .name) (omega (arith, start .good)) (omega (arith, start .good)) (omega (arith, start .good)) (omega (arith, start .good)))
+    (after-put .put .ensures) (after-put2 .put2 .ensures) (after-put-name .put-name .ensures)
 
 pub committed-spec : {M : Type 1} → statement M
 committed-spec =

@@ -1,3 +1,4 @@
+-- `new_view_allowed` meets its contract: each test is a clause; a link below the view is its last word. Assumes nothing.
 use Rattle.wire.proofs.Tests.{new-view-allowed}
 use Rattle.settings.specs.Made.{settingsOf}
 use native.Mathlib.Omega.{arith}
@@ -31,8 +32,13 @@ leads-requires c κs = search needs
 
 returns : tie.Need-returns
 returns c =
-    rw (c .before .before .before .before .before .view-allowed .ensures, c .before .before .before .before .block-allowed .ensures, c .before .before .link-below .ensures, c .before .before .before .certificate-allowed .ensures, c .leads .ensures)
-    (new-view-allowed (settingsOf (c .before .before .before .before .before .before .before .before .before .before .args .settings)) (c .before .before .before .before .before .before .before .before .before .before .args .statement) (c .before .before .before .before .before .before .before .before .before .before .pre) (omega arith))
+    let after-link-below = c .before .before in
+    let after-certificate-allowed = after-link-below .before in
+    let after-block-allowed = after-certificate-allowed .before in
+    let after-view-allowed = after-block-allowed .before in
+    let start = after-view-allowed .before .before .before .before .before in
+    rw (after-view-allowed .view-allowed .ensures, after-block-allowed .block-allowed .ensures, after-link-below .link-below .ensures, after-certificate-allowed .certificate-allowed .ensures, c .leads .ensures)
+    (new-view-allowed (settingsOf (start .args .settings)) (start .args .statement) (start .pre) (omega (arith, start .good)))
 
 pub new-view-allowed-spec : {M : Type 1} → statement M
 new-view-allowed-spec =

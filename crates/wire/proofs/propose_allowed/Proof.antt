@@ -1,3 +1,4 @@
+-- `propose_allowed` meets its contract: each test is a clause; at height 0 one fails. Assumes nothing.
 use Rattle.settings.specs.Made.{settingsOf}
 use Rattle.wire.proofs.Tests.{propose-low, propose-allowed}
 use borrow.Author.Needs.{needs}
@@ -34,8 +35,14 @@ leads-requires c κs = search needs
 
 returns-2 : tie.Need-returns-2
 returns-2 c =
-    rw (c .before .before .before .before .before .view-allowed .ensures, c .before .before .before .before .block-allowed .ensures, c .before .before .before .block-allowed2 .ensures, c .before .before .mask-allowed .ensures, c .leads .ensures)
-    (propose-allowed (settingsOf (c .before .before .before .before .before .before .before .before .before .before .before .args .settings)) (c .before .before .before .before .before .before .before .before .before .before .before .args .statement) (c .before .before .before .before .before .before .before .before .before .before .before .pre) (c .before .before .before .before .before .before .before .before .if1 .left))
+    let after-mask-allowed = c .before .before in
+    let after-block-allowed2 = after-mask-allowed .before in
+    let after-block-allowed = after-block-allowed2 .before in
+    let after-view-allowed = after-block-allowed .before in
+    let after-if1 = after-view-allowed .before .before .before in
+    let start = after-if1 .before .before .before in
+    rw (after-view-allowed .view-allowed .ensures, after-block-allowed .block-allowed .ensures, after-block-allowed2 .block-allowed2 .ensures, after-mask-allowed .mask-allowed .ensures, c .leads .ensures)
+    (propose-allowed (settingsOf (start .args .settings)) (start .args .statement) (start .pre) (after-if1 .if1 .left))
 
 pub propose-allowed-spec : {M : Type 1} → statement M
 propose-allowed-spec =

@@ -1,3 +1,4 @@
+-- `read_message` meets its contract: by the number of the kind; a number outside 1 to 6 has no row. Assumes nothing.
 use mathlib.Core.Option.{none}
 use mathlib.Core.Path.{refl}
 use Rattle.wire.specs.Meaning.{readOf}
@@ -29,35 +30,55 @@ status-requires c κs = search needs
 
 returns : tie.Need-returns
 returns c =
-    read-kind (c .before .before .before .before .args .message .now) (c .before .before .before .shared-slice-known .given) 1 (c .before .before .read-number .ensures) (c .before .match .keys1) (c .new-view .ensures)
+    let after-read-number = c .before .before in
+    let known = after-read-number .before in
+    let start = known .before in
+    read-kind (start .args .message .now) (known .shared-slice-known .given) 1 (after-read-number .read-number .ensures) (c .before .match .keys1) (c .new-view .ensures)
 
 returns-2 : tie.Need-returns-2
 returns-2 c =
-    read-kind (c .before .before .before .before .args .message .now) (c .before .before .before .shared-slice-known .given) 2 (c .before .before .read-number .ensures) (c .before .match .keys2) (c .propose .ensures)
+    let after-read-number = c .before .before in
+    let known = after-read-number .before in
+    let start = known .before in
+    read-kind (start .args .message .now) (known .shared-slice-known .given) 2 (after-read-number .read-number .ensures) (c .before .match .keys2) (c .propose .ensures)
 
 returns-3 : tie.Need-returns-3
 returns-3 c =
-    read-kind (c .before .before .before .before .args .message .now) (c .before .before .before .shared-slice-known .given) 3 (c .before .before .read-number .ensures) (c .before .match .keys3) (c .vote .ensures)
+    let after-read-number = c .before .before in
+    let known = after-read-number .before in
+    let start = known .before in
+    read-kind (start .args .message .now) (known .shared-slice-known .given) 3 (after-read-number .read-number .ensures) (c .before .match .keys3) (c .vote .ensures)
 
 returns-4 : tie.Need-returns-4
 returns-4 c =
-    read-kind (c .before .before .before .before .args .message .now) (c .before .before .before .shared-slice-known .given) 4 (c .before .before .read-number .ensures) (c .before .match .keys4) (c .blame .ensures)
+    let after-read-number = c .before .before in
+    let known = after-read-number .before in
+    let start = known .before in
+    read-kind (start .args .message .now) (known .shared-slice-known .given) 4 (after-read-number .read-number .ensures) (c .before .match .keys4) (c .blame .ensures)
 
 returns-5 : tie.Need-returns-5
 returns-5 c =
-    read-kind (c .before .before .before .before .args .message .now) (c .before .before .before .shared-slice-known .given) 5 (c .before .before .read-number .ensures) (c .before .match .keys5) (c .blame-set .ensures)
+    let after-read-number = c .before .before in
+    let known = after-read-number .before in
+    let start = known .before in
+    read-kind (start .args .message .now) (known .shared-slice-known .given) 5 (after-read-number .read-number .ensures) (c .before .match .keys5) (c .blame-set .ensures)
 
 returns-6 : tie.Need-returns-6
 returns-6 c =
-    read-kind (c .before .before .before .before .args .message .now) (c .before .before .before .shared-slice-known .given) 6 (c .before .before .read-number .ensures) (c .before .match .keys6) (c .status .ensures)
+    let after-read-number = c .before .before in
+    let known = after-read-number .before in
+    let start = known .before in
+    read-kind (start .args .message .now) (known .shared-slice-known .given) 6 (after-read-number .read-number .ensures) (c .before .match .keys6) (c .status .ensures)
 
 returns-7 : tie.Need-returns-7
 unfolding readOf
 returns-7 c =
+    let known = c .before .before in
+    let start = known .before in
     let k = c .before .read-number .result .value in
     let r = c .match .rest in
-    read-kind (c .before .before .before .args .message .now) (c .before .before .shared-slice-known .given) k (c .before .read-number .ensures) refl
-    (body-none (c .before .before .before .args .message .now) (c .before .before .shared-slice-known .given) k (c .before .read-number .result .next)
+    read-kind (start .args .message .now) (known .shared-slice-known .given) k (c .before .read-number .ensures) refl
+    (body-none (start .args .message .now) (known .shared-slice-known .given) k (c .before .read-number .result .next)
     (no-row k (r .0 .0 .0 .0 .0 .1) (r .0 .0 .0 .0 .1) (r .0 .0 .0 .1) (r .0 .0 .1) (r .0 .1) (r .1)))
 
 pub read-message-spec : {M : Type 1} → statement M

@@ -1,3 +1,4 @@
+-- `size` meets its contract: by the case of the message, as 01's table has it. Assumes nothing.
 use mathlib.Core.Path.{sym}
 use Rattle.rules.specs.Messages.{kind}
 use Rattle.wire.specs.Meaning.{messageOf}

@@ -1,3 +1,4 @@
+-- `to_all` meets its contract: the head is put, then the message. Assumes nothing.
 use lib.Dec.{lit<}
 use mathlib.Core.Path.{ap, _∙_}
 use native.Mathlib.Omega.{arith}
@@ -26,7 +27,8 @@ add-write-message c = search needs
 
 write-message-requires : tie.Need-write-message-requires
 write-message-requires c κs =
-    (c .before .before .before .before .before .before .before .pre .0, omega (arith, length-to-all (messageOf (c .before .before .before .before .before .before .before .args .message))))
+    let start = c .before .before .before .before .before .before .before in
+    (start .pre .0, omega (arith, length-to-all (messageOf (start .args .message))))
 
 same-length : tie.Need-same-length
 same-length c = search needs
@@ -34,10 +36,14 @@ same-length c = search needs
 returns : tie.Need-returns
 unfolding effect
 returns c =
-    let a = c .before .before .before .before .before .before .before .before .before .before .args in
+    let after-write-message = c .before .before in
+    let after-put = after-write-message .before .before .before .before in
+    let after-size = after-put .before .before in
+    let start = after-size .before .before in
+    let a = start .args in
     let m = messageOf (a .message) in
     field-says (a .out .now) (a .at) 0x10 (write m) (lit< tt) (omega (arith, length-write-most m))
-    (c .before .before .before .before .before .before .put .ensures ∙ ap (λ (n : ℕ). put (a .out .now) (a .at) 3 (0x100000 + n)) (c .before .before .before .before .before .before .before .before .size .ensures)) (c .before .before .write-message .ensures)
+    (after-put .put .ensures ∙ ap (λ (n : ℕ). put (a .out .now) (a .at) 3 (0x100000 + n)) (after-size .size .ensures)) (after-write-message .write-message .ensures)
 
 pub to-all-spec : {M : Type 1} → statement M
 to-all-spec =

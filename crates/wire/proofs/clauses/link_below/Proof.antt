@@ -1,3 +1,4 @@
+-- `clauses::link_below` meets its contract: a view as a name is its own number. Assumes nothing.
 use lib.Dec.{ltb}
 use mathlib.Core.Path.{_∙_, ap}
 use Rattle.fields.specs.Names.{nameOf}

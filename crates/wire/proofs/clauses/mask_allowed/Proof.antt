@@ -1,3 +1,4 @@
+-- `clauses::mask_allowed` meets its contract: its tests are the definition's. Assumes nothing.
 use Rattle.rules.specs.Messages.{maskAllowed}
 use borrow.Author.Needs.{needs}
 use Rattle.wire.proofs.clauses.mask_allowed.Statement.{statement}

@@ -1,3 +1,4 @@
+-- `clauses::mask_within` meets its contract: a shift is a power of 2; a mask of 16 bits is below every greater power. Assumes nothing.
 use lib.Dec.{ltb}
 use native.Mathlib.Omega.{arith}
 use mathlib.Core.Path.{ap}

@@ -1,3 +1,4 @@
+-- `clauses::view_allowed` meets its contract: its tests are the definition's. Assumes nothing.
 use mathlib.Core.Path.{refl}
 use Rattle.rules.specs.Lists.{within}
 use Rattle.rules.specs.Messages.{viewAllowed}

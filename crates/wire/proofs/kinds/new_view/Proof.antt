@@ -1,3 +1,5 @@
+-- `kinds::new_view` meets its contract: the fields that were found make a chain, which ends where the message does, or not.
+-- Assumes nothing.
 use native.Mathlib.Nat.{zero-add}
 use Rattle.fields.specs.Names.{nameOf}
 use Rattle.rules.specs.Words.{message}
@@ -30,7 +32,18 @@ read-number-requires-5 c κs = search needs
 returns : tie.Need-returns
 unfolding readOf rowOf table width
 returns c =
-    body-other (c .before .before .before .before .before .before .before .before .before .args .s .now) (c .before .before .before .before .before .before .before .before .shared-slice-known .given) 1 (c .before .before .before .before .before .before .before .before .before .args .at) _ _ _ refl (found (c .before .before .before .before .before .before .before .read-number .ensures) (found (c .before .before .before .before .before .before .read-number2 .ensures) (found (c .before .before .before .before .before .read-name .ensures) (found (c .before .before .before .before .read-number3 .ensures) (found (c .before .before .before .read-number4 .ensures) (found (c .before .before .read-number5 .ensures) ends)))))) (c .if1 .taken)
+    let after-read-number5 = c .before .before in
+    let after-read-number4 = after-read-number5 .before in
+    let after-read-number3 = after-read-number4 .before in
+    let after-read-name = after-read-number3 .before in
+    let after-read-number2 = after-read-name .before in
+    let after-read-number = after-read-number2 .before in
+    let known = after-read-number .before in
+    let start = known .before in
+    body-other (start .args .s .now) (known .shared-slice-known .given) 1 (start .args .at) _ _ _ refl
+    (found (after-read-number .read-number .ensures) (found (after-read-number2 .read-number2 .ensures) (found (after-read-name .read-name .ensures)
+    (found (after-read-number3 .read-number3 .ensures) (found (after-read-number4 .read-number4 .ensures) (found (after-read-number5 .read-number5 .ensures) ends))))))
+    (c .if1 .taken)
 
 cast-t13 : tie.Need-cast-t13
 cast-t13 c = search needs
@@ -47,7 +60,19 @@ cast-t16 c = search needs
 returns-2 : tie.Need-returns-2
 unfolding readOf messageOf rowOf table width message statementOf nameOf
 returns-2 c =
-    rw zero-add (body-all (c .before .before .before .before .before .before .before .before .before .before .before .before .before .before .args .s .now) (c .before .before .before .before .before .before .before .before .before .before .before .before .before .shared-slice-known .given) 1 (c .before .before .before .before .before .before .before .before .before .before .before .before .before .before .args .at) _ _ _ refl (found (c .before .before .before .before .before .before .before .before .before .before .before .before .read-number .ensures) (found (c .before .before .before .before .before .before .before .before .before .before .before .read-number2 .ensures) (found (c .before .before .before .before .before .before .before .before .before .before .read-name .ensures) (found (c .before .before .before .before .before .before .before .before .before .read-number3 .ensures) (found (c .before .before .before .before .before .before .before .before .read-number4 .ensures) (found (c .before .before .before .before .before .before .before .read-number5 .ensures) ends)))))) (c .before .before .before .before .before .if1 .left))
+    let after-if1 = c .before .before .before .before .before in
+    let after-read-number5 = after-if1 .before .before in
+    let after-read-number4 = after-read-number5 .before in
+    let after-read-number3 = after-read-number4 .before in
+    let after-read-name = after-read-number3 .before in
+    let after-read-number2 = after-read-name .before in
+    let after-read-number = after-read-number2 .before in
+    let known = after-read-number .before in
+    let start = known .before in
+    rw zero-add (body-all (start .args .s .now) (known .shared-slice-known .given) 1 (start .args .at) _ _ _ refl
+    (found (after-read-number .read-number .ensures) (found (after-read-number2 .read-number2 .ensures) (found (after-read-name .read-name .ensures)
+    (found (after-read-number3 .read-number3 .ensures) (found (after-read-number4 .read-number4 .ensures) (found (after-read-number5 .read-number5 .ensures) ends))))))
+    (after-if1 .if1 .left))
 
 pub new-view-spec : {M : Type 1} → statement M
 new-view-spec =

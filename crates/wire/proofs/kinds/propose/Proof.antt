@@ -1,3 +1,5 @@
+-- `kinds::propose` meets its contract: the fields that were found make a chain, which ends where the message does, or not.
+-- Assumes nothing.
 use Rattle.fields.specs.Names.{nameOf}
 use Rattle.rules.specs.Words.{message}
 use mathlib.Core.Path.{refl}
@@ -29,7 +31,18 @@ read-number-requires-4 c κs = search needs
 returns : tie.Need-returns
 unfolding readOf rowOf table width
 returns c =
-    body-other (c .before .before .before .before .before .before .before .before .before .args .s .now) (c .before .before .before .before .before .before .before .before .shared-slice-known .given) 2 (c .before .before .before .before .before .before .before .before .before .args .at) _ _ _ refl (found (c .before .before .before .before .before .before .before .read-number .ensures) (found (c .before .before .before .before .before .before .read-number2 .ensures) (found (c .before .before .before .before .before .read-name .ensures) (found (c .before .before .before .before .read-name2 .ensures) (found (c .before .before .before .read-number3 .ensures) (found (c .before .before .read-number4 .ensures) ends)))))) (c .if1 .taken)
+    let after-read-number4 = c .before .before in
+    let after-read-number3 = after-read-number4 .before in
+    let after-read-name2 = after-read-number3 .before in
+    let after-read-name = after-read-name2 .before in
+    let after-read-number2 = after-read-name .before in
+    let after-read-number = after-read-number2 .before in
+    let known = after-read-number .before in
+    let start = known .before in
+    body-other (start .args .s .now) (known .shared-slice-known .given) 2 (start .args .at) _ _ _ refl
+    (found (after-read-number .read-number .ensures) (found (after-read-number2 .read-number2 .ensures) (found (after-read-name .read-name .ensures)
+    (found (after-read-name2 .read-name2 .ensures) (found (after-read-number3 .read-number3 .ensures) (found (after-read-number4 .read-number4 .ensures) ends))))))
+    (c .if1 .taken)
 
 cast-t13 : tie.Need-cast-t13
 cast-t13 c = search needs
@@ -46,7 +59,19 @@ cast-t16 c = search needs
 returns-2 : tie.Need-returns-2
 unfolding readOf messageOf rowOf table width message statementOf nameOf
 returns-2 c =
-    body-all (c .before .before .before .before .before .before .before .before .before .before .before .before .before .before .before .args .s .now) (c .before .before .before .before .before .before .before .before .before .before .before .before .before .before .shared-slice-known .given) 2 (c .before .before .before .before .before .before .before .before .before .before .before .before .before .before .before .args .at) _ _ _ refl (found (c .before .before .before .before .before .before .before .before .before .before .before .before .before .read-number .ensures) (found (c .before .before .before .before .before .before .before .before .before .before .before .before .read-number2 .ensures) (found (c .before .before .before .before .before .before .before .before .before .before .before .read-name .ensures) (found (c .before .before .before .before .before .before .before .before .before .before .read-name2 .ensures) (found (c .before .before .before .before .before .before .before .before .before .read-number3 .ensures) (found (c .before .before .before .before .before .before .before .before .read-number4 .ensures) ends)))))) (c .before .before .before .before .before .before .if1 .left)
+    let after-if1 = c .before .before .before .before .before .before in
+    let after-read-number4 = after-if1 .before .before in
+    let after-read-number3 = after-read-number4 .before in
+    let after-read-name2 = after-read-number3 .before in
+    let after-read-name = after-read-name2 .before in
+    let after-read-number2 = after-read-name .before in
+    let after-read-number = after-read-number2 .before in
+    let known = after-read-number .before in
+    let start = known .before in
+    body-all (start .args .s .now) (known .shared-slice-known .given) 2 (start .args .at) _ _ _ refl
+    (found (after-read-number .read-number .ensures) (found (after-read-number2 .read-number2 .ensures) (found (after-read-name .read-name .ensures)
+    (found (after-read-name2 .read-name2 .ensures) (found (after-read-number3 .read-number3 .ensures) (found (after-read-number4 .read-number4 .ensures) ends))))))
+    (after-if1 .if1 .left)
 
 pub propose-spec : {M : Type 1} → statement M
 propose-spec =

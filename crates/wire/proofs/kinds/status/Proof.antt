@@ -1,3 +1,5 @@
+-- `kinds::status` meets its contract: the fields that were found make a chain, which ends where the message does, or not.
+-- Assumes nothing.
 use Rattle.fields.specs.Names.{nameOf}
 use mathlib.Core.Path.{refl}
 use Rattle.rules.specs.Messages.{rowOf, table, width}
@@ -22,7 +24,16 @@ read-number-requires-3 c κs = search needs
 returns : tie.Need-returns
 unfolding readOf rowOf table width
 returns c =
-    body-other (c .before .before .before .before .before .before .before .args .s .now) (c .before .before .before .before .before .before .shared-slice-known .given) 6 (c .before .before .before .before .before .before .before .args .at) _ _ _ refl (found (c .before .before .before .before .before .read-number .ensures) (found (c .before .before .before .before .read-name .ensures) (found (c .before .before .before .read-number2 .ensures) (found (c .before .before .read-number3 .ensures) ends)))) (c .if1 .taken)
+    let after-read-number3 = c .before .before in
+    let after-read-number2 = after-read-number3 .before in
+    let after-read-name = after-read-number2 .before in
+    let after-read-number = after-read-name .before in
+    let known = after-read-number .before in
+    let start = known .before in
+    body-other (start .args .s .now) (known .shared-slice-known .given) 6 (start .args .at) _ _ _ refl
+    (found (after-read-number .read-number .ensures) (found (after-read-name .read-name .ensures) (found (after-read-number2 .read-number2 .ensures)
+    (found (after-read-number3 .read-number3 .ensures) ends))))
+    (c .if1 .taken)
 
 cast-t10 : tie.Need-cast-t10
 cast-t10 c = search needs
@@ -36,7 +47,17 @@ cast-t12 c = search needs
 returns-2 : tie.Need-returns-2
 unfolding readOf messageOf rowOf table width nameOf
 returns-2 c =
-    body-all (c .before .before .before .before .before .before .before .before .before .before .before .args .s .now) (c .before .before .before .before .before .before .before .before .before .before .shared-slice-known .given) 6 (c .before .before .before .before .before .before .before .before .before .before .before .args .at) _ _ _ refl (found (c .before .before .before .before .before .before .before .before .before .read-number .ensures) (found (c .before .before .before .before .before .before .before .before .read-name .ensures) (found (c .before .before .before .before .before .before .before .read-number2 .ensures) (found (c .before .before .before .before .before .before .read-number3 .ensures) ends)))) (c .before .before .before .before .if1 .left)
+    let after-if1 = c .before .before .before .before in
+    let after-read-number3 = after-if1 .before .before in
+    let after-read-number2 = after-read-number3 .before in
+    let after-read-name = after-read-number2 .before in
+    let after-read-number = after-read-name .before in
+    let known = after-read-number .before in
+    let start = known .before in
+    body-all (start .args .s .now) (known .shared-slice-known .given) 6 (start .args .at) _ _ _ refl
+    (found (after-read-number .read-number .ensures) (found (after-read-name .read-name .ensures) (found (after-read-number2 .read-number2 .ensures)
+    (found (after-read-number3 .read-number3 .ensures) ends))))
+    (after-if1 .if1 .left)
 
 pub status-spec : {M : Type 1} → statement M
 status-spec =

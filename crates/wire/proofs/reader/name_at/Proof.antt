@@ -1,3 +1,4 @@
+-- `reader::name_at` meets its contract: here or not here. Assumes nothing.
 use native.Mathlib.Numerals.{add-one}
 use Rattle.rules.proofs.Bytes.{pow-pos}
 use mathlib.Core.Path.{refl, sym, _∙_}
@@ -20,7 +21,9 @@ get-name-requires c κs =
 
 add-t8 : tie.Need-add-t8
 add-t8 c =
-    omega (arith, stood (c .before .before .before .before .args .s .now) (c .before .before .before .before .args .at) (c .before .before .before .before .args .tag) 32 (c .before .before .stands .ensures) (c .before .if1 .taken))
+    let after-stands = c .before .before in
+    let start = after-stands .before .before in
+    omega (arith, stood (start .args .s .now) (start .args .at) (start .args .tag) 32 (after-stands .stands .ensures) (c .before .if1 .taken))
 
 returns : tie.Need-returns
 returns c =

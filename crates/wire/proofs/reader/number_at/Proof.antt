@@ -1,3 +1,4 @@
+-- `reader::number_at` meets its contract: here, too wide or not here. Assumes nothing.
 use native.Mathlib.Numerals.{add-one}
 use Rattle.rules.proofs.Bytes.{pow-pos}
 use borrow.Author.Tests.{lt-leb, le-leb}
@@ -20,26 +21,33 @@ stands-requires c κs = search needs
 
 add-from : tie.Need-add-from
 add-from c =
-    omega (arith, stood (c .before .before .before .before .args .s .now) (c .before .before .before .before .args .at) (c .before .before .before .before .args .tag) (c .before .before .before .before .args .width) (c .before .stands .ensures) (c .if2 .taken))
+    let start = c .before .before .before .before in
+    omega (arith, stood (start .args .s .now) (start .args .at) (start .args .tag) (start .args .width) (c .before .stands .ensures) (c .if2 .taken))
 
 get-requires : tie.Need-get-requires
 get-requires c κs =
-    omega (arith, stood (c .before .before .before .before .args .s .now) (c .before .before .before .before .args .at) (c .before .before .before .before .args .tag) (c .before .before .before .before .args .width) (c .before .stands .ensures) (c .if2 .taken))
+    let start = c .before .before .before .before in
+    omega (arith, stood (start .args .s .now) (start .args .at) (start .args .tag) (start .args .width) (c .before .stands .ensures) (c .if2 .taken))
 
 add-t11 : tie.Need-add-t11
 add-t11 c =
-    omega (arith, stood (c .before .before .before .before .before .args .s .now) (c .before .before .before .before .before .args .at) (c .before .before .before .before .before .args .tag) (c .before .before .before .before .before .args .width) (c .before .before .stands .ensures) (c .before .if2 .taken))
+    let after-stands = c .before .before in
+    let start = after-stands .before .before .before in
+    omega (arith, stood (start .args .s .now) (start .args .at) (start .args .tag) (start .args .width) (after-stands .stands .ensures) (c .before .if2 .taken))
 
 returns-2 : tie.Need-returns-2
 returns-2 c =
-    rw (le-leb (c .before .before .before .before .before .args .width) 8 (omega arith), sym (c .before .before .stands .ensures) ∙ c .before .if2 .taken) (record { value-is = c .get .ensures .0; next-is = refl; bound = c .get .ensures .1 })
+    let after-stands = c .before .before in
+    let start = after-stands .before .before .before in
+    rw (le-leb (start .args .width) 8 (omega arith), sym (after-stands .stands .ensures) ∙ c .before .if2 .taken) (record { value-is = c .get .ensures .0; next-is = refl; bound = c .get .ensures .1 })
 
 add-t13 : tie.Need-add-t13
 add-t13 c = search needs
 
 returns-3 : tie.Need-returns-3
 returns-3 c =
-    rw (le-leb (c .before .before .before .before .args .width) 8 (omega arith), sym (c .before .stands .ensures) ∙ c .if2 .left) (record { value-is = refl; next-is = add-one _; bound = pow-pos _ })
+    let start = c .before .before .before .before in
+    rw (le-leb (start .args .width) 8 (omega arith), sym (c .before .stands .ensures) ∙ c .if2 .left) (record { value-is = refl; next-is = add-one _; bound = pow-pos _ })
 
 pub number-at-spec : {M : Type 1} → statement M
 number-at-spec =

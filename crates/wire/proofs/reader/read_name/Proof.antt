@@ -47,10 +47,13 @@ use Rattle.wire.proofs.reader.Named as N
 use Rattle.wire.proofs.reader.Named.Laws as N′
 use Rattle.wire.proofs.reader.Reader.new as new
 use Rattle.wire.proofs.reader.Reader.new.Symbol as new-def
+use Rattle.wire.proofs.reader.Reader.new.Symbol.{name as #new}
 use Rattle.wire.proofs.reader.Reader.new.Met as new-thm
 use Rattle.wire.proofs.reader.Reader.name as name
 use Rattle.wire.proofs.reader.Reader.name.Symbol as name-def
+use Rattle.wire.proofs.reader.Reader.name.Symbol.{name as #name}
 use Rattle.wire.proofs.reader.Reader.name.Met as name-thm
+use Rattle.wire.proofs.reader.read_name.Key.{name as #read}
 use Rattle.wire.proofs.reader.read_name as read
 use Rattle.wire.proofs.reader.read_name.Statement as stated
 use Rattle.wire.proofs.reader.read_name.Code as code

@@ -46,10 +46,13 @@ use Rattle.wire.proofs.reader.Number as N
 use Rattle.wire.proofs.reader.Number.Laws as N′
 use Rattle.wire.proofs.reader.Reader.new as new
 use Rattle.wire.proofs.reader.Reader.new.Symbol as new-def
+use Rattle.wire.proofs.reader.Reader.new.Symbol.{name as #new}
 use Rattle.wire.proofs.reader.Reader.new.Met as new-thm
 use Rattle.wire.proofs.reader.Reader.number as number
 use Rattle.wire.proofs.reader.Reader.number.Symbol as number-def
+use Rattle.wire.proofs.reader.Reader.number.Symbol.{name as #number}
 use Rattle.wire.proofs.reader.Reader.number.Met as number-thm
+use Rattle.wire.proofs.reader.read_number.Key.{name as #read}
 use Rattle.wire.proofs.reader.read_number as read
 use Rattle.wire.proofs.reader.read_number.Statement as stated
 use Rattle.wire.proofs.reader.read_number.Code as code

@@ -1,3 +1,4 @@
+-- `reader::stands` meets its contract: the test of the head, where there is room for the field. Assumes nothing.
 use Prim.Native.Nat.{ℕ, _*_, _+_}
 use lib.Dec.{eqb}
 use mathlib.Core.Path.{ap, _∙_}
@@ -29,7 +30,8 @@ add-result c = search needs
 
 returns-3 : tie.Need-returns-3
 returns-3 c =
-    let a = c .before .before .before .before .args in
+    let start = c .before .before .before .before in
+    let a = start .args in
     ap (λ (n : ℕ). eqb n (a .tag * 65536 + a .width)) (c .get .ensures .0) ∙ field-test (a .s .now) (a .at) (a .tag) (a .width) (omega arith)
 
 pub stands-spec : {M : Type 1} → statement M

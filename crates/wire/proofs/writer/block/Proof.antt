@@ -1,3 +1,4 @@
+-- `writer::block` meets its contract: four fields one after another. Assumes nothing.
 use Rattle.rules.specs.Messages.{width}
 use Rattle.wire.proofs.Writing.{first-field, no-fields}
 use native.Mathlib.Omega.{arith}
@@ -23,7 +24,11 @@ same-length c = search needs
 returns : tie.Need-returns
 unfolding width
 returns c =
-    ((first-field (c .before .before .before .before .before .before .before .before .before .before .before .before .before .before .number-field .ensures .0) (first-field (c .before .before .before .before .before .before .before .before .before .before .number-field2 .ensures .0) (first-field (c .before .before .before .before .before .before .number-field3 .ensures .0) (first-field (c .before .before .name-field .ensures .0) no-fields)))), omega arith)
+    let after-name-field = c .before .before in
+    let after-number-field3 = after-name-field .before .before .before .before in
+    let after-number-field2 = after-number-field3 .before .before .before .before in
+    let after-number-field = after-number-field2 .before .before .before .before in
+    ((first-field (after-number-field .number-field .ensures .0) (first-field (after-number-field2 .number-field2 .ensures .0) (first-field (after-number-field3 .number-field3 .ensures .0) (first-field (after-name-field .name-field .ensures .0) no-fields)))), omega arith)
 
 pub block-spec : {M : Type 1} → statement M
 block-spec =

@@ -1,3 +1,4 @@
+-- `writer::ending` meets its contract: two fields one after another. Assumes nothing.
 use Rattle.rules.specs.Messages.{width}
 use Rattle.wire.proofs.Writing.{first-field, no-fields}
 use borrow.Author.Needs.{needs}
@@ -16,7 +17,9 @@ same-length c = search needs
 returns : tie.Need-returns
 unfolding width
 returns c =
-    first-field (c .before .before .before .before .before .before .number-field .ensures .0) (first-field (c .before .before .number-field2 .ensures .0) no-fields)
+    let after-number-field2 = c .before .before in
+    let after-number-field = after-number-field2 .before .before .before .before in
+    first-field (after-number-field .number-field .ensures .0) (first-field (after-number-field2 .number-field2 .ensures .0) no-fields)
 
 pub ending-spec : {M : Type 1} → statement M
 ending-spec =

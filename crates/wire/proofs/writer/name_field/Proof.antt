@@ -1,3 +1,4 @@
+-- `writer::name_field` meets its contract: the head is put, then the name. Assumes nothing.
 use Rattle.fields.proofs.Names.{name-lt}
 use Rattle.fields.specs.Names.{nameOf}
 use native.Mathlib.Omega.{arith}
@@ -29,8 +30,11 @@ same-length c = search needs
 
 returns : tie.Need-returns
 returns c =
-    let a = c .before .before .before .before .before .before .before .before .before .args in
-    (number-says (a .out .now) (a .at) (a .tag) 32 (nameOf (a .name)) (omega arith) (omega arith) (name-lt (a .name) (omega arith) (omega arith) (omega arith) (omega arith)) (c .before .before .before .before .before .before .put .ensures) (c .before .before .put-name .ensures), omega arith)
+    let after-put-name = c .before .before in
+    let after-put = after-put-name .before .before .before .before in
+    let start = after-put .before .before .before in
+    let a = start .args in
+    (number-says (a .out .now) (a .at) (a .tag) 32 (nameOf (a .name)) (omega arith) (omega arith) (name-lt (a .name) (omega (arith, start .good)) (omega (arith, start .good)) (omega (arith, start .good)) (omega (arith, start .good))) (after-put .put .ensures) (after-put-name .put-name .ensures), omega arith)
 
 pub name-field-spec : {M : Type 1} → statement M
 name-field-spec =

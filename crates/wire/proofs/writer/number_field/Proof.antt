@@ -1,3 +1,4 @@
+-- `writer::number_field` meets its contract: the head is put, then the value. Assumes nothing.
 use mathlib.Core.Path.{refl}
 use native.Mathlib.Omega.{arith}
 use Rattle.wire.proofs.Writing.{number-says}
@@ -28,8 +29,11 @@ same-length c = search needs
 
 returns : tie.Need-returns
 returns c =
-    let a = c .before .before .before .before .before .before .before .before .before .args in
-    (number-says (a .out .now) (a .at) (a .tag) (a .width) (a .value) (omega arith) (omega arith) (c .before .before .before .before .before .before .before .before .before .pre .2) (c .before .before .before .before .before .before .put .ensures) (c .before .before .put2 .ensures), refl)
+    let after-put2 = c .before .before in
+    let after-put = after-put2 .before .before .before .before in
+    let start = after-put .before .before .before in
+    let a = start .args in
+    (number-says (a .out .now) (a .at) (a .tag) (a .width) (a .value) (omega arith) (omega arith) (start .pre .2) (after-put .put .ensures) (after-put2 .put2 .ensures), refl)
 
 pub number-field-spec : {M : Type 1} → statement M
 number-field-spec =

@@ -1,3 +1,4 @@
+-- `writer::propose_out` meets its contract: the first four fields, the link, the ending. Assumes nothing.
 use Rattle.fields.specs.Names.{nameOf}
 use Rattle.rules.specs.Messages.{propose, tagsOf, rowOf, table, kind, values, width}
 use Rattle.wire.proofs.Tests.{propose-said}
@@ -21,8 +22,12 @@ same-length c = search needs
 returns : tie.Need-returns
 unfolding tagsOf rowOf table kind values width
 returns c =
-    let x = c .before .before .before .before .before .before .before .before .before .before .before .before .before .before .before .args .x in
-    rw (propose-said x (c .before .before .before .before .before .before .before .before .before .before .before .before .before .before .before .pre .0)) (message-says (propose (x .view) (x .height) (nameOf (x .name)) (nameOf (x .link)) (x .mask) (x .author)) (fields-both (c .before .before .before .before .before .before .before .before .before .before .block .ensures .0) (first-field (c .before .before .before .before .before .before .name-field .ensures .0) (c .before .before .ending .ensures))))
+    let after-ending = c .before .before in
+    let after-name-field = after-ending .before .before .before .before in
+    let after-block = after-name-field .before .before .before .before in
+    let start = after-block .before .before .before .before .before in
+    let x = start .args .x in
+    rw (propose-said x (start .pre .0)) (message-says (propose (x .view) (x .height) (nameOf (x .name)) (nameOf (x .link)) (x .mask) (x .author)) (fields-both (after-block .block .ensures .0) (first-field (after-name-field .name-field .ensures .0) (after-ending .ending .ensures))))
 
 pub propose-out-spec : {M : Type 1} → statement M
 propose-out-spec =

@@ -1,3 +1,4 @@
+-- `writer::status_out` meets its contract: five fields one after another. Assumes nothing.
 use Rattle.fields.specs.Names.{nameOf}
 use Rattle.rules.specs.Messages.{status, tagsOf, rowOf, table, kind, values, width}
 use Rattle.wire.proofs.Writing.{first-field, no-fields, message-says}
@@ -26,9 +27,15 @@ same-length c = search needs
 returns : tie.Need-returns
 unfolding tagsOf rowOf table kind values width
 returns c =
-    let a = c .before .before .before .before .before .before .before .before .before .before .before .before .before .before .before .before .before .before .before .before .before .args in
+    let after-number-field4 = c .before .before in
+    let after-number-field3 = after-number-field4 .before .before .before .before in
+    let after-name-field = after-number-field3 .before .before .before .before in
+    let after-number-field2 = after-name-field .before .before .before .before in
+    let after-number-field = after-number-field2 .before .before .before .before in
+    let start = after-number-field .before .before .before in
+    let a = start .args in
     message-says (status (a .height) (nameOf (a .name)) (a .cert) (a .mask))
-    (first-field (c .before .before .before .before .before .before .before .before .before .before .before .before .before .before .before .before .before .before .number-field .ensures .0) (first-field (c .before .before .before .before .before .before .before .before .before .before .before .before .before .before .number-field2 .ensures .0) (first-field (c .before .before .before .before .before .before .before .before .before .before .name-field .ensures .0) (first-field (c .before .before .before .before .before .before .number-field3 .ensures .0) (first-field (c .before .before .number-field4 .ensures .0) no-fields)))))
+    (first-field (after-number-field .number-field .ensures .0) (first-field (after-number-field2 .number-field2 .ensures .0) (first-field (after-name-field .name-field .ensures .0) (first-field (after-number-field3 .number-field3 .ensures .0) (first-field (after-number-field4 .number-field4 .ensures .0) no-fields)))))
 
 pub status-out-spec : {M : Type 1} → statement M
 status-out-spec =

@@ -37,6 +37,7 @@ use denote.Exit.{yes}
 use Rattle.wire.specs.declared.reader.Reader.{Reader}
 use Rattle.wire.proofs.reader.Reader as T
 use Rattle.wire.proofs.reader.Reader.Laws as T′
+use Rattle.wire.proofs.reader.Reader.new.Key.{name as #new}
 use Rattle.wire.proofs.reader.Reader.new as new
 use Rattle.wire.proofs.reader.Reader.new.Statement as stated
 use Rattle.wire.proofs.reader.Reader.new.Code as code
