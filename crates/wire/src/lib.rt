@@ -29,7 +29,7 @@ pub struct Statement {
     pub author: u8,
 }
 
-// A message: its fields have the widths of the wire, so whatever stands here can be written.
+// A message. Its fields have the widths of the wire, but for the link of a new-view: a writer asks that it fits 4 bytes.
 pub enum Message {
     Stated(Statement),
     Vote {
