@@ -1,5 +1,4 @@
 pub mod Layout
 pub mod Decode
 pub mod Meaning
-pub mod Changes
-pub mod Fresh
+pub mod Search
