@@ -81,6 +81,9 @@ put-number s b at (suc w) =
     let hi : number s at (suc w) / 256 ≡ number s at w = omega (arith, b (at + w)) in
     rw (lo, hi, set-getD s (at + w) 0) (put-number s b at w)
 
+pub put-same : (s : List ℕ) → Bytes s → (at w v : ℕ) → number s at w ≡ v → put s at w v ≡ s
+put-same s b at w v e = rw (← e) (put-number s b at w)
+
 -- what is written is bytes again
 pub bytes-set : (s : List ℕ) → Bytes s → (i x : ℕ) → x < 256 → Bytes (set s i x)
 bytes-set [] b i x h k = b k
@@ -97,7 +100,7 @@ bytes-put s b at (suc w) v = bytes-put (set s (at + w) (v % 256)) (bytes-set s b
 -- a number in two parts
 pub number-split : (s : List ℕ) (at k m : ℕ) → number s at (k + m) ≡ number s at k * 256 ^ m + number s (at + k) m
 unfolding number
-number-split s at k zero = rw add-zero (omega arith)
+number-split s at k zero = rw (add-zero k) (omega arith)
 number-split s at k (suc m) =
     let h = number-split s at k m in
     let p : number s at k * 256 ^ suc m ≡ number s at k * 256 ^ m * 256 = rw (pow-suc 256 m, mul-assoc) in

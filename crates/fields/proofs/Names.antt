@@ -1,8 +1,7 @@
 -- The laws of a name's number, word by word. Assumes nothing.
 use Prim.Native.Nat.{ℕ, _+_, _*_, _^_, _<_}
-use mathlib.Core.Path.{_≡_, refl, sym, ap, ap₂, _∙_}
+use mathlib.Core.Path.{_≡_, sym, ap, ap₂, _∙_}
 use mathlib.Core.List.{List}
-use native.Mathlib.Omega.{arith}
 use lib.Dec.{eqb, ltb}
 use lib.Bits.{bitOr, bitXor}
 use mir.Val.{Fits}
@@ -17,7 +16,10 @@ use Rattle.fields.proofs.Differ.{Same, digit-high, digit-low, digit-lt,
 abbrev pub Words : Name → Type 0
 Words n = Fits w64 (n .first) × (Fits w64 (n .second) × (Fits w64 (n .third) × (Fits w64 (n .fourth) × Unit {0})))
 
-abbrev pub name : ℕ → ℕ → ℕ → ℕ → Name
+pub words : (n : Name) → n .first < 2 ^ 64 → n .second < 2 ^ 64 → n .third < 2 ^ 64 → n .fourth < 2 ^ 64 → Words n
+words n p q r t = (record { fits = p }, (record { fits = q }, (record { fits = r }, (record { fits = t }, tt))))
+
+abbrev name : ℕ → ℕ → ℕ → ℕ → Name
 name a b c d = record { first = a; second = b; third = c; fourth = d }
 
 -- a number and one word more
@@ -28,6 +30,9 @@ pub name-lt : (n : Name) → n .first < 2 ^ 64 → n .second < 2 ^ 64 → n .thi
 unfolding nameOf
 name-lt n p q r t =
     digit-lt (2 ^ 64) _ (2 ^ 192) (n .fourth) 0 t (digit-lt (2 ^ 64) _ (2 ^ 128) (n .third) 0 r (digit-lt (2 ^ 64) (n .first) (2 ^ 64) (n .second) 0 q p))
+
+pub words-lt : (n : Name) → Words n → nameOf n < 256 ^ 32
+words-lt n k = name-lt n (k .0 .fits) (k .1 .0 .fits) (k .1 .1 .0 .fits) (k .1 .1 .1 .0 .fits)
 
 -- the number of 32 bytes by its words
 pub number-words : (s : List ℕ) (at : ℕ) → number s at 32 ≡ more (more (more (number s at 8) (number s (at + 8) 8)) (number s (at + 16) 8)) (number s (at + 24) 8)

@@ -6,3 +6,6 @@ pub mod Words
 pub mod Inputs
 pub mod Refusals
 pub mod WellFormed
+pub mod Script
+pub mod Corners
+pub mod Bench

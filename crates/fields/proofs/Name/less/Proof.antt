@@ -5,27 +5,36 @@ use Rattle.fields.proofs.Name.less.Tie as tie
 
 returns : tie.Need-returns
 returns c =
-    let start = c .before .before .before in
+    let test1 = c .before .before in
+    let start = test1 .before in
     let a = start .before .before .args in
-    less-first (a .self) (a .other) (start .before .struct-known .given) (start .struct-known2 .given) (c .before .before .if1 .taken)
+    less-first (a .self) (a .other) (start .before .struct-known .given) (start .struct-known2 .given) (test1 .if1 .taken)
 
 returns-2 : tie.Need-returns-2
 returns-2 c =
-    let start = c .before .before .before .before .before .before in
+    let test2 = c .before .before in
+    let test1 = test2 .before .before .before in
+    let start = test1 .before in
     let a = start .before .before .args in
-    less-second (a .self) (a .other) (start .before .struct-known .given) (start .struct-known2 .given) (c .before .before .before .before .before .if1 .left) (c .before .before .if2 .taken)
+    less-second (a .self) (a .other) (start .before .struct-known .given) (start .struct-known2 .given) (test1 .if1 .left) (test2 .if2 .taken)
 
 returns-3 : tie.Need-returns-3
 returns-3 c =
-    let start = c .before .before .before .before .before .before .before .before .before in
+    let test3 = c .before .before in
+    let test2 = test3 .before .before .before in
+    let test1 = test2 .before .before .before in
+    let start = test1 .before in
     let a = start .before .before .args in
-    less-third (a .self) (a .other) (start .before .struct-known .given) (start .struct-known2 .given) (c .before .before .before .before .before .before .before .before .if1 .left) (c .before .before .before .before .before .if2 .left) (c .before .before .if3 .taken)
+    less-third (a .self) (a .other) (start .before .struct-known .given) (start .struct-known2 .given) (test1 .if1 .left) (test2 .if2 .left) (test3 .if3 .taken)
 
 returns-4 : tie.Need-returns-4
 returns-4 c =
-    let start = c .before .before .before .before .before .before .before .before .before in
+    let test3 = c .before .before in
+    let test2 = test3 .before .before .before in
+    let test1 = test2 .before .before .before in
+    let start = test1 .before in
     let a = start .before .before .args in
-    less-fourth (a .self) (a .other) (start .before .struct-known .given) (start .struct-known2 .given) (c .before .before .before .before .before .before .before .before .if1 .left) (c .before .before .before .before .before .if2 .left) (c .before .before .if3 .left)
+    less-fourth (a .self) (a .other) (start .before .struct-known .given) (start .struct-known2 .given) (test1 .if1 .left) (test2 .if2 .left) (test3 .if3 .left)
 
 pub less-spec : {M : Type 1} → statement M
 less-spec = tie.close (tie.spec returns returns-2 returns-3 returns-4)

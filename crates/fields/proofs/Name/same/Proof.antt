@@ -5,8 +5,9 @@ use Rattle.fields.proofs.Name.same.Tie as tie
 
 returns : tie.Need-returns
 returns c =
-    let a = c .before .before .before .before .before .before .before .before .args in
-    same-name (a .self) (a .other) (c .before .before .before .before .before .before .before .struct-known .given) (c .before .before .before .before .before .before .struct-known2 .given)
+    let start = c .before .before .before .before .before .before in
+    let a = start .before .before .args in
+    same-name (a .self) (a .other) (start .before .struct-known .given) (start .struct-known2 .given)
 
 pub same-spec : {M : Type 1} → statement M
 same-spec = tie.close (tie.spec returns)

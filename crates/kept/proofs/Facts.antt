@@ -1,0 +1,115 @@
+-- What code may take from a well-formed state: its numbers are within their limits, and a whole chain is no longer than the table. Assumes nothing.
+use mathlib.Core.Path.{_≡_, ap}
+use Prim.Native.Nat.{ℕ, zero, suc, _+_, _-_, _^_, _≤_, _<_}
+use native.Mathlib.Omega.{arith}
+use mathlib.Core.Bool.{false}
+use mathlib.Core.List.{List, [], _∷_, List·Memᴰ as Mem}
+use mathlib.Core.Option.{none, some, Option·some-injective}
+use lib.ListN.{length, getD}
+use Rattle.rules.specs.Limits.{firstView, lastView, lastHeight, mostStations, mostStatements}
+use Rattle.rules.specs.Lists.{first}
+use Rattle.rules.specs.Words.{Statement, Tally, State}
+use Rattle.rules.specs.Inputs.{isBlock, chainTo, chain}
+use Rattle.rules.specs.WellFormed.{statementGood, tallyGood}
+use Rattle.rules.proofs.Tests.{by-option, no-some}
+use Rattle.kept.specs.Parts.{Formed, WellFormed}
+use Rattle.kept.proofs.Lists.{all-mem}
+use Rattle.kept.proofs.Allowed.{Sizes, sizes, view-within, height-le, leader-lt, mask-small, certificate-mask}
+use Rattle.kept.proofs.Tallies.{TallyGood, tally-parts, Certificate, lock-parts}
+use Rattle.kept.proofs.Statements.{Stated, voted-le}
+use Rattle.kept.proofs.Phases.{Clocks, clocks-parts}
+use Rattle.kept.proofs.Blames.{blames-mask, blames-length}
+use Rattle.kept.proofs.Logs.{proposes, proposes-length, linked-length, stored-stated, chain-linked}
+
+module _ {s : State} (f : Formed s) where
+  -- n odd, 3 to 15; D; own
+  pub sizes-of : Sizes (s .settings)
+  sizes-of = sizes (s .settings) (f .settings)
+
+  -- entry ≤ quit ≤ clock ≤ its end
+  pub clocks-of : Clocks s
+  clocks-of = clocks-parts s (f .clocks)
+
+  pub view-of : (firstView ≤ s .view) × (s .view ≤ lastView)
+  view-of = view-within (s .view) (f .view)
+
+  pub lock-of : Certificate (s .settings) (s .view) (s .lock)
+  lock-of = lock-parts s (f .lock)
+
+  -- ---- a stored statement
+
+  module _ (x : Statement) (m : Mem x (s .statements)) where
+    pub statement-of : Stated (s .settings) x
+    statement-of = stored-stated f x m
+
+    pub statement-limits : (firstView ≤ x .view) × (x .view ≤ lastView) × (x .height ≤ lastHeight) × (x .author < s .settings .n) × (x .mask < 2 ^ mostStations)
+    statement-limits =
+        let d = statement-of in
+        let v = view-within (x .view) (d .view) in
+        let a = leader-lt (x .view) sizes-of in
+        (v .0, v .1, height-le (x .height) (x .name) (d .block), rw (d .author) a, mask-small sizes-of (d .mask))
+
+    pub vote-clock : (c : ℕ) → x .voted ≡ some c → c ≤ s .clock
+    vote-clock c v = voted-le s x c (all-mem (statementGood s) (f .tables .statements) m) v
+
+  -- ---- a tally
+
+  module _ (t : Tally) (m : Mem t (s .tallies)) where
+    pub tally-of : TallyGood (s .settings) t
+    tally-of = tally-parts (s .settings) t (all-mem (tallyGood (s .settings)) (f .tables .tallies) m)
+
+    pub tally-limits : (firstView ≤ t .view) × (t .view ≤ lastView) × (t .height ≤ lastHeight) × (t .mask < 2 ^ mostStations)
+    tally-limits =
+        let d = tally-of in
+        let v = view-within (t .view) (d .view) in
+        (v .0, v .1, height-le (t .height) (t .name) (d .block), mask-small sizes-of (d .mask))
+
+  -- ---- the lock, the blame masks
+
+  pub lock-limits : (s .lock .view < s .view) × (s .lock .height ≤ lastHeight) × (s .lock .mask < 2 ^ mostStations)
+  lock-limits =
+      let t = s .lock in
+      let c = lock-of in
+      (c .earlier, height-le (t .height) (t .name) (c .block), mask-small sizes-of (certificate-mask (s .settings) (t .mask) (t .height) (t .view) (c .isAllowed)))
+
+  pub blame-limits : (v : ℕ) → (getD (s .blames) v 0 < 2 ^ s .settings .n) × (getD (s .blames) v 0 < 2 ^ mostStations)
+  blame-limits v = let h = blames-mask (s .settings) (s .blames) v (f .blames) in (h, mask-small sizes-of h)
+
+  pub blame-count : length (s .blames) ≡ suc lastView
+  blame-count = blames-length (s .settings) (s .blames) (f .blames)
+
+-- ---- the log and chains
+
+chainTo-length : (xs : List Statement) (h b : ℕ) (above l : List ℕ) → chainTo xs h b above ≡ some l → length l ≡ h + length above
+unfolding chainTo
+chainTo-length xs zero b above l e = let k = ap length (Option·some-injective above l e) in omega arith
+chainTo-length xs (suc h) b above l e =
+    by-option (first (isBlock (suc h) b) xs) (λ q. no-some (rw (q, chainTo) at e))
+    (λ x q. let k = chainTo-length xs h (x .link) (b ∷ above) l (rw (q, chainTo) at e) in omega arith)
+
+module _ {s : State} (w : WellFormed s) where
+  pub log-length : length (s .log) ≤ mostStatements
+  log-length =
+      let h = linked-length (s .statements) (s .log) (w .formed .tables .log) in
+      let k = proposes-length (s .statements) in
+      let l = w .fewStatements in
+      omega arith
+
+  module _ (x : Statement) (m : Mem x (s .statements)) (n : x .isNewView ≡ false) where
+    -- a whole chain has a name for each height, and each is of a stored propose
+    pub chain-length : (l : List ℕ) → chain (s .statements) x ≡ some l → (length l ≡ x .height) × (length l ≤ length (proposes (s .statements)))
+    unfolding chain
+    chain-length l e =
+        let h = chainTo-length (s .statements) (x .height - 1) (x .link) (x .name ∷ []) l e in
+        let p = stored-stated (w .formed) x m .parent n .0 in
+        (omega arith, linked-length (s .statements) l (chain-linked (w .formed) x l m n e))
+
+    -- so a block higher than the table is long has none
+    pub chain-none : mostStatements < x .height → chain (s .statements) x ≡ none
+    chain-none h =
+        by-option (chain (s .statements) x) (λ q. q)
+        (λ l q.
+        let c = chain-length l q in
+        let k = proposes-length (s .statements) in
+        let o = w .fewStatements in
+        absurd (omega arith))

@@ -1,0 +1,129 @@
+-- The rules that change the two tables keep a state formed: a certificate joined, a statement stored, a vote noted. Assumes nothing.
+use mathlib.Core.Path.{_≡_, refl, _∙_}
+use Prim.Native.Nat.{ℕ, suc}
+use mathlib.Core.Bool.{Bool, true, false, _&&_, _||_}
+use mathlib.Core.Logic.{inl, inr}
+use mathlib.Core.List.{List, [], _∷_, _++_}
+use mathlib.Core.Option.{none}
+use lib.Dec.{eqb}
+use Rattle.rules.specs.Lists.{any, all, alter}
+use Rattle.rules.specs.Sizes.{only}
+use Rattle.rules.specs.Words.{Statement, message, sameStatement, Tally, ownBlock, certificate, sameBlock, join, joinCertificate, State}
+use Rattle.rules.specs.Inputs.{withTables, noted, votedFor, certificateJoined, stored, isBlock}
+use Rattle.rules.specs.WellFormed.{clocksInOrder, lockGood, statementGood, talliesThere, linked}
+use Rattle.rules.proofs.Tests.{by-bool}
+use Rattle.kept.specs.Parts.{Tables, Formed}
+use Rattle.kept.specs.Said.{Sendable}
+use Rattle.kept.proofs.Truths.{and-2, both, or-2, or-left, or-right}
+use Rattle.kept.proofs.Lists.{all-last, all-weaken, all-alter, any-append, any-alter, distinct-append, distinct-alter}
+use Rattle.kept.proofs.Allowed.{sizes, none-lt, only-lt}
+use Rattle.kept.proofs.Tallies.{Joinable, block-self, join-good, join-any, join-there, join-distinct, certificate-good, certificate-any, certificate-there, certificate-distinct}
+use Rattle.kept.proofs.Statements.{stated, own-good, new-good, noted-good, same-sym, noted-left, noted-right, noted-there}
+
+-- a block of that height and name above that parent
+abbrev pub isAbove : ℕ → ℕ → ℕ → Statement → Bool
+isAbove h b parent x = isBlock h b x && eqb parent (x .link)
+
+-- a log stays linked where every block found before is found now
+linked-mono : (xs ys : List Statement) → ((h b parent : ℕ) → any (isAbove h b parent) xs ≡ true → any (isAbove h b parent) ys ≡ true) → (h parent : ℕ)
+    (l : List ℕ) → linked xs h parent l ≡ true → linked ys h parent l ≡ true
+unfolding linked
+linked-mono xs ys f h parent [] e = refl
+linked-mono xs ys f h parent (b ∷ l) e =
+    let t = and-2 (any (isAbove (suc h) b parent) xs) (linked xs (suc h) b l) e in
+    both (f (suc h) b parent (t .0)) (linked-mono xs ys f (suc h) b l (t .1))
+
+noted-above : (c h b parent : ℕ) (x : Statement) → isAbove h b parent (noted c x) ≡ isAbove h b parent x
+unfolding isBlock noted
+noted-above c h b parent x = refl
+
+-- tallies that are there stay there
+there-mono : (ts us : List Tally) → ((t : Tally) → any (sameBlock t) ts ≡ true → any (sameBlock t) us ≡ true) → (x : Statement)
+    → talliesThere ts x ≡ true → talliesThere us x ≡ true
+unfolding talliesThere
+there-mono ts us f x e =
+    let o = eqb (certificate x .view) 0 in
+    let t = and-2 (any (sameBlock (ownBlock x 0)) ts) (o || any (sameBlock (certificate x)) ts) e in
+    both (f (ownBlock x 0) (t .0))
+    (elim (or-2 o (any (sameBlock (certificate x)) ts) (t .1)) [ inl p ↦ or-left (any (sameBlock (certificate x)) us) p | inr p ↦ or-right o (f (certificate x) p) ])
+
+opened-mono : (ts us : List Tally) → ((t : Tally) → any (sameBlock t) ts ≡ true → any (sameBlock t) us ≡ true) → (xs : List Statement)
+    → all (talliesThere ts) xs ≡ true → all (talliesThere us) xs ≡ true
+opened-mono ts us f xs h = all-weaken (talliesThere ts) (talliesThere us) (there-mono ts us f) xs h
+
+new-there : (x : Statement) (us : List Tally) → talliesThere (join (ownBlock x 0) (joinCertificate (certificate x) us)) x ≡ true
+unfolding talliesThere
+new-there x us =
+    let ts = joinCertificate (certificate x) us in
+    both (join-there (ownBlock x 0) (ownBlock x 0) ts (block-self (ownBlock x 0)))
+    (by-bool (eqb (certificate x .view) 0) (λ q. or-left (any (sameBlock (certificate x)) (join (ownBlock x 0) ts)) q)
+    (λ q. or-right (eqb (certificate x .view) 0) (join-any (ownBlock x 0) (certificate x) ts (certificate-there (certificate x) us q))))
+
+module _ {s : State} (f : Formed s) where
+  tabled : (xs : List Statement) (ts : List Tally) → Tables (statementGood s) (s .settings) xs ts (s .log) → Formed (withTables xs ts s)
+  unfolding withTables clocksInOrder lockGood statementGood
+  tabled xs ts t = record { settings = f .settings; view = f .view; clocks = f .clocks; lock = f .lock; tables = t; blames = f .blames }
+
+  pub tallied-formed : (t : Tally) → Joinable (s .settings) t → Formed (withTables (s .statements) (joinCertificate t (s .tallies)) s)
+  tallied-formed t j =
+      let old = f .tables in
+      let ts = joinCertificate t (s .tallies) in
+      tabled (s .statements) ts
+      (record {
+        statements = old .statements;
+        statementsDiffer = old .statementsDiffer;
+        tallies = certificate-good t (s .tallies) (s .settings) j (old .tallies);
+        talliesDiffer = certificate-distinct t (s .tallies) (old .talliesDiffer);
+        opened = opened-mono (s .tallies) ts (certificate-any t (s .tallies)) (s .statements) (old .opened);
+        log = old .log;
+      })
+
+  module _ (x : Statement) (m : Sendable (s .settings) (message x)) where
+    pub certificateJoined-formed : Formed (certificateJoined x s)
+    unfolding certificateJoined
+    certificateJoined-formed = tallied-formed (certificate x) (stated (s .settings) x m .certified)
+
+    module _ (v : x .voted ≡ none) (n : any (sameStatement x) (s .statements) ≡ false) where
+      pub stored-formed : Formed (stored x s)
+      unfolding stored
+      stored-formed =
+          let old = f .tables in
+          let us = joinCertificate (certificate x) (s .tallies) in
+          let own = ownBlock x 0 in
+          let ts = join own us in
+          let xs = s .statements ++ x ∷ [] in
+          let good = certificate-good (certificate x) (s .tallies) (s .settings) (stated (s .settings) x m .certified) (old .tallies) in
+          let still =
+          opened-mono (s .tallies) ts (λ t h. join-any own t us (certificate-any (certificate x) (s .tallies) t h)) (s .statements) (old .opened) in
+          tabled xs ts
+          (record {
+            statements = all-last (statementGood s) (s .statements) x (old .statements) (new-good s x m v);
+            statementsDiffer = distinct-append sameStatement same-sym (s .statements) x (old .statementsDiffer) n;
+            tallies = join-good own (s .settings) us (own-good (s .settings) x m 0 (none-lt (s .settings))) good;
+            talliesDiffer = join-distinct own us (certificate-distinct (certificate x) (s .tallies) (old .talliesDiffer));
+            opened = all-last (talliesThere ts) (s .statements) x still (new-there x (s .tallies));
+            log = linked-mono (s .statements) xs (λ h b p. any-append (isAbove h b p) (s .statements) (x ∷ [])) 0 0 (s .log) (old .log);
+          })
+
+    pub votedFor-formed : Formed (votedFor x s)
+    unfolding votedFor
+    votedFor-formed =
+        let old = f .tables in
+        let t = ownBlock x (only (s .settings .own)) in
+        let ts = join t (s .tallies) in
+        let c = s .clock in
+        let same = sameStatement x in
+        let xs = alter same (noted c) (s .statements) in
+        let own = only-lt (s .settings) (s .settings .own) (sizes (s .settings) (f .settings) .own) in
+        let still = opened-mono (s .tallies) ts (λ u. join-any t u (s .tallies)) (s .statements) (old .opened) in
+        tabled xs ts
+        (record {
+          statements = all-alter (statementGood s) same (noted c) (noted-good s) (s .statements) (old .statements);
+          statementsDiffer = distinct-alter sameStatement same (noted c) (noted-left c) (noted-right c) (s .statements) ∙ old .statementsDiffer;
+          tallies = join-good t (s .settings) (s .tallies) (own-good (s .settings) x m (only (s .settings .own)) own) (old .tallies);
+          talliesDiffer = join-distinct t (s .tallies) (old .talliesDiffer);
+          opened = all-alter (talliesThere ts) same (noted c) (λ y h. noted-there c ts y ∙ h) (s .statements) still;
+          log =
+              linked-mono (s .statements) xs (λ h b p e. any-alter (isAbove h b p) same (noted c) (noted-above c h b p) (s .statements) ∙ e) 0 0 (s .log)
+              (old .log);
+        })

@@ -1,0 +1,1 @@
+// No code: proofs/ shows what every call of the rules keeps, says and leaves room for.

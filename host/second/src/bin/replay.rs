@@ -1,0 +1,26 @@
+//! Replays recorded runs: `replay FILE..`. Exits 1 if a file goes another way than recorded.
+
+use std::process::ExitCode;
+
+fn main() -> ExitCode {
+    let (mut passed, mut failed, mut inputs) = (0, 0, 0);
+    for path in std::env::args().skip(1) {
+        let text = std::fs::read_to_string(&path).map_err(|error| error.to_string());
+        match text.and_then(|text| second::replay::replay(&text)) {
+            Ok(count) => {
+                passed += 1;
+                inputs += count;
+            }
+            Err(difference) => {
+                failed += 1;
+                println!("{path}: {difference}");
+            }
+        }
+    }
+    println!("{passed} files as recorded ({inputs} inputs), {failed} differ");
+    if failed == 0 && passed > 0 {
+        ExitCode::SUCCESS
+    } else {
+        ExitCode::FAILURE
+    }
+}

@@ -1,0 +1,22 @@
+//! The independent second program: one station of a Sync HotStuff group, written from document 01
+//! and the rulings alone. The proved station is compared with it, in answers, bytes and speed.
+//!
+//! `settings` has the limits, `words` the records, `wire` the messages, `station` what a message and
+//! an offer do, `tick` what a tick does. `replay` reads recorded runs, `scripts` makes new ones.
+
+#![forbid(unsafe_code)]
+
+pub mod random;
+pub mod refusal;
+pub mod replay;
+pub mod scripts;
+pub mod settings;
+pub mod station;
+mod tick;
+pub mod wire;
+pub mod words;
+
+pub use refusal::{Cause, Refusal};
+pub use settings::Settings;
+pub use station::{Phase, Station};
+pub use words::{Block, Made, Name, Statement, Tally};

@@ -1,0 +1,11 @@
+//! The second program held to 01, the rulings and recorded runs; one test program, so that it
+//! builds fast.
+
+mod bench;
+mod common;
+mod limits;
+mod refusals;
+mod rulings;
+mod scripts;
+mod slips;
+mod vectors;

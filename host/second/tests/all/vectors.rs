@@ -1,0 +1,35 @@
+//! A sample of the recorded runs; `replay` takes any others by their paths.
+
+use second::replay::replay;
+
+macro_rules! recorded {
+    ($($test:ident: $file:literal),* $(,)?) => {$(
+        #[test]
+        fn $test() {
+            let text = include_str!(concat!("../data/", $file));
+            assert!(replay(text).expect("answers as recorded") > 0);
+        }
+    )*};
+}
+
+recorded! {
+    settings: "settings.txt",
+    fuzz_002: "fuzz-002.txt",
+    fuzz_005: "fuzz-005.txt",
+    fuzz_011: "fuzz-011.txt",
+    fuzz_012: "fuzz-012.txt",
+    sim_001: "sim-001.txt",
+    damage_5: "damage-5.txt",
+}
+
+#[test]
+fn another_answer_is_found() {
+    assert_eq!(replay("fresh 3 1 0\n= 0 -\n# a remark\ntick\n= 0 -\n"), Ok(2));
+    assert!(replay("fresh 3 1 0\n= 10 -\n").is_err());
+    assert!(replay("fresh 3 1 0\n= 0 -\ntick\n= 0 00\n").is_err());
+    assert!(replay("tick\n= 0 -\n").is_err());
+    assert!(replay("fresh 3 1 0\n").is_err());
+    assert!(replay("step 0\n= 4 -\n").is_err());
+    // A refused fresh start leaves the station of before.
+    assert_eq!(replay("fresh 3 1 0\n= 0 -\nfresh 4 1 0\n= 10 -\ntick\n= 0 -\n"), Ok(3));
+}
