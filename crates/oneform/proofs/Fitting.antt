@@ -1,21 +1,20 @@
 -- Every number of a well-formed state fits its field of the store, every table its room. Assumes nothing.
-use Prim.Native.Nat.{ℕ, zero, suc, _+_, _^_, _≤_, _<_}
-use mathlib.Core.Path.{_≡_, refl, sym, ap, _∙_}
-use mathlib.Core.Bool.{Bool, true, false, not, _&&_}
+use Prim.Native.Nat.{ℕ, suc, _^_, _<_}
+use mathlib.Core.Path.{_≡_, refl, sym, ap}
+use mathlib.Core.Bool.{Bool, true, false}
 use mathlib.Core.List.{List, [], _∷_, List·Memᴰ as Mem, List·Memᴰ·head as here, List·Memᴰ·tail as there}
 use mathlib.Core.Option.{Option, none, some}
 use native.Mathlib.Omega.{arith}
-use native.Mathlib.Nat.{lt-of-lt-of-le}
-use lib.Dec.{eqb, lit≤}
+use lib.Dec.{eqb}
 use lib.ListN.{length, drop}
 use borrow.Author.Tests.{eqb-true}
-use Rattle.rules.specs.Limits.{lastView, lastHeight, mostStations}
+use Rattle.rules.specs.Limits.{lastView}
 use Rattle.rules.specs.Lists.{all}
 use Rattle.rules.specs.Sizes.{Settings}
-use Rattle.rules.specs.Words.{Statement, Tally, Phase, inView, waiting, stopped, Cause, full, split, clock, State}
+use Rattle.rules.specs.Words.{Statement, Tally, Phase, inView, waiting, stopped, full, split, clock, State}
 use Rattle.rules.specs.Inputs.{isBlock}
-use Rattle.rules.specs.WellFormed.{isMask, statementGood, blamesGood, linked, wellFormed}
-use Rattle.rules.proofs.Tests.{no-bool, and-left, and-right}
+use Rattle.rules.specs.WellFormed.{isMask, blamesGood, linked, wellFormed}
+use Rattle.rules.proofs.Tests.{no-bool, and-left}
 use Rattle.fields.specs.Records.{Fit}
 use Rattle.kept.specs.Parts.{WellFormed, Formed}
 use Rattle.kept.proofs.WellFormed.{parts}

@@ -1,6 +1,6 @@
 -- A store is well formed exactly when it is the bytes of a well-formed state; so equal states have equal stores, bit for bit. Assumes nothing.
 use Prim.Native.Nat.{ℕ}
-use mathlib.Core.Path.{_≡_, sym, ap, _∙_}
+use mathlib.Core.Path.{_≡_}
 use mathlib.Core.Bool.{true}
 use mathlib.Core.List.{List}
 use mathlib.Core.Option.{some}

@@ -1,10 +1,10 @@
 -- Writes in a row: what the next may take from what the last left, and the rules that are several writes. Assumes nothing.
-use Prim.Native.Nat.{ℕ, _≤_}
+use Prim.Native.Nat.{ℕ}
 use mathlib.Core.Path.{_≡_, refl, sym, ap, _∙_}
 use mathlib.Core.List.{List, [], _∷_, _++_, append-assoc, append-nil}
 use lib.ListN.{length}
 use Rattle.rules.specs.Sizes.{only}
-use Rattle.rules.specs.Words.{Statement, sameStatement, Tally, ownBlock, certificate, join, joinCertificate, State}
+use Rattle.rules.specs.Words.{Statement, sameStatement, ownBlock, certificate, join, State}
 use Rattle.rules.specs.Inputs.{withTables, withLog, noted, votedFor, certificateJoined, stored}
 use Rattle.store.specs.Layout.{statementTable, tallyTable, logTable, countOf}
 use Rattle.store.specs.Decode.{statementAt, tallyAt, nameAt, statements, tallies, names, stateFrom, stateOf, Left}

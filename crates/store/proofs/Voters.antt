@@ -1,13 +1,13 @@
 -- A mask joined is its voters added one by one: the tally's two methods do the same. Assumes nothing.
 use Prim.Native.Nat.{ℕ, zero, suc, _+_, _*_, _/_, _%_, _^_, _≤_, _<_}
-use mathlib.Core.Path.{_≡_, refl, sym, ap, ap₂, _∙_}
-use mathlib.Core.Bool.{Bool, true, false}
+use mathlib.Core.Path.{_≡_, refl, sym, ap, _∙_}
+use mathlib.Core.Bool.{true, false}
 use native.Mathlib.Omega.{arith}
-use native.Mathlib.Nat.{pow-suc, mul-comm, one-mul, mod-one, mod-lt, mod-eq-of-lt, div-add-mod'}
+use native.Mathlib.Nat.{pow-suc, mul-comm, one-mul, mod-one, mod-lt, mod-eq-of-lt}
 use lib.Dec.{eqb}
 use lib.Arith.{mod-mul}
 use lib.Pow.{pow-pos, pow-lt}
-use lib.Bits.{bitOr, or-zero-r, or-shr, or-mod, or-shifted-r, or-lt}
+use lib.Bits.{bitOr, or-zero-r, or-shr, or-mod, or-shifted-r}
 use borrow.Author.Tests.{eqb-true, eqb-false}
 use Rattle.rules.specs.Limits.{maskBits}
 use Rattle.rules.specs.Sizes.{only, bit, holds, joined}

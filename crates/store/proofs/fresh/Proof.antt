@@ -1,11 +1,6 @@
 -- `store::fresh` meets its contract. Assumes nothing.
-use Rattle.store.specs.Decode.{Left, headerValues}
-use Rattle.rules.specs.Words.{fresh}
-use Rattle.settings.specs.Made.{settingsOf}
-use mathlib.Core.Bool.{true}
-use mathlib.Core.Path.{_≡_, sym, ap, _∙_}
+use mathlib.Core.Path.{sym, _∙_}
 use Rattle.store.proofs.Starts.{length-refused, settings-refused, made-good, made-bad, made-fresh, fresh-left}
-use Rattle.store.specs.Layout.{storeLength}
 use borrow.Author.Needs.{needs}
 use Rattle.store.proofs.fresh.Statement.{statement}
 use Rattle.store.proofs.fresh.Tie as tie

@@ -1,14 +1,10 @@
 -- `store::is_statement` meets its contract. Assumes nothing.
-use Rattle.wire.specs.declared.Statement.{Statement}
-use lib.Dec.{eqb}
-use mathlib.Core.Bool.{_&&_}
 use Rattle.store.proofs.Searches.{other-block, same-block, beq-iff}
-use Rattle.store.specs.Decode.{statementAt}
 use Rattle.wire.specs.Meaning.{statementOf}
 use Rattle.rules.specs.Lists.{iff}
 use borrow.Author.Tests.{eq-eqb, ne-eqb, not-true, not-false}
 use mathlib.Core.Option.{none}
-use mathlib.Core.Path.{_≡_, sym, ap, _∙_}
+use mathlib.Core.Path.{_≡_, sym, _∙_}
 use mathlib.Core.Bool.{true, false}
 use mathlib.Core.Path.{_≡_}
 use borrow.Author.Needs.{needs}

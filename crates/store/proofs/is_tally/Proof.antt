@@ -1,13 +1,7 @@
 -- `store::is_tally` meets its contract. Assumes nothing.
 use Rattle.store.proofs.Searches.{block-tally}
 use Rattle.store.specs.Meaning.{tallyOf}
-use Rattle.fields.specs.Places.{number}
-use Rattle.fields.specs.Names.{nameOf}
-use lib.Dec.{eqb}
-use mathlib.Core.Bool.{_&&_}
-use native.Mathlib.Omega.{arith}
 use Prim.Native.Nat.{_<_, _^_}
-use mathlib.Core.Path.{_≡_, ap, _∙_}
 use borrow.Author.Needs.{needs}
 use Rattle.store.proofs.is_tally.Statement.{statement}
 use Rattle.store.proofs.is_tally.Tie as tie

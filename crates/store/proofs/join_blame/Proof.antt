@@ -6,7 +6,6 @@ use Rattle.store.proofs.Forms.{form-long}
 use Rattle.store.specs.Decode.{blameAt}
 use Rattle.rules.specs.Sizes.{joined}
 use native.Mathlib.Omega.{arith}
-use mathlib.Core.Path.{_≡_, ap}
 use borrow.Author.Needs.{needs}
 use Rattle.store.proofs.join_blame.Statement.{statement}
 use Rattle.store.proofs.join_blame.Tie as tie
