@@ -13,4 +13,7 @@ pub mod Writes
 pub mod Changes
 pub mod Searches
 pub mod Joining
+pub mod Starts
 pub mod Sized
+pub mod Voters
+pub mod Compose
