@@ -1,0 +1,64 @@
+-- All, any and distinct over rows, as a loop upward meets them: what is left is the whole. Each once, for every test and table.
+-- Assumes nothing.
+use Prim.Native.Nat.{ℕ, suc, _+_, _-_, _<_, _≤_}
+use mathlib.Core.Path.{_≡_, refl, sym, ap, _∙_}
+use mathlib.Core.Bool.{Bool, true, false, not, _&&_}
+use mathlib.Core.List.{List, [], _∷_}
+use native.Mathlib.Omega.{arith}
+use native.Mathlib.Nat.{sub-zero}
+use native.Mathlib.Numerals.{add-one}
+use lib.ListN.{length}
+use Rattle.rules.specs.Lists.{all, any, distinct}
+use Rattle.store.specs.Decode.{rows}
+
+module _ {A : Type 0} (f : ℕ → A) (n : ℕ) where
+  pub rows-from : (i : ℕ) → i < n → rows f i (n - i) ≡ f i ∷ rows f (i + 1) (n - (i + 1))
+  unfolding rows
+  rows-from i h = let e : n - i ≡ suc (n - (i + 1)) = omega arith in rw (e, add-one i)
+
+  pub rows-end : (i : ℕ) → n ≤ i → rows f i (n - i) ≡ []
+  unfolding rows
+  rows-end i h = let e : n - i ≡ 0 = omega arith in rw e
+
+  -- the whole, where a loop begins
+  pub rows-whole : (m : ℕ) → n ≡ m → rows f 0 m ≡ rows f 0 (n - 0)
+  rows-whole m e = rw (e, sub-zero)
+
+  module _ (p : A → Bool) (i : ℕ) where
+    pub all-end : n ≤ i → all p (rows f i (n - i)) ≡ true
+    unfolding all
+    all-end h = ap (all p) (rows-end i h)
+
+    pub all-here : i < n → p (f i) ≡ false → all p (rows f i (n - i)) ≡ false
+    unfolding all
+    all-here h t = ap (all p) (rows-from i h) ∙ rw t
+
+    pub all-next : i < n → p (f i) ≡ true → all p (rows f i (n - i)) ≡ all p (rows f (i + 1) (n - (i + 1)))
+    unfolding all
+    all-next h t = ap (all p) (rows-from i h) ∙ rw t
+
+    pub any-end : n ≤ i → any p (rows f i (n - i)) ≡ false
+    unfolding any
+    any-end h = ap (any p) (rows-end i h)
+
+    pub any-here : i < n → p (f i) ≡ true → any p (rows f i (n - i)) ≡ true
+    unfolding any
+    any-here h t = ap (any p) (rows-from i h) ∙ rw (t, any)
+
+    pub any-next : i < n → p (f i) ≡ false → any p (rows f i (n - i)) ≡ any p (rows f (i + 1) (n - (i + 1)))
+    unfolding any
+    any-next h t = ap (any p) (rows-from i h) ∙ rw (t, any)
+
+  module _ (same : A → A → Bool) (i : ℕ) where
+    pub distinct-end : n ≤ i → distinct same (rows f i (n - i)) ≡ true
+    unfolding distinct
+    distinct-end h = ap (distinct same) (rows-end i h)
+
+    pub distinct-here : i < n → any (same (f i)) (rows f (i + 1) (n - (i + 1))) ≡ true → distinct same (rows f i (n - i)) ≡ false
+    unfolding distinct
+    distinct-here h t = ap (distinct same) (rows-from i h) ∙ rw t
+
+    pub distinct-next : i < n → any (same (f i)) (rows f (i + 1) (n - (i + 1))) ≡ false
+        → distinct same (rows f i (n - i)) ≡ distinct same (rows f (i + 1) (n - (i + 1)))
+    unfolding distinct
+    distinct-next h t = ap (distinct same) (rows-from i h) ∙ rw t

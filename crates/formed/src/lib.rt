@@ -1,0 +1,15 @@
+// The check that a lent store is well formed, part by part as the definition has them.
+mod form;
+
+// Where each table begins, and the size of its records.
+const STATEMENTS: usize = 68;
+
+const STATEMENT_SIZE: usize = 80;
+
+const TALLIES: usize = 10_308;
+
+const TALLY_SIZE: usize = 42;
+
+const LOG: usize = 21_124;
+
+const NAME_SIZE: usize = 32;
