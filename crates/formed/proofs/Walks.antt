@@ -54,11 +54,15 @@ module _ {A : Type 0} (f : ℕ → A) (n : ℕ) where
     unfolding distinct
     distinct-end h = ap (distinct same) (rows-end i h)
 
-    pub distinct-here : i < n → any (same (f i)) (rows f (i + 1) (n - (i + 1))) ≡ true → distinct same (rows f i (n - i)) ≡ false
-    unfolding distinct
-    distinct-here h t = ap (distinct same) (rows-from i h) ∙ rw t
+    -- the record at the place, read as x, against those after it
+    module _ (h : i < n) (x : A) (e : x ≡ f i) where
+      abbrev rest : List A
+      rest = rows f (i + 1) (n - (i + 1))
 
-    pub distinct-next : i < n → any (same (f i)) (rows f (i + 1) (n - (i + 1))) ≡ false
-        → distinct same (rows f i (n - i)) ≡ distinct same (rows f (i + 1) (n - (i + 1)))
-    unfolding distinct
-    distinct-next h t = ap (distinct same) (rows-from i h) ∙ rw t
+      pub distinct-here : any (same x) rest ≡ true → distinct same (rows f i (n - i)) ≡ false
+      unfolding distinct
+      distinct-here t = ap (distinct same) (rows-from i h) ∙ rw (← e, t)
+
+      pub distinct-next : any (same x) rest ≡ false → distinct same (rows f i (n - i)) ≡ distinct same rest
+      unfolding distinct
+      distinct-next t = ap (distinct same) (rows-from i h) ∙ rw (← e, t)

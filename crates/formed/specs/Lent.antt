@@ -3,10 +3,14 @@ use Prim.Native.Nat.{ℕ, _+_, _*_, _-_, _≤_}
 use mathlib.Core.Path.{_≡_}
 use mathlib.Core.Bool.{Bool, _&&_}
 use mathlib.Core.List.{List}
+use mathlib.Core.Option.{none}
 use lib.ListN.{length}
 use lib.Dec.{leb, eqb}
+use Rattle.rules.specs.Words as words
 use Rattle.fields.specs.Places.{number}
 use Rattle.fields.specs.Records.{fields}
+use Rattle.wire.specs.Meaning.{statementOf}
+use Rattle.wire.specs.declared.Statement.{Statement}
 use Rattle.store.specs.Layout.{headerFormat, storeLength, Table, countOf}
 use Rattle.store.specs.Meaning.{headerOf}
 use Rattle.store.specs.declared.Station.{Station}
@@ -24,5 +28,12 @@ pub record Counts (t : Table) (b : List ℕ) (count : ℕ) : Type 0 where
 
 -- the count of a table's records is in range, and the unused ones are zero
 unfoldable pub fits : List ℕ → ℕ → ℕ → ℕ → ℕ → Bool
-unfolding number
 fits b base size room count = leb count room && eqb (number b (base + size * count) (size * room - size * count)) 0
+
+-- the record at a place begins with this view, height and name
+unfoldable pub begins : List ℕ → ℕ → ℕ → ℕ → ℕ → Bool
+begins b at view height name = eqb view (number b at 4) && eqb height (number b (at + 4) 4) && eqb name (number b (at + 8) 32)
+
+-- a statement as it was received
+abbrev pub bare : Statement → words.Statement
+bare x = statementOf x none

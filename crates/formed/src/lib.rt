@@ -1,5 +1,8 @@
 // The check that a lent store is well formed, part by part as the definition has them.
 mod form;
+mod records;
+mod statements;
+mod tallies;
 
 // Where each table begins, and the size of its records.
 const STATEMENTS: usize = 68;
@@ -13,3 +16,6 @@ const TALLY_SIZE: usize = 42;
 const LOG: usize = 21_124;
 
 const NAME_SIZE: usize = 32;
+
+// Where the name is in a record that begins with a view and a height.
+const NAME: usize = 8;
