@@ -1,11 +1,16 @@
 -- Each number of the store is one value's, and each value one number's. Assumes nothing.
 use Prim.Native.Nat.{ℕ, zero, suc, _+_, _-_, _≤_}
-use mathlib.Core.Path.{_≡_, refl, ap}
+use mathlib.Core.Path.{_≡_, refl, sym, ap}
+use mathlib.Core.Bool.{Bool, true, false}
 use mathlib.Core.List.{List}
 use mathlib.Core.Option.{Option, none, some}
 use native.Mathlib.Omega.{arith}
+use lib.Dec.{leb, eqb}
+use borrow.Author.Tests.{leb-true}
+use Rattle.rules.specs.Lists.{within}
+use Rattle.rules.proofs.Tests.{no-bool, and-right}
 use Rattle.rules.specs.Words.{Phase, inView, waiting, stopped, Cause, full, split, clock, Statement, Tally}
-use Rattle.store.specs.Decode.{phaseOf, phaseNumber, voteOf, voteNumber, statementAt, voteAt}
+use Rattle.store.specs.Decode.{phaseOf, phaseNumber, voteOf, voteNumber, kindNumber, statementAt, voteAt}
 
 pub phase-waiting : (k : ℕ) → 4 ≤ k → waiting (k - 4) ≡ phaseOf k
 phase-waiting zero h = absurd (omega arith)
@@ -35,6 +40,18 @@ vote-number (suc c) = refl
 pub number-vote : (v : Option ℕ) → voteOf (voteNumber v) ≡ v
 number-vote none = refl
 number-vote (some c) = refl
+
+pub kind-number : (k : ℕ) → within 1 2 k ≡ true → kindNumber (eqb k 1) ≡ k
+unfolding within
+kind-number zero h = no-bool (sym h)
+kind-number (suc zero) h = refl
+kind-number (suc (suc zero)) h = refl
+kind-number (suc (suc (suc k))) h = absurd (omega (arith, leb-true (suc (suc (suc k))) 2 (and-right (leb 1 (suc (suc (suc k)))) _ h)))
+
+pub number-kind : (b : Bool) → (within 1 2 (kindNumber b) ≡ true) × (eqb (kindNumber b) 1 ≡ b)
+unfolding within
+number-kind true = (refl, refl)
+number-kind false = (refl, refl)
 
 -- the vote of a record is that of its number
 pub voted-is : (b : List ℕ) (i : ℕ) → statementAt b i .voted ≡ voteOf (voteAt b i)
