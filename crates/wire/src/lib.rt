@@ -1,5 +1,17 @@
 // Messages: read from any bytes, held against the settings, and written into an out buffer.
 use fields::Name;
+use settings::Settings;
+ghost use mathlib.Core.Path.{_≡_};
+ghost use mathlib.Core.Bool.{true, false};
+ghost use mathlib.Core.Option.{none};
+ghost use Rattle.rules.specs.Messages.{read, allowed};
+ghost use Rattle.rules.specs.Words.{message as said};
+ghost use Rattle.settings.specs.Made.{settingsOf};
+ghost use Rattle.wire.specs.Meaning.{readOf, messageOf, statementOf};
+
+pub mod clauses;
+mod kinds;
+mod reader;
 
 // A new-view or a propose. The link of a propose is its parent's name; of a new-view it is the certificate view, as a name's number.
 pub struct Statement {
@@ -41,4 +53,101 @@ pub enum Message {
 pub enum Read {
     Readable(Message),
     Unreadable,
+}
+
+// Reads a message: any bytes, any length.
+pub fn read_message(message: &[u8]) -> Read
+    ensures { λ r. ⌜ readOf r ≡ read (now (message .entry)) ⌝ }
+{
+    let kind = reader::number_at(message, 0, 1, 1);
+    let at = kind.next;
+    let number = kind.value;
+    match number {
+        1 => kinds::new_view(message, at),
+        2 => kinds::propose(message, at),
+        3 => kinds::vote(message, at),
+        4 => kinds::blame(message, at),
+        5 => kinds::blame_set(message, at),
+        6 => kinds::status(message, at),
+        _ => Read::Unreadable,
+    }
+}
+
+// Whether a new-view is allowed.
+fn new_view_allowed(settings: Settings, statement: Statement) -> bool
+    requires { ⌜ statement .«is_new_view» ≡ true ⌝ }
+    ensures { λ r. ⌜ r ≡ allowed (settingsOf settings) (said (statementOf statement none)) ⌝ }
+{
+    let view = statement.view as u64;
+    let height = statement.height as u64;
+    let name = statement.name;
+    let link = statement.link;
+    let block = clauses::view_allowed(view) & clauses::block_allowed(height, name);
+    let certificate = clauses::certificate_allowed(settings, height, link.fourth, statement.mask);
+    block
+        & clauses::link_below(link, view)
+        & certificate
+        & clauses::leads(settings, view, statement.author as u64)
+}
+
+// Whether a propose is allowed.
+fn propose_allowed(settings: Settings, statement: Statement) -> bool
+    requires { ⌜ statement .«is_new_view» ≡ false ⌝ }
+    ensures { λ r. ⌜ r ≡ allowed (settingsOf settings) (said (statementOf statement none)) ⌝ }
+{
+    let view = statement.view as u64;
+    let height = statement.height as u64;
+    if height < 1 {
+        return false;
+    }
+    let name = statement.name;
+    let parent = statement.link;
+    let block = clauses::view_allowed(view)
+        & clauses::block_allowed(height, name)
+        & clauses::block_allowed(height - 1, parent);
+    block
+        & clauses::mask_allowed(settings, statement.mask)
+        & clauses::leads(settings, view, statement.author as u64)
+}
+
+// Whether a statement is allowed.
+pub fn statement_allowed(settings: Settings, statement: Statement) -> bool
+    ensures { λ r. ⌜ r ≡ allowed (settingsOf settings) (said (statementOf statement none)) ⌝ }
+{
+    if statement.is_new_view {
+        return new_view_allowed(settings, statement);
+    }
+    propose_allowed(settings, statement)
+}
+
+// Whether a message is allowed.
+pub fn allowed(settings: Settings, message: Message) -> bool
+    ensures { λ r. ⌜ r ≡ allowed (settingsOf settings) (messageOf message) ⌝ }
+{
+    match message {
+        Message::Stated(x) => statement_allowed(settings, x),
+        Message::Vote {
+            view,
+            height,
+            name,
+            author,
+        } => {
+            let block = clauses::view_allowed(view as u64)
+                & clauses::block_allowed(height as u64, name);
+            block & ((author as u64) < settings.n)
+        }
+        Message::Blame { view, author } => clauses::view_allowed(view as u64)
+            & ((author as u64) < settings.n),
+        Message::BlameSet { view, mask } => clauses::view_allowed(view as u64)
+            & clauses::mask_allowed(settings, mask),
+        Message::Status {
+            height,
+            name,
+            cert,
+            mask,
+        } => {
+            let block = clauses::block_allowed(height as u64, name);
+            block & clauses::certificate_allowed(settings, height as u64, cert as u64, mask)
+        }
+    }
 }
