@@ -14,6 +14,7 @@ use Rattle.fields.specs.Names.{nameOf}
 use Rattle.fields.specs.Places.{Bytes, number}
 use Rattle.fields.proofs.Laws.{number-lt, number-split}
 use Rattle.fields.proofs.Differ.{digit-high, digit-low}
+use Rattle.wire.proofs.Tests.{same-iff}
 use Rattle.wire.specs.Meaning.{statementOf}
 use Rattle.wire.specs.declared.Statement.{Statement}
 use Rattle.store.specs.Layout.{statementTable, tallyTable, placeOf}
@@ -67,13 +68,6 @@ module _ (a v h n l u : Bool) where
   together : (v && h && n) ≡ true → (a && l && u) ≡ (a && v && h && n && l && u)
   together e = by-bool a (λ q. rw (q, e)) (λ q. rw q)
 
-alike : (a c : Bool) → Bool·beq a c ≡ iff a c
-unfolding iff
-alike true true = refl
-alike true false = refl
-alike false true = refl
-alike false false = refl
-
 module _ (b : List ℕ) (x : Statement) (i : ℕ) where
   abbrev y : words.Statement
   y = statementAt b i
@@ -92,6 +86,6 @@ module _ (b : List ℕ) (x : Statement) (i : ℕ) where
       → (Bool·beq (x .«is_new_view») (z .«is_new_view») && k && eqb (x .author) (z .author)) ≡ sameStatement (bare x) y
   unfolding sameStatement statementOf
   statement-agrees e z q k r =
-      rw (r, alike (x .«is_new_view») (z .«is_new_view»), ap (λ (w : words.Statement). w .isNewView) q, ap (λ (w : words.Statement). w .link) q, ap (λ (w : words.Statement). w .author) q)
+      rw (r, same-iff (x .«is_new_view») (z .«is_new_view»), ap (λ (w : words.Statement). w .isNewView) q, ap (λ (w : words.Statement). w .link) q, ap (λ (w : words.Statement). w .author) q)
       (together (iff (x .«is_new_view») (y .isNewView)) (eqb (x .view) (y .view)) (eqb (x .height) (y .height)) (eqb (nameOf (x .name)) (y .name)) (eqb (nameOf (x .link)) (y .link)) (eqb (x .author) (y .author))
       (sym (begins-statement b x i) ∙ e))

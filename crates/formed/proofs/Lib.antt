@@ -1,3 +1,4 @@
 pub mod Walks
 pub mod Forms
 pub mod Blocks
+pub mod Parts

@@ -6,16 +6,11 @@ use mathlib.Core.Bool.{Bool, true, false, not, _&&_}
 use mathlib.Core.List.{List, [], _∷_}
 use native.Mathlib.Omega.{arith}
 use native.Mathlib.Nat.{sub-zero}
-use native.Mathlib.Numerals.{add-one}
-use lib.ListN.{length}
 use Rattle.rules.specs.Lists.{all, any, distinct}
 use Rattle.store.specs.Decode.{rows}
+use Rattle.store.proofs.Rows.{rows-from}
 
 module _ {A : Type 0} (f : ℕ → A) (n : ℕ) where
-  pub rows-from : (i : ℕ) → i < n → rows f i (n - i) ≡ f i ∷ rows f (i + 1) (n - (i + 1))
-  unfolding rows
-  rows-from i h = let e : n - i ≡ suc (n - (i + 1)) = omega arith in rw (e, add-one i)
-
   pub rows-end : (i : ℕ) → n ≤ i → rows f i (n - i) ≡ []
   unfolding rows
   rows-end i h = let e : n - i ≡ 0 = omega arith in rw e
@@ -31,11 +26,11 @@ module _ {A : Type 0} (f : ℕ → A) (n : ℕ) where
 
     pub all-here : i < n → p (f i) ≡ false → all p (rows f i (n - i)) ≡ false
     unfolding all
-    all-here h t = ap (all p) (rows-from i h) ∙ rw t
+    all-here h t = ap (all p) (rows-from f i n h) ∙ rw t
 
     pub all-next : i < n → p (f i) ≡ true → all p (rows f i (n - i)) ≡ all p (rows f (i + 1) (n - (i + 1)))
     unfolding all
-    all-next h t = ap (all p) (rows-from i h) ∙ rw t
+    all-next h t = ap (all p) (rows-from f i n h) ∙ rw t
 
     pub any-end : n ≤ i → any p (rows f i (n - i)) ≡ false
     unfolding any
@@ -43,11 +38,11 @@ module _ {A : Type 0} (f : ℕ → A) (n : ℕ) where
 
     pub any-here : i < n → p (f i) ≡ true → any p (rows f i (n - i)) ≡ true
     unfolding any
-    any-here h t = ap (any p) (rows-from i h) ∙ rw (t, any)
+    any-here h t = ap (any p) (rows-from f i n h) ∙ rw (t, any)
 
     pub any-next : i < n → p (f i) ≡ false → any p (rows f i (n - i)) ≡ any p (rows f (i + 1) (n - (i + 1)))
     unfolding any
-    any-next h t = ap (any p) (rows-from i h) ∙ rw (t, any)
+    any-next h t = ap (any p) (rows-from f i n h) ∙ rw (t, any)
 
   module _ (same : A → A → Bool) (i : ℕ) where
     pub distinct-end : n ≤ i → distinct same (rows f i (n - i)) ≡ true
@@ -61,8 +56,8 @@ module _ {A : Type 0} (f : ℕ → A) (n : ℕ) where
 
       pub distinct-here : any (same x) rest ≡ true → distinct same (rows f i (n - i)) ≡ false
       unfolding distinct
-      distinct-here t = ap (distinct same) (rows-from i h) ∙ rw (← e, t)
+      distinct-here t = ap (distinct same) (rows-from f i n h) ∙ rw (← e, t)
 
       pub distinct-next : any (same x) rest ≡ false → distinct same (rows f i (n - i)) ≡ distinct same rest
       unfolding distinct
-      distinct-next t = ap (distinct same) (rows-from i h) ∙ rw (← e, t)
+      distinct-next t = ap (distinct same) (rows-from f i n h) ∙ rw (← e, t)

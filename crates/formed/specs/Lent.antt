@@ -1,17 +1,21 @@
 -- A lent store, and the station that its header holds. Assumes nothing.
-use Prim.Native.Nat.{ℕ, _+_, _*_, _-_, _≤_}
+use Prim.Native.Nat.{ℕ, _+_, _*_, _-_, _^_, _≤_, _<_}
 use mathlib.Core.Path.{_≡_}
-use mathlib.Core.Bool.{Bool, _&&_}
-use mathlib.Core.List.{List}
-use mathlib.Core.Option.{none}
+use mathlib.Core.Bool.{Bool, true, false, _&&_}
+use mathlib.Core.List.{List, []}
+use mathlib.Core.Option.{Option, none, some}
 use lib.ListN.{length}
 use lib.Dec.{leb, eqb}
+use Rattle.rules.specs.Lists.{within}
 use Rattle.rules.specs.Words as words
+use Rattle.rules.specs.Inputs.{isBlock}
+use Rattle.fields.specs.Names.{nameOf}
 use Rattle.fields.specs.Places.{number}
 use Rattle.fields.specs.Records.{fields}
 use Rattle.wire.specs.Meaning.{statementOf}
 use Rattle.wire.specs.declared.Statement.{Statement}
 use Rattle.store.specs.Layout.{headerFormat, storeLength, Table, countOf}
+use Rattle.store.specs.Decode.{stateFrom}
 use Rattle.store.specs.Meaning.{headerOf}
 use Rattle.store.specs.declared.Station.{Station}
 
@@ -37,3 +41,26 @@ begins b at view height name = eqb view (number b at 4) && eqb height (number b 
 -- a statement as it was received
 abbrev pub bare : Statement → words.Statement
 bare x = statementOf x none
+
+-- a station without its tables
+abbrev pub alone : Station → words.State
+alone s = stateFrom (headerOf s) [] [] [] []
+
+-- a quit, if waiting, is from the entry to the clock
+unfoldable pub phaseInOrder : ℕ → ℕ → words.Phase → Bool
+unfolding within
+phaseInOrder entry clock p = elim p [ words.inView ↦ true | words.waiting q ↦ within entry clock q | words.stopped c ↦ true ]
+
+-- a vote, if any, was not after the clock
+unfoldable pub voteInOrder : ℕ → Option ℕ → Bool
+voteInOrder clock v = elim v [ none ↦ true | some c ↦ leb c clock ]
+
+-- a stored propose of this height, name and parent
+unfoldable pub isLink : ℕ → ℕ → ℕ → words.Statement → Bool
+unfolding isBlock
+isLink height name parent x = isBlock height name x && eqb parent (x .link)
+
+-- the certificate of a statement is one of the tallies' kind: a view of four bytes, a height above 0
+pub record Certifies (x : Statement) : Type 0 where
+  pub view : x .«is_new_view» ≡ true → nameOf (x .link) < 256 ^ 4
+  pub height : x .«is_new_view» ≡ false → 1 ≤ x .height

@@ -1,5 +1,6 @@
 // The check that a lent store is well formed, part by part as the definition has them.
 mod form;
+mod header;
 mod records;
 mod statements;
 mod tallies;
