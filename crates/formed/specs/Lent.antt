@@ -9,13 +9,12 @@ use lib.Dec.{leb, eqb}
 use Rattle.rules.specs.Lists.{within}
 use Rattle.rules.specs.Words as words
 use Rattle.rules.specs.Inputs.{isBlock}
-use Rattle.fields.specs.Names.{nameOf}
 use Rattle.fields.specs.Places.{number}
 use Rattle.fields.specs.Records.{fields}
 use Rattle.wire.specs.Meaning.{statementOf}
 use Rattle.wire.specs.declared.Statement.{Statement}
 use Rattle.store.specs.Layout.{headerFormat, storeLength, Table, countOf}
-use Rattle.store.specs.Decode.{stateFrom}
+use Rattle.store.specs.Decode.{stateFrom, statementAt}
 use Rattle.store.specs.Meaning.{headerOf}
 use Rattle.store.specs.declared.Station.{Station}
 
@@ -60,7 +59,10 @@ unfoldable pub isLink : ℕ → ℕ → ℕ → words.Statement → Bool
 unfolding isBlock
 isLink height name parent x = isBlock height name x && eqb parent (x .link)
 
--- the certificate of a statement is one of the tallies' kind: a view of four bytes, a height above 0
-pub record Certifies (x : Statement) : Type 0 where
-  pub view : x .«is_new_view» ≡ true → nameOf (x .link) < 256 ^ 4
-  pub height : x .«is_new_view» ≡ false → 1 ≤ x .height
+-- a statement's certificate is a tally: its view is a number of four bytes, its height is not below 0
+pub record Certifies (x : words.Statement) : Type 0 where
+  pub view : x .isNewView ≡ true → x .link < 256 ^ 4
+  pub height : x .isNewView ≡ false → 1 ≤ x .height
+
+abbrev pub AllCertify : List ℕ → ℕ → Type 0
+AllCertify b n = (i : ℕ) → i < n → Certifies (statementAt b i)

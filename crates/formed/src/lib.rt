@@ -1,6 +1,8 @@
 // The check that a lent store is well formed, part by part as the definition has them.
+mod blames;
 mod form;
 mod header;
+mod log;
 mod records;
 mod statements;
 mod tallies;
@@ -18,5 +20,7 @@ const LOG: usize = 21_124;
 
 const NAME_SIZE: usize = 32;
 
-// Where the name is in a record that begins with a view and a height.
+// Where height and name are in a record that begins with a view.
+const HEIGHT: usize = 4;
+
 const NAME: usize = 8;

@@ -1,19 +1,20 @@
-// The tallies of a store: allowed for these settings, and distinct.
+// The tallies of a store: allowed for these settings, distinct, and there for every statement.
 ghost use mathlib.Core.Path.{_≡_};
 ghost use Prim.Native.Nat.{_-_};
 ghost use Rattle.rules.specs.Lists.{all, any, distinct};
-ghost use Rattle.rules.specs.Words.{sameBlock};
-ghost use Rattle.rules.specs.WellFormed.{tallyGood};
+ghost use Rattle.rules.specs.Words.{sameBlock, certificate};
+ghost use Rattle.rules.specs.WellFormed.{tallyGood, talliesThere};
 ghost use Rattle.settings.specs.Made.{settingsOf};
-ghost use Rattle.store.specs.Layout.{tallyTable};
-ghost use Rattle.store.specs.Decode.{rows, tallyAt, tallies};
+ghost use Rattle.store.specs.Layout.{statementTable, tallyTable};
+ghost use Rattle.store.specs.Decode.{rows, tallyAt, statements, tallies};
 ghost use Rattle.store.specs.Meaning.{tallyOf};
-ghost use Rattle.formed.specs.Lent.{Counts};
+ghost use Rattle.formed.specs.Lent.{Counts, bare, Certifies, AllCertify};
 use super::TALLIES;
 use super::TALLY_SIZE;
 use super::records::begins;
 use settings::Settings;
 use store::Tally;
+use wire::Statement;
 use wire::clauses;
 
 // Whether a tally is of a view and a block that are allowed, with a mask of these stations.
@@ -72,6 +73,67 @@ pub fn distinct(store: &[u8], count: usize) -> bool
     while i < count {
         let tally = store::tally_at(store, i);
         if has_tally(store, i + 1, count, tally) {
+            return false;
+        }
+        i += 1;
+    }
+    true
+}
+
+// The block that a statement's mask certifies, with that mask.
+fn certificate(statement: Statement) -> Tally
+    requires { ⌜ Certifies (bare statement) ⌝ }
+    ensures { λ r. ⌜ tallyOf r ≡ certificate (bare statement) ⌝ }
+{
+    let name = statement.name;
+    let link = statement.link;
+    if statement.is_new_view {
+        return Tally {
+            view: link.fourth as u32,
+            height: statement.height,
+            name,
+            mask: statement.mask,
+        };
+    }
+    Tally {
+        view: statement.view,
+        height: statement.height - 1,
+        name: link,
+        mask: statement.mask,
+    }
+}
+
+// Whether a statement's own block and its certified block have their tallies.
+fn there(store: &[u8], count: usize, statement: Statement) -> bool
+    requires { ⌜ Counts tallyTable (now store) count × Certifies (bare statement) ⌝ }
+    ensures { λ r. ⌜ r ≡ talliesThere (tallies (now (store .entry))) (bare statement) ⌝ }
+{
+    let name = statement.name;
+    let own = Tally {
+        view: statement.view,
+        height: statement.height,
+        name,
+        mask: 0,
+    };
+    if !has_tally(store, 0, count, own) {
+        return false;
+    }
+    let certified = certificate(statement);
+    if certified.view == 0 {
+        return true;
+    }
+    has_tally(store, 0, count, certified)
+}
+
+// Whether every statement has its tallies.
+pub fn all_there(store: &[u8], count: usize, stored: usize) -> bool
+    requires { ⌜ Counts tallyTable (now store) count × Counts statementTable (now store) stored × AllCertify (now store) stored ⌝ }
+    ensures { λ r. ⌜ r ≡ all (talliesThere (tallies (now (store .entry)))) (statements (now (store .entry))) ⌝ }
+{
+    let mut i: usize = 0;
+    while i < stored {
+        let statement = store::statement_at(store, i);
+        if !there(store, count, statement) {
             return false;
         }
         i += 1;
