@@ -2,3 +2,4 @@ pub mod Walks
 pub mod Forms
 pub mod Blocks
 pub mod Parts
+pub mod Whole

@@ -6,15 +6,18 @@ use mathlib.Core.List.{List, []}
 use mathlib.Core.Option.{Option, none, some}
 use lib.ListN.{length}
 use lib.Dec.{leb, eqb}
-use Rattle.rules.specs.Lists.{within}
+use Rattle.rules.specs.Lists.{all, distinct, within}
+use Rattle.rules.specs.Sizes.{Settings}
 use Rattle.rules.specs.Words as words
+use Rattle.rules.specs.Words.{sameBlock}
+use Rattle.rules.specs.WellFormed.{tallyGood, talliesThere, blamesGood, linked}
 use Rattle.rules.specs.Inputs.{isBlock}
 use Rattle.fields.specs.Places.{number}
 use Rattle.fields.specs.Records.{fields}
 use Rattle.wire.specs.Meaning.{statementOf}
 use Rattle.wire.specs.declared.Statement.{Statement}
-use Rattle.store.specs.Layout.{headerFormat, storeLength, Table, countOf}
-use Rattle.store.specs.Decode.{stateFrom, statementAt}
+use Rattle.store.specs.Layout.{headerFormat, storeLength, Table, statementTable, tallyTable, logTable, countOf}
+use Rattle.store.specs.Decode.{statementAt, statements, tallies, blames, names, stateFrom}
 use Rattle.store.specs.Meaning.{headerOf}
 use Rattle.store.specs.declared.Station.{Station}
 
@@ -66,3 +69,16 @@ pub record Certifies (x : words.Statement) : Type 0 where
 
 abbrev pub AllCertify : List ℕ → ℕ → Type 0
 AllCertify b n = (i : ℕ) → i < n → Certifies (statementAt b i)
+
+-- the same, with every table's count in range and statements that certify
+pub record Ready (b : List ℕ) (s : Station) : Type 0 where
+  pub statements : Counts statementTable b (s .statements)
+  pub tallies : Counts tallyTable b (s .tallies)
+  pub log : Counts logTable b (s .logged)
+  pub certify : AllCertify b (s .statements)
+
+-- the parts of the definition after the statements
+unfoldable pub tablesGood : Settings → List ℕ → Bool
+tablesGood g b =
+    all (tallyGood g) (tallies b) && distinct sameBlock (tallies b) && all (talliesThere (tallies b)) (statements b)
+    && blamesGood g (blames b) && linked (statements b) 0 0 (names b)
