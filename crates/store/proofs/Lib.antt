@@ -9,3 +9,8 @@ pub mod Encoded
 pub mod ReadBack
 pub mod Decoded
 pub mod OneForm
+pub mod Writes
+pub mod Changes
+pub mod Searches
+pub mod Joining
+pub mod Sized
