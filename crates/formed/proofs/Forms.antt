@@ -1,15 +1,14 @@
 -- The form of a store by its tables, as the header counts them. Assumes nothing.
 use Prim.Native.Nat.{ℕ, _+_, _-_, _*_, _≤_}
-use mathlib.Core.Path.{_≡_, refl, sym, ap, _∙_}
+use mathlib.Core.Path.{_≡_, sym, ap, _∙_}
 use mathlib.Core.Bool.{Bool, true, false, not, _&&_}
 use mathlib.Core.List.{List}
-use lib.ListN.{length}
 use lib.Dec.{leb, eqb}
 use borrow.Author.Tests.{not-true, not-false, leb-true, eq-eqb}
 use Rattle.rules.specs.Lists.{all, within}
 use Rattle.rules.proofs.Tests.{and-left, and-right}
 use Rattle.fields.specs.Places.{number}
-use Rattle.store.specs.Layout.{Table, statementTable, tallyTable, logTable, storeLength, countOf}
+use Rattle.store.specs.Layout.{Table, statementTable, tallyTable, logTable, countOf}
 use Rattle.store.specs.Decode.{tableFits, kinds, hasForm}
 use Rattle.store.specs.declared.Station.{Station}
 use Rattle.store.proofs.Loaded.{loaded-statements, loaded-tallies, loaded-logged}

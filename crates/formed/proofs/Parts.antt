@@ -105,7 +105,7 @@ module _ (b : List ℕ) (i : ℕ) (x : Statement) (e : statementOf x (statementA
   pub statement-is : (s : Station) → Bytes b
       → (allowed (settingsOf (s .settings)) (message (bare x)) && voteInOrder (s .clock) (voteOf (voteAt b i))) ≡ statementGood (alone s) y
   unfolding statementGood voteInOrder statementAt voteAt stateFrom headerOf
-  statement-is s bytes = rw (said, stored-name b bytes, stored-name b bytes, and-true, and-true)
+  statement-is s bytes = rw said (simp (stored-name b bytes, and-true))
 
   pub certifies-bare : Certifies y → Certifies (bare x)
   unfolding statementOf

@@ -5,21 +5,19 @@ use mathlib.Core.Bool.{Bool, true, false, not, _&&_, and-true}
 use mathlib.Core.List.{List}
 use mathlib.Core.Option.{none, some}
 use native.Mathlib.Omega.{arith}
-use native.Mathlib.Nat.{zero-add}
 use lib.ListN.{length}
-use lib.Dec.{leb}
 use borrow.Author.Tests.{le-leb, not-true, not-false}
 use Rattle.rules.specs.Limits.{mostStatements, mostTallies}
 use Rattle.rules.specs.Lists.{all, distinct}
 use Rattle.rules.specs.Sizes.{goodSettings}
 use Rattle.rules.specs.Messages.{viewAllowed}
-use Rattle.rules.specs.Words.{Statement, sameStatement, Tally, sameBlock, State}
+use Rattle.rules.specs.Words.{Statement, sameStatement, Tally, sameBlock}
 use Rattle.rules.specs.WellFormed.{clocksInOrder, lockGood, statementGood, tallyGood, talliesThere, blamesGood, linked, wellFormed}
-use Rattle.rules.proofs.Tests.{by-bool, and-left, and-right}
+use Rattle.rules.proofs.Tests.{and-left, and-right}
 use Rattle.fields.specs.Records.{fields}
 use Rattle.settings.specs.Made.{settingsOf}
-use Rattle.store.specs.Layout.{headerFormat, storeLength, statementTable, tallyTable, countOf}
-use Rattle.store.specs.Decode.{rows, statementAt, tallyAt, statements, tallies, blames, names, stateFrom, stateOf, hasForm, decode}
+use Rattle.store.specs.Layout.{headerFormat, storeLength, statementTable, countOf}
+use Rattle.store.specs.Decode.{statementAt, tallyAt, statements, tallies, blames, names, stateFrom, stateOf, hasForm, decode}
 use Rattle.store.specs.Meaning.{headerOf}
 use Rattle.store.specs.declared.Station.{Station}
 use Rattle.store.proofs.Rows.{rows-length, rows-all}
@@ -36,7 +34,7 @@ parts-are : (s : Station) (xs : List Statement) (ts : List Tally) (ms l : List �
     && all (talliesThere ts) xs && blamesGood (settingsOf (s .settings)) ms && linked xs 0 0 l)
     ≡ wellFormed (stateFrom (headerOf s) xs ts ms l)
 unfolding wellFormed clocksInOrder lockGood statementGood stateFrom headerOf
-parts-are s xs ts ms l p q = rw (le-leb _ _ p, le-leb _ _ q, and-true, and-true)
+parts-are s xs ts ms l p q = simp (le-leb _ _ p, le-leb _ _ q, and-true)
 
 state-is : (b : List ℕ) → stateOf b ≡ stateFrom (fields b 0 headerFormat) (statements b) (tallies b) (blames b) (names b)
 unfolding stateOf

@@ -1,5 +1,4 @@
 -- `formed::records::begins` meets its contract. Assumes nothing.
-use Prim.Native.Nat.{ℕ}
 use mathlib.Core.Path.{sym, ap, ap₂, _∙_}
 use lib.Dec.{eqb}
 use Rattle.formed.proofs.Blocks.{rank, rank-differs, rank-agrees}

@@ -1,7 +1,6 @@
 -- `formed::statements::has_statement` meets its contract. Assumes nothing.
 use Prim.Native.Nat.{_-_}
 use mathlib.Core.Path.{_≡_, refl, sym, _∙_}
-use native.Mathlib.Omega.{arith}
 use Rattle.rules.specs.Words.{sameStatement}
 use Rattle.rules.specs.Lists.{any}
 use Rattle.store.specs.Decode.{rows, statementAt}

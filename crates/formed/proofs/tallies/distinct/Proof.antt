@@ -1,7 +1,6 @@
 -- `formed::tallies::distinct` meets its contract. Assumes nothing.
 use Prim.Native.Nat.{_-_}
 use mathlib.Core.Path.{_≡_, sym, ap, _∙_}
-use native.Mathlib.Omega.{arith}
 use Rattle.rules.specs.Words.{sameBlock}
 use Rattle.rules.specs.Lists.{distinct}
 use Rattle.store.specs.Decode.{rows, tallyAt, tallies}

@@ -1,10 +1,8 @@
 -- `formed::tallies::has_tally` meets its contract. Assumes nothing.
-use Prim.Native.Nat.{_≤_, _-_}
-use mathlib.Core.Path.{_≡_, refl, sym, ap, _∙_}
-use native.Mathlib.Omega.{arith}
+use Prim.Native.Nat.{_-_}
+use mathlib.Core.Path.{_≡_, refl, sym, _∙_}
 use Rattle.rules.specs.Words.{sameBlock}
 use Rattle.rules.specs.Lists.{any}
-use Rattle.store.specs.Layout.{tallyTable}
 use Rattle.store.specs.Meaning.{tallyOf}
 use Rattle.store.specs.Decode.{rows, tallyAt}
 use Rattle.formed.proofs.Blocks.{begins-tally}
