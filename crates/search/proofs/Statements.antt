@@ -1,9 +1,10 @@
 -- What decides a conflict, which statements carry a certificate that fits its words, and that no vote matters. Assumes nothing.
-use Prim.Native.Nat.{ℕ, _+_, _-_, _*_, _^_, _<_, _≤_}
+use Prim.Native.Nat.{ℕ, suc, _+_, _-_, _*_, _^_, _<_}
 use mathlib.Core.Path.{_≡_, refl, sym, ap, _∙_}
 use mathlib.Core.Bool.{Bool, true, false, not, _&&_, _||_, Bool·beq}
 use mathlib.Core.Option.{Option, none}
 use native.Mathlib.Omega.{arith}
+use native.Mathlib.Numerals.{add-one}
 use lib.Dec.{leb, ltb, eqb}
 use borrow.Author.Tests.{eq-eqb, ne-eqb, leb-true, ltb-true, not-true}
 use Rattle.rules.specs.Limits.{firstView, lastView}
@@ -17,7 +18,8 @@ use Rattle.fields.specs.Names.{nameOf}
 use Rattle.fields.specs.declared.Name.{Name}
 use Rattle.wire.specs.Meaning.{statementOf}
 use Rattle.wire.specs.declared.Statement as code
-use Rattle.search.specs.Lookups.{Certifies, ranksBelow, uses, opens, ofView}
+use Rattle.store.proofs.Searches.{beq-iff}
+use Rattle.search.specs.Lookups.{Certifies, ranksBelow, uses, opens, turn, ofView}
 
 -- a conflict, where it is known whether the statements are the same
 abbrev conflictIf : Bool → Statement → Statement → Bool
@@ -72,18 +74,11 @@ module _ (x y : Statement) where
 
 -- ---- the code's statements
 
-kind-test : (a b : Bool) → Bool·beq a b ≡ iff a b
-unfolding iff
-kind-test true true = refl
-kind-test true false = refl
-kind-test false true = refl
-kind-test false false = refl
-
 module _ (x y : code.Statement) where
   pub same-is : (Bool·beq (x .«is_new_view») (y .«is_new_view») && eqb (x .view) (y .view) && eqb (x .height) (y .height) && eqb (nameOf (x .name)) (nameOf (y .name)) && eqb (nameOf (x .link)) (nameOf (y .link)) && eqb (x .author) (y .author))
       ≡ sameStatement (statementOf x none) (statementOf y none)
   unfolding sameStatement statementOf
-  same-is = rw (kind-test (x .«is_new_view») (y .«is_new_view»))
+  same-is = rw (beq-iff (x .«is_new_view») (y .«is_new_view»))
 
   -- no vote matters
   pub same-unvoted : (v w : Option ℕ) → sameStatement (statementOf x v) (statementOf y w) ≡ sameStatement (statementOf x none) (statementOf y none)
@@ -110,6 +105,18 @@ module _ (x : code.Statement) (y : Statement) (e : statementOf x (y .voted) ≡ 
 
   pub read-conflict : (w : code.Statement) → conflict (statementOf w none) (statementOf x none) ≡ conflict (statementOf w none) y
   read-conflict w = sym (conflict-unvoted w x none (y .voted)) ∙ ap (conflict (statementOf w none)) e
+
+  pub read-conflicts : conflict (statementOf x none) ≡ conflict y
+  unfolding conflict statementOf
+  read-conflicts = ap conflict e
+
+  pub read-turn-first : x .«is_new_view» ≡ true → 0 ≡ turn y
+  unfolding statementOf
+  read-turn-first p = let q : turn (statementOf x (y .voted)) ≡ 0 = rw p in sym q ∙ ap turn e
+
+  pub read-turn-later : x .«is_new_view» ≡ false → x .height + 1 ≡ turn y
+  unfolding statementOf
+  read-turn-later p = let q : turn (statementOf x (y .voted)) ≡ suc (x .height) = rw p in add-one (x .height) ∙ sym q ∙ ap turn e
 
   pub read-uses : (b : ℕ) → (eqb b (nameOf (x .name)) || not (x .«is_new_view») && eqb b (nameOf (x .link))) ≡ uses b y
   unfolding statementOf

@@ -1,15 +1,15 @@
 -- `search::conflict_from` meets its contract, the rest of the table deciding. Assumes nothing.
-use mathlib.Core.Path.{_≡_, refl, sym, _∙_, ap}
-use Prim.Native.Nat.{ℕ, _+_, _-_, _≤_}
+use mathlib.Core.Path.{_≡_, refl, sym, _∙_}
+use Prim.Native.Nat.{_-_}
 use native.Mathlib.Omega.{arith}
 use Rattle.store.specs.Layout.{statementTable, countOf}
 use Rattle.search.proofs.Counts.{long}
-use Rattle.search.proofs.Searches.{find-none, find-here, find-next}
+use Rattle.store.proofs.Searches.{find-none, find-here, find-next}
 use mathlib.Core.Option.{none}
 use Rattle.rules.specs.Words.{conflict}
 use Rattle.wire.specs.Meaning.{statementOf}
 use Rattle.store.specs.Decode.{rows, statementAt}
-use Rattle.search.specs.Finds.{findFrom}
+use Rattle.store.specs.Changes.{firstFrom}
 use Rattle.search.proofs.conflict_from.Statement.{statement}
 use Rattle.search.proofs.conflict_from.Tie as tie
 
@@ -18,7 +18,7 @@ Inv-loop store x start count i₀ i =
     let f = statementAt store in
     let p = conflict (statementOf x none) in
     let n = countOf statementTable store in
-    findFrom p start (rows f start (n - start)) ≡ findFrom p i (rows f i (n - i))
+    firstFrom p start (rows f start (n - start)) ≡ firstFrom p i (rows f i (n - i))
 
 abbrev μ-loop : tie.MeasureT-loop
 μ-loop store x start count i₀ i =

@@ -1,7 +1,6 @@
 -- `search::conflicts` meets its contract. Assumes nothing.
 use mathlib.Core.Path.{_∙_, ap}
-use mathlib.Core.Bool.{not, _&&_}
-use lib.Dec.{eqb}
+use mathlib.Core.Bool.{not}
 use Rattle.search.proofs.Statements.{other-view, new-views, new-view-first, propose-first, proposes}
 use Rattle.wire.specs.Meaning.{statementOf}
 use mathlib.Core.Option.{none}

@@ -1,5 +1,4 @@
 -- `search::opens_at` meets its contract. Assumes nothing.
-use mathlib.Core.Path.{refl}
 use Rattle.store.specs.Decode.{statementAt, kindAt}
 use borrow.Author.Needs.{needs}
 use Rattle.search.proofs.opens_at.Statement.{statement}

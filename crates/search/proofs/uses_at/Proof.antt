@@ -1,5 +1,4 @@
 -- `search::uses_at` meets its contract. Assumes nothing.
-use mathlib.Core.Path.{_∙_}
 use Rattle.store.specs.Decode.{statementAt}
 use Rattle.fields.specs.Names.{nameOf}
 use Rattle.search.proofs.Statements.{read-uses}
