@@ -1,23 +1,28 @@
 -- What decides a conflict, which statements carry a certificate that fits its words, and that no vote matters. Assumes nothing.
 use Prim.Native.Nat.{ℕ, suc, _+_, _-_, _*_, _^_, _<_}
-use mathlib.Core.Path.{_≡_, refl, sym, ap, _∙_}
+use mathlib.Core.Path.{_≡_, refl, sym, ap, _∙_, subst}
 use mathlib.Core.Bool.{Bool, true, false, not, _&&_, _||_, Bool·beq}
-use mathlib.Core.Option.{Option, none}
+use mathlib.Core.Option.{Option, none, some}
+use mathlib.Core.List.{List}
 use native.Mathlib.Omega.{arith}
 use native.Mathlib.Numerals.{add-one}
 use lib.Dec.{leb, ltb, eqb}
 use borrow.Author.Tests.{eq-eqb, ne-eqb, leb-true, ltb-true, not-true}
 use Rattle.rules.specs.Limits.{firstView, lastView}
-use Rattle.rules.specs.Lists.{iff, within, any}
+use Rattle.rules.specs.Lists.{iff, within, any, all}
 use Rattle.rules.specs.Sizes.{Settings, leader}
 use Rattle.rules.specs.Messages.{newView, propose, viewAllowed, blockAllowed, maskAllowed, certificateAllowed, allowed}
 use Rattle.rules.specs.Words.{Statement, message, sameStatement, conflict, Tally, certificate, below, State}
 use Rattle.rules.specs.Inputs.{belowLock, isUsed, isOpened, current}
+use Rattle.rules.specs.WellFormed.{isName, statementGood}
 use Rattle.rules.proofs.Tests.{by-bool, and-left, and-right, no-bool}
 use Rattle.fields.specs.Names.{nameOf}
 use Rattle.fields.specs.declared.Name.{Name}
 use Rattle.wire.specs.Meaning.{statementOf}
 use Rattle.wire.specs.declared.Statement as code
+use Rattle.store.specs.Layout.{statementTable, countOf}
+use Rattle.store.specs.Decode.{statementAt, statements, stateOf}
+use Rattle.store.proofs.Rows.{rows-all}
 use Rattle.store.proofs.Searches.{beq-iff}
 use Rattle.search.specs.Lookups.{Certifies, ranksBelow, uses, opens, turn, ofView}
 
@@ -173,6 +178,24 @@ certifies-allowed g x e = record {
   view = λ p. new-view-link g (x .view) (x .height) (x .name) (x .link) (x .mask) (x .author) (rw (p, message) at e);
   above = λ p. propose-height g (x .view) (x .height) (x .name) (x .link) (x .mask) (x .author) (rw (p, message) at e);
 }
+
+-- and so do the stored ones of a well-formed state, as they were read too
+pub certifies-stored : (b : List ℕ) → all (statementGood (stateOf b)) (statements b) ≡ true → (i : ℕ) → i < countOf statementTable b → Certifies (statementAt b i)
+unfolding statements statementGood
+certifies-stored b h i l =
+    let x = statementAt b i in
+    let s = stateOf b in
+    let good = rows-all (statementGood s) (statementAt b) 0 (countOf statementTable b) h i (omega arith) (omega arith) in
+    let voted : Bool = elim (x .voted) [ none ↦ true | some c ↦ leb c (s .clock) ] in
+    let ok = allowed (s .settings) (message x) in
+    certifies-allowed (s .settings) x (and-left ok (isName (x .name)) (and-left (ok && isName (x .name)) (isName (x .link)) (and-left (ok && isName (x .name) && isName (x .link)) voted good)))
+
+pub certifies-read : (x : code.Statement) (y : Statement) → statementOf x (y .voted) ≡ y → Certifies y → Certifies (statementOf x none)
+unfolding statementOf
+certifies-read x y e k =
+    let z = statementOf x (y .voted) in
+    let c : Certifies z = subst Certifies (sym e) k in
+    record { view = c .view; above = c .above }
 
 -- ---- a rank held against a lock
 
