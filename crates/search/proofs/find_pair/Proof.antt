@@ -1,17 +1,17 @@
 -- `search::find_pair` meets its contract, the rest of the table deciding. Assumes nothing.
-use mathlib.Core.Path.{_≡_, sym, ap, _∙_}
 use Prim.Native.Nat.{_-_, _<_}
+use mathlib.Core.Path.{_≡_, sym, ap, _∙_}
 use mathlib.Core.List.{List}
 use mathlib.Core.Option.{none, some}
 use native.Mathlib.Omega.{arith}
-use Rattle.store.specs.Layout.{statementTable, countOf}
+use borrow.Author.Needs.{needs}
 use Rattle.rules.specs.Words.{Statement}
 use Rattle.rules.specs.Inputs.{pair}
+use Rattle.store.specs.Layout.{statementTable, countOf}
 use Rattle.store.specs.Decode.{rows, statementAt, statements}
 use Rattle.search.specs.Lookups.{ofView}
 use Rattle.search.proofs.Searches.{rows-whole}
 use Rattle.search.proofs.Pairs.{finds-nothing, finds-at, finds-inside, pair-end, pair-step}
-use borrow.Author.Needs.{needs}
 use Rattle.search.proofs.find_pair.Statement.{statement}
 use Rattle.search.proofs.find_pair.Tie as tie
 
@@ -30,7 +30,8 @@ statement-count-requires c κs =
 loop-holds : tie.Need-loop-holds Inv-loop μ-loop
 unfolding statements
 loop-holds c =
-    ap (λ (xs : List Statement). pair (ofView (c .before .before .args .view) xs)) (sym (rows-whole (statementAt (c .before .before .args .store .now)) (countOf statementTable (c .before .before .args .store .now)) 0 (omega arith)))
+    let a = c .before .before .args in
+    ap (λ (xs : List Statement). pair (ofView (a .view) xs)) (sym (rows-whole (statementAt (a .store .now)) (countOf statementTable (a .store .now)) 0 (omega arith)))
 
 rival-of-requires : tie.Need-rival-of-requires Inv-loop μ-loop
 rival-of-requires c κs =
@@ -54,11 +55,14 @@ loop-less c =
 
 loop-again : tie.Need-loop-again Inv-loop μ-loop
 loop-again c =
-    c .before .before .before .before .loop .inv ∙ pair-step (statementAt (c .before .before .before .before .before .before .before .args .store .now)) (c .before .before .before .before .before .before .before .args .view) (countOf statementTable (c .before .before .before .before .before .before .before .args .store .now)) (c .before .before .before .before .loop .i) (omega (arith, c .before .before .before .before .before .statement-count .ensures .0)) none (finds-nothing (c .before .before .rival-of .ensures) (c .enum-told .given .1))
+    let a = c .before .before .before .before .before .before .before .args in
+    let l = c .before .before .before .before .loop in
+    l .inv ∙ pair-step (statementAt (a .store .now)) (a .view) (countOf statementTable (a .store .now)) (l .i) (omega (arith, c .before .before .before .before .before .statement-count .ensures .0)) none (finds-nothing (c .before .before .rival-of .ensures) (c .enum-told .given .1))
 
 returns : tie.Need-returns Inv-loop μ-loop
 returns c =
-    record { is = sym (c .before .loop .inv ∙ pair-end (statementAt (c .before .before .before .before .args .store .now)) (c .before .before .before .before .args .view) (countOf statementTable (c .before .before .before .before .args .store .now)) (c .before .loop .i) (omega (arith, c .before .before .statement-count .ensures .0))); inside = tt }
+    let a = c .before .before .before .before .args in
+    record { is = sym (c .before .loop .inv ∙ pair-end (statementAt (a .store .now)) (a .view) (countOf statementTable (a .store .now)) (c .before .loop .i) (omega (arith, c .before .before .statement-count .ensures .0))); inside = tt }
 
 returns-2 : tie.Need-returns-2 Inv-loop μ-loop
 returns-2 c =

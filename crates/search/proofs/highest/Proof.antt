@@ -1,11 +1,11 @@
 -- `search::highest` meets its contract: the highest of what was passed is known. Assumes nothing.
-use mathlib.Core.Path.{_≡_, _∙_}
 use Prim.Native.Nat.{_-_, _≤_}
+use mathlib.Core.Path.{_≡_, _∙_}
 use native.Mathlib.Omega.{arith}
 use Rattle.rules.specs.Words as words
+use Rattle.settings.specs.Made.{settingsOf}
 use Rattle.store.specs.Layout.{tallyTable, countOf}
 use Rattle.store.specs.Decode.{rows, tallyAt, tallies, stateOf}
-use Rattle.settings.specs.Made.{settingsOf}
 use Rattle.store.specs.Meaning.{tallyOf}
 use Rattle.store.proofs.Loaded.{loaded-settings, loaded-tallies}
 use Rattle.search.proofs.Counts.{long, few-tallies}
@@ -60,7 +60,8 @@ loop-again c =
 returns : tie.Need-returns Inv-loop μ-loop
 unfolding tallies
 returns c =
-    c .before .loop .inv .1 ∙ highest-all (stateOf (c .before .before .before .before .before .before .args .store .now) .settings) (c .before .before .before .before .before .before .args .view) (tallyAt (c .before .before .before .before .before .before .args .store .now)) (countOf tallyTable (c .before .before .before .before .before .before .args .store .now)) (c .before .loop .i) (c .loop-test .left)
+    let a = c .before .before .before .before .before .before .args in
+    c .before .loop .inv .1 ∙ highest-all (stateOf (a .store .now) .settings) (a .view) (tallyAt (a .store .now)) (countOf tallyTable (a .store .now)) (c .before .loop .i) (c .loop-test .left)
 
 pub highest-spec : {M : Type 1} → statement M
 highest-spec =
