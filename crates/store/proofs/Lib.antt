@@ -9,6 +9,4 @@ pub mod Encoded
 pub mod ReadBack
 pub mod Decoded
 pub mod OneForm
-pub mod Writes
-pub mod Changes
 pub mod Searches

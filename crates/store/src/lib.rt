@@ -9,13 +9,13 @@ ghost use Rattle.rules.specs.Limits.{lastView, mostStatements, mostTallies, mas
 ghost use Rattle.rules.specs.Sizes.{only};
 ghost use Rattle.rules.specs.Words.{sameStatement, sameBlock, grown};
 ghost use Rattle.fields.specs.Names.{nameOf};
-ghost use Rattle.fields.specs.Places.{number};
-ghost use Rattle.fields.specs.Records.{fields};
+ghost use Rattle.fields.specs.Places.{number, put as written};
+ghost use Rattle.fields.specs.Records.{fields, puts};
 ghost use Rattle.wire.specs.Meaning.{statementOf};
 ghost use Rattle.store.specs.Layout.{headerFormat, tallyFormat, storeLength};
-ghost use Rattle.store.specs.Decode.{phaseOf, phaseNumber, tallyFrom, statementAt, tallyAt, blameAt, nameAt, kindAt, voteAt, statements, tallies, Form};
+ghost use Rattle.store.specs.Decode.{phaseOf, phaseNumber, tallyFrom, tallyValues, statementAt, tallyAt, blameAt, nameAt, kindAt, voteAt, statements, tallies, Form};
 ghost use Rattle.store.specs.Meaning.{courseOf, tallyOf, headerOf};
-ghost use Rattle.store.specs.Changes.{firstFrom};
+ghost use Rattle.store.specs.Search.{firstFrom};
 use fields::Name;
 use settings::Settings;
 use wire::Statement;
@@ -24,63 +24,63 @@ use wire::Statement;
 pub const LENGTH: usize = 25_220;
 
 // Where the header's numbers are; the lock is a tally's record.
-const PHASE: usize = 0;
+pub const PHASE: usize = 0;
 
-const N: usize = 4;
+pub const N: usize = 4;
 
-const DELAY: usize = 5;
+pub const DELAY: usize = 5;
 
-const OWN: usize = 7;
+pub const OWN: usize = 7;
 
-const CURRENT: usize = 8;
+pub const CURRENT: usize = 8;
 
-const ENTRY: usize = 12;
+pub const ENTRY: usize = 12;
 
-const CLOCK: usize = 16;
+pub const CLOCK: usize = 16;
 
-const LOCK: usize = 20;
+pub const LOCK: usize = 20;
 
-const STATEMENT_COUNT: usize = 62;
+pub const STATEMENT_COUNT: usize = 62;
 
-const TALLY_COUNT: usize = 64;
+pub const TALLY_COUNT: usize = 64;
 
-const LOG_COUNT: usize = 66;
+pub const LOG_COUNT: usize = 66;
 
 // Where each table begins, and the size of its records.
-const STATEMENTS: usize = 68;
+pub const STATEMENTS: usize = 68;
 
-const STATEMENT_SIZE: usize = 80;
+pub const STATEMENT_SIZE: usize = 80;
 
-const TALLIES: usize = 10_308;
+pub const TALLIES: usize = 10_308;
 
-const TALLY_SIZE: usize = 42;
+pub const TALLY_SIZE: usize = 42;
 
-const BLAMES: usize = 21_060;
+pub const BLAMES: usize = 21_060;
 
-const BLAME_SIZE: usize = 2;
+pub const BLAME_SIZE: usize = 2;
 
-const LOG: usize = 21_124;
+pub const LOG: usize = 21_124;
 
-const NAME_SIZE: usize = 32;
+pub const NAME_SIZE: usize = 32;
 
 // Where the numbers of a record are: of a block, a tally's last, a statement's last.
-const VIEW: usize = 0;
+pub const VIEW: usize = 0;
 
-const HEIGHT: usize = 4;
+pub const HEIGHT: usize = 4;
 
-const NAME: usize = 8;
+pub const NAME: usize = 8;
 
-const VOTERS: usize = 40;
+pub const VOTERS: usize = 40;
 
-const KIND: usize = 40;
+pub const KIND: usize = 40;
 
-const AUTHOR: usize = 41;
+pub const AUTHOR: usize = 41;
 
-const MASK: usize = 42;
+pub const MASK: usize = 42;
 
-const LINK: usize = 44;
+pub const LINK: usize = 44;
 
-const VOTE: usize = 76;
+pub const VOTE: usize = 76;
 
 // Why a station stopped.
 pub enum Cause {
@@ -140,7 +140,7 @@ fn get_two(store: &[u8], at: usize) -> u16
 }
 
 // How many records a table has in use.
-fn get_count(store: &[u8], at: usize) -> usize
+pub fn get_count(store: &[u8], at: usize) -> usize
     requires { ⌜ at + 2 ≤ length (now store) ⌝ }
     ensures { λ r. ⌜ (r ≡ number (now (store .entry)) at 2) × (r < 256 ^ 2) ⌝ }
 {
@@ -242,7 +242,7 @@ pub fn name_at(store: &[u8], i: usize) -> Name
 }
 
 // The phase's number.
-fn phase_number(phase: Phase) -> u64
+pub fn phase_number(phase: Phase) -> u64
     ensures { λ r. ⌜ r ≡ phaseNumber (courseOf phase) ⌝ }
 {
     match phase {
@@ -361,6 +361,45 @@ pub fn find_statement(store: &[u8], statement: Statement) -> Found
     }
 }
 
+// Writes a block's view, height and name to a record.
+pub fn put_block(store: &mut [u8], at: usize, view: u32, height: u32, name: Name)
+    requires { ⌜ at + 40 ≤ length (now store) ⌝ }
+    ensures { λ _. ⌜ now (store .exit) ≡ written (written (written (now (store .entry)) (at + 0) 4 view) (at + 4) 4 height) (at + 8) 32 (nameOf name) ⌝ }
+{
+    fields::put(store, at + VIEW, 4, view as u64);
+    fields::put(store, at + HEIGHT, 4, height as u64);
+    fields::put_name(store, at + NAME, name);
+}
+
+// Writes a tally's record.
+pub fn put_tally(store: &mut [u8], at: usize, tally: Tally)
+    requires { ⌜ at + 42 ≤ length (now store) ⌝ }
+    ensures { λ _. ⌜ now (store .exit) ≡ puts (now (store .entry)) at tallyFormat (tallyValues (tallyOf tally)) ⌝ }
+{
+    put_block(store, at, tally.view, tally.height, tally.name);
+    fields::put(store, at + VOTERS, 2, tally.mask as u64);
+}
+
+// Writes the settings to the header.
+fn put_settings(store: &mut [u8], settings: Settings)
+    requires { ⌜ length (now store) ≡ storeLength ⌝ }
+    ensures { λ _. ⌜ now (store .exit) ≡ written (written (written (now (store .entry)) 4 1 (settings .n)) 5 2 (settings .delay)) 7 1 (settings .own) ⌝ }
+{
+    fields::put(store, N, 1, settings.n);
+    fields::put(store, DELAY, 2, settings.delay);
+    fields::put(store, OWN, 1, settings.own);
+}
+
+// Writes the counts to the header.
+fn put_counts(store: &mut [u8], statements: usize, tallies: usize, logged: usize)
+    requires { ⌜ length (now store) ≡ storeLength ⌝ }
+    ensures { λ _. ⌜ now (store .exit) ≡ written (written (written (now (store .entry)) 62 2 statements) 64 2 tallies) 66 2 logged ⌝ }
+{
+    fields::put(store, STATEMENT_COUNT, 2, statements as u64);
+    fields::put(store, TALLY_COUNT, 2, tallies as u64);
+    fields::put(store, LOG_COUNT, 2, logged as u64);
+}
+
 impl Station {
     // The station of the header's numbers.
     pub fn load(store: &[u8]) -> Station
@@ -389,5 +428,19 @@ impl Station {
             tallies,
             logged,
         }
+    }
+    // Writes the header's numbers back.
+    pub fn save(self, store: &mut [u8])
+        requires { ⌜ length (now store) ≡ storeLength ⌝ }
+        ensures { λ _. ⌜ now (store .exit) ≡ puts (now (store .entry)) 0 headerFormat (headerOf self) ⌝ }
+    {
+        let phase = self.phase;
+        fields::put(store, PHASE, 4, phase_number(phase));
+        put_settings(store, self.settings);
+        fields::put(store, CURRENT, 4, self.view as u64);
+        fields::put(store, ENTRY, 4, self.entry as u64);
+        fields::put(store, CLOCK, 4, self.clock as u64);
+        put_tally(store, LOCK, self.lock);
+        put_counts(store, self.statements, self.tallies, self.logged);
     }
 }

@@ -20,16 +20,17 @@ use Rattle.fields.specs.Places.{number, put, Bytes}
 use Rattle.fields.specs.Records.{fields, puts, Fit}
 use Rattle.fields.proofs.Records.{length-puts, bytes-puts, fields-puts}
 use Rattle.fields.proofs.Laws.{number-lt, number-put-same, length-put, bytes-put}
 use Rattle.store.specs.Layout.{headerFormat, statementFormat, tallyFormat, maskFormat, nameFormat, Table, statementTable, tallyTable, logTable, blameBase, storeLength, countOf, placeOf}
 use Rattle.store.specs.Decode.{nth, phaseNumber, kindNumber, voteOf, statementFrom, statementValues, tallyFrom, tallyValues, statementAt, tallyAt, blameAt, nameAt, kindAt, statements, tallies, blames, names, kinds, rows, stateFrom, stateOf, Form, Left}
-use Rattle.store.specs.Changes.{changeAt, growing, opening, storing, noting, appending}
+use Rattle.writes.specs.Changes.{changeAt, growing, opening, storing, noting, appending}
 use Rattle.store.proofs.Values.{number-phase, number-kind}
-use Rattle.store.proofs.Rows.{rows-at, change-none}
+use Rattle.store.proofs.Rows.{rows-at}
+use Rattle.writes.proofs.Lists.{change-none}
 use Rattle.store.proofs.Kept.{SameIn, part, put-low, put-high, puts-high, fields-same, field-put}
 use Rattle.store.proofs.Decoded.{statement-back}
 use Rattle.store.proofs.Tables.{Holds, holds-same, rows-kept, rows-put, rows-more}
 use Rattle.store.proofs.Forms.{orderedHeader, orderedStatement, orderedTally, localStatement, localKind, localTally, localBlame, localName, Parts, parts, left}
-use Rattle.store.proofs.Writes.{endOf, Placed, Changed, Added, put-record, add-record}
+use Rattle.writes.proofs.Writes.{endOf, Placed, Changed, Added, put-record, add-record}
 
 -- where the tables stand
 placedStatements : Placed statementTable 11

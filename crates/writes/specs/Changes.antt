@@ -1,20 +1,8 @@
--- The changes of a state that single writes make, and the place of the first record that matches. Assumes nothing.
+-- The changes of a state that single writes make. Assumes nothing.
 use Prim.Native.Nat.{ℕ, zero, suc}
-use mathlib.Core.Bool.{Bool, true, false}
 use mathlib.Core.List.{List, [], _∷_, _++_}
 use Rattle.rules.specs.Words.{Statement, Tally, grown, join, joinCertificate, State}
 use Rattle.rules.specs.Inputs.{withTables, withLog, noted}
-use Rattle.store.specs.declared.Found.{Found}
-use Rattle.store.specs.declared.Found.the-variants.{At, Nothing}
-
--- "the first record that matches decides the search": its place, from place i on
-abbrev pub pick : Bool → Found → Found → Found
-pick true a b = a
-pick false a b = b
-
-unfoldable pub firstFrom : {A : Type 0} → (A → Bool) → ℕ → List A → Found
-firstFrom p i [] = Nothing
-firstFrom p i (x ∷ xs) = pick (p x) (At i) (firstFrom p (suc i) xs)
 
 -- the record at place i, changed
 unfoldable pub changeAt : {A : Type 0} → (A → A) → ℕ → List A → List A

@@ -9,12 +9,12 @@ use Rattle.fields.specs.Places.{number, put, Bytes}
 use Rattle.fields.specs.Records.{Format, fields, puts, Ordered, Fit}
 use Rattle.fields.proofs.Laws.{number-put-same, length-put, bytes-put}
 use Rattle.fields.proofs.Records.{length-puts, bytes-puts, fields-puts}
 use Rattle.store.specs.Layout.{headerFormat, Table, storeLength, countOf, placeOf}
-use Rattle.store.specs.Changes.{changeAt}
-use Rattle.store.proofs.Rows.{rows-change}
+use Rattle.writes.specs.Changes.{changeAt}
+use Rattle.writes.proofs.Lists.{rows-change}
 use Rattle.store.proofs.Kept.{SameIn, part, then, put-low, put-high, puts-low, puts-high, fields-same, field-put}
 use Rattle.store.proofs.Tables.{Local, Used, Holds, holds-same, holds-set, holds-more}
 use Rattle.store.proofs.Forms.{orderedHeader}
 
 -- where a table's records end
 abbrev pub endOf : Table → ℕ
