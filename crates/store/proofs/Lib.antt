@@ -1,0 +1,12 @@
+pub mod Values
+pub mod Loaded
+pub mod Rows
+pub mod Kept
+pub mod Tables
+pub mod Forms
+pub mod Pieces
+pub mod Encoded
+pub mod ReadBack
+pub mod Decoded
+pub mod OneForm
+pub mod Searches

@@ -1,0 +1,59 @@
+-- Each number of the store is one value's, and each value one number's. Assumes nothing.
+use Prim.Native.Nat.{ℕ, zero, suc, _+_, _-_, _≤_}
+use mathlib.Core.Path.{_≡_, refl, sym, ap}
+use mathlib.Core.Bool.{Bool, true, false}
+use mathlib.Core.List.{List}
+use mathlib.Core.Option.{Option, none, some}
+use native.Mathlib.Omega.{arith}
+use lib.Dec.{leb, eqb}
+use borrow.Author.Tests.{leb-true}
+use Rattle.rules.specs.Lists.{within}
+use Rattle.rules.proofs.Tests.{no-bool, and-right}
+use Rattle.rules.specs.Words.{Phase, inView, waiting, stopped, Cause, full, split, clock, Statement, Tally}
+use Rattle.store.specs.Decode.{phaseOf, phaseNumber, voteOf, voteNumber, kindNumber, statementAt, voteAt}
+
+pub phase-waiting : (k : ℕ) → 4 ≤ k → waiting (k - 4) ≡ phaseOf k
+phase-waiting zero h = absurd (omega arith)
+phase-waiting (suc zero) h = absurd (omega arith)
+phase-waiting (suc (suc zero)) h = absurd (omega arith)
+phase-waiting (suc (suc (suc zero))) h = absurd (omega arith)
+phase-waiting (suc (suc (suc (suc q)))) h = ap waiting (omega arith)
+
+pub phase-number : (k : ℕ) → phaseNumber (phaseOf k) ≡ k
+phase-number zero = refl
+phase-number (suc zero) = refl
+phase-number (suc (suc zero)) = refl
+phase-number (suc (suc (suc zero))) = refl
+phase-number (suc (suc (suc (suc q)))) = refl
+
+pub number-phase : (p : Phase) → phaseOf (phaseNumber p) ≡ p
+number-phase inView = refl
+number-phase (waiting q) = refl
+number-phase (stopped full) = refl
+number-phase (stopped split) = refl
+number-phase (stopped clock) = refl
+
+pub vote-number : (k : ℕ) → voteNumber (voteOf k) ≡ k
+vote-number zero = refl
+vote-number (suc c) = refl
+
+pub number-vote : (v : Option ℕ) → voteOf (voteNumber v) ≡ v
+number-vote none = refl
+number-vote (some c) = refl
+
+pub kind-number : (k : ℕ) → within 1 2 k ≡ true → kindNumber (eqb k 1) ≡ k
+unfolding within
+kind-number zero h = no-bool (sym h)
+kind-number (suc zero) h = refl
+kind-number (suc (suc zero)) h = refl
+kind-number (suc (suc (suc k))) h = absurd (omega (arith, leb-true (suc (suc (suc k))) 2 (and-right (leb 1 (suc (suc (suc k)))) _ h)))
+
+pub number-kind : (b : Bool) → (within 1 2 (kindNumber b) ≡ true) × (eqb (kindNumber b) 1 ≡ b)
+unfolding within
+number-kind true = (refl, refl)
+number-kind false = (refl, refl)
+
+-- the vote of a record is that of its number
+pub voted-is : (b : List ℕ) (i : ℕ) → statementAt b i .voted ≡ voteOf (voteAt b i)
+unfolding statementAt voteAt
+voted-is b i = refl

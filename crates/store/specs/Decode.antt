@@ -1,0 +1,197 @@
+-- The state that a store's bytes hold, and the bytes of a state: each is the other's inverse. Assumes nothing.
+use Prim.Native.Nat.{ℕ, zero, suc, _+_, _-_, _*_}
+use mathlib.Core.Path.{_≡_}
+use mathlib.Core.Bool.{Bool, true, false, _&&_}
+use mathlib.Core.List.{List, [], _∷_, _++_}
+use mathlib.Core.Option.{Option, none, some}
+use lib.ListN.{length, getD, replicate, drop}
+use lib.Dec.{leb, eqb}
+use Rattle.rules.specs.Limits.{lastView}
+use Rattle.rules.specs.Lists.{unbe, all, within}
+use Rattle.rules.specs.Words.{Statement, Tally, Phase, inView, waiting, stopped, Cause, full, split, clock, State}
+use Rattle.rules.specs.WellFormed.{wellFormed}
+use Rattle.fields.specs.Places.{number, Bytes}
+use Rattle.fields.specs.Records.{Format, fields}
+use Rattle.store.specs.Layout.{headerFormat, statementFormat, tallyFormat, maskFormat, nameFormat, Table, statementTable, tallyTable, blameBase, logTable, storeLength, countOf, placeOf, unused}
+
+abbrev pub nth : List ℕ → ℕ → ℕ
+nth vs i = getD vs i 0
+
+-- ---- each number is one value's, and each value one number's
+
+-- 0 in a view; 1, 2, 3 stopped: full, split, clock; from 4 on waiting, with the quit clock
+abbrev pub phaseOf : ℕ → Phase
+phaseOf zero = inView
+phaseOf (suc zero) = stopped full
+phaseOf (suc (suc zero)) = stopped split
+phaseOf (suc (suc (suc zero))) = stopped clock
+phaseOf (suc (suc (suc (suc q)))) = waiting q
+
+abbrev pub phaseNumber : Phase → ℕ
+phaseNumber inView = 0
+phaseNumber (stopped full) = 1
+phaseNumber (stopped split) = 2
+phaseNumber (stopped clock) = 3
+phaseNumber (waiting q) = suc (suc (suc (suc q)))
+
+-- 0 not voted for; else one more than the clock of the vote
+abbrev pub voteOf : ℕ → Option ℕ
+voteOf zero = none
+voteOf (suc c) = some c
+
+abbrev pub voteNumber : Option ℕ → ℕ
+voteNumber none = 0
+voteNumber (some c) = suc c
+
+-- the kind as on the wire: 1 new-view, 2 propose
+abbrev pub kindNumber : Bool → ℕ
+kindNumber true = 1
+kindNumber false = 2
+
+-- ---- records
+
+abbrev pub statementFrom : List ℕ → Statement
+statementFrom vs =
+    record {
+      isNewView = eqb (nth vs 3) 1;
+      view = nth vs 0;
+      height = nth vs 1;
+      name = nth vs 2;
+      link = nth vs 6;
+      mask = nth vs 5;
+      author = nth vs 4;
+      voted = voteOf (nth vs 7);
+    }
+
+abbrev pub statementValues : Statement → List ℕ
+statementValues x =
+    x .view ∷ x .height ∷ x .name ∷ kindNumber (x .isNewView) ∷ x .author ∷ x .mask ∷ x .link ∷ voteNumber (x .voted) ∷ []
+
+abbrev pub tallyFrom : List ℕ → Tally
+tallyFrom vs = record { view = nth vs 0; height = nth vs 1; name = nth vs 2; mask = nth vs 3 }
+
+abbrev pub tallyValues : Tally → List ℕ
+tallyValues t = t .view ∷ t .height ∷ t .name ∷ t .mask ∷ []
+
+-- record i of each table
+unfoldable pub statementAt : List ℕ → ℕ → Statement
+statementAt b i = statementFrom (fields b (placeOf statementTable i) statementFormat)
+
+unfoldable pub tallyAt : List ℕ → ℕ → Tally
+tallyAt b i = tallyFrom (fields b (placeOf tallyTable i) tallyFormat)
+
+unfoldable pub blameAt : List ℕ → ℕ → ℕ
+blameAt b i = number b (blameBase + 2 * i) 2
+
+unfoldable pub nameAt : List ℕ → ℕ → ℕ
+nameAt b i = number b (placeOf logTable i) 32
+
+unfoldable pub kindAt : List ℕ → ℕ → ℕ
+kindAt b i = number b (placeOf statementTable i + 40) 1
+
+unfoldable pub voteAt : List ℕ → ℕ → ℕ
+voteAt b i = number b (placeOf statementTable i + 76) 4
+
+-- n records from record i on
+unfoldable pub rows : {A : Type 0} → (ℕ → A) → ℕ → ℕ → List A
+rows f i zero = []
+rows f i (suc n) = f i ∷ rows f (suc i) n
+
+-- ---- the state of the bytes
+
+unfoldable pub statements : List ℕ → List Statement
+unfolding rows statementAt
+statements b = rows (statementAt b) 0 (countOf statementTable b)
+
+unfoldable pub tallies : List ℕ → List Tally
+unfolding rows tallyAt
+tallies b = rows (tallyAt b) 0 (countOf tallyTable b)
+
+-- nobody blames view 0
+unfoldable pub blames : List ℕ → List ℕ
+unfolding rows blameAt
+blames b = 0 ∷ rows (blameAt b) 0 lastView
+
+unfoldable pub names : List ℕ → List ℕ
+unfolding rows nameAt
+names b = rows (nameAt b) 0 (countOf logTable b)
+
+unfoldable pub stateFrom : List ℕ → List Statement → List Tally → List ℕ → List ℕ → State
+stateFrom h xs ts ms l =
+    record {
+      settings = record { n = nth h 1; D = nth h 2; own = nth h 3 };
+      phase = phaseOf (nth h 0);
+      view = nth h 4;
+      entry = nth h 5;
+      clock = nth h 6;
+      lock = record { view = nth h 7; height = nth h 8; name = nth h 9; mask = nth h 10 };
+      statements = xs;
+      tallies = ts;
+      blames = ms;
+      log = l;
+    }
+
+unfoldable pub stateOf : List ℕ → State
+unfolding stateFrom statements tallies blames names
+stateOf b = stateFrom (fields b 0 headerFormat) (statements b) (tallies b) (blames b) (names b)
+
+-- a table's count is in range, and its unused records are zero
+unfoldable pub tableFits : Table → List ℕ → Bool
+tableFits t b = leb (countOf t b) (t .room) && eqb (unused t b) 0
+
+unfoldable pub kinds : List ℕ → List ℕ
+unfolding rows kindAt
+kinds b = rows (kindAt b) 0 (countOf statementTable b)
+
+-- the form alone: the exact length, counts in range, unused records zero, kinds 1 and 2
+unfoldable pub hasForm : List ℕ → Bool
+unfolding tableFits all within kinds
+hasForm b =
+    eqb (length b) storeLength && tableFits statementTable b && tableFits tallyTable b && tableFits logTable b && all (within 1 2) (kinds b)
+
+-- "store not well formed": none
+unfoldable pub decode : List ℕ → Option State
+unfolding hasForm wellFormed stateOf
+decode b = elim (hasForm b && wellFormed (stateOf b)) [ true ↦ some (stateOf b) | false ↦ none ]
+
+-- ---- the bytes of a state
+
+-- a record's bytes
+unfoldable pub bytesOf : Format → List ℕ → List ℕ
+unfolding unbe
+bytesOf [] vs = []
+bytesOf (f ∷ fs) [] = []
+bytesOf (f ∷ fs) (v ∷ vs) = unbe (f .1) v ++ bytesOf fs vs
+
+unfoldable pub flat : {A : Type 0} → (A → List ℕ) → List A → List ℕ
+flat e [] = []
+flat e (x ∷ xs) = e x ++ flat e xs
+
+-- a table's records, then zeros
+unfoldable pub tableOf : {A : Type 0} → Table → (A → List ℕ) → List A → List ℕ
+unfolding flat
+tableOf t e xs = flat e xs ++ replicate (t .size * t .room - t .size * length xs) 0
+
+unfoldable pub headerValues : State → List ℕ
+headerValues s =
+    phaseNumber (s .phase) ∷ s .settings .n ∷ s .settings .D ∷ s .settings .own ∷ s .view ∷ s .entry ∷ s .clock
+    ∷ s .lock .view ∷ s .lock .height ∷ s .lock .name ∷ s .lock .mask
+    ∷ length (s .statements) ∷ length (s .tallies) ∷ length (s .log) ∷ []
+
+-- a store was left that has the form, and holds a state
+pub record Form (b : List ℕ) : Type 0 where
+  pub bytes : Bytes b
+  pub form : hasForm b ≡ true
+
+pub record Left (b : List ℕ) (s : State) : Type 0 where
+  pub form : Form b
+  pub is : stateOf b ≡ s
+
+unfoldable pub encode : State → List ℕ
+unfolding bytesOf headerValues tableOf flat
+encode s =
+    bytesOf headerFormat (headerValues s)
+    ++ tableOf statementTable (λ x. bytesOf statementFormat (statementValues x)) (s .statements)
+    ++ tableOf tallyTable (λ t. bytesOf tallyFormat (tallyValues t)) (s .tallies)
+    ++ flat (λ m. bytesOf maskFormat (m ∷ [])) (drop 1 (s .blames))
+    ++ tableOf logTable (λ b. bytesOf nameFormat (b ∷ [])) (s .log)

@@ -1,0 +1,36 @@
+-- What the code's tally, phase and station mean in the words of the rules, and in the numbers of the store's header. Assumes nothing.
+use Prim.Native.Nat.{ℕ}
+use mathlib.Core.List.{List, [], _∷_}
+use Rattle.fields.specs.Names.{nameOf}
+use Rattle.rules.specs.Words as words
+use Rattle.store.specs.Decode.{phaseNumber}
+use Rattle.store.specs.declared.Cause.{Cause}
+use Rattle.store.specs.declared.Cause.the-variants.{Full, Split, Clock}
+use Rattle.store.specs.declared.Phase.{Phase}
+use Rattle.store.specs.declared.Phase.the-variants.{InView, Waiting, Stopped}
+use Rattle.store.specs.declared.Tally.{Tally}
+use Rattle.store.specs.declared.Station.{Station}
+
+-- why a station stopped
+abbrev pub causeOf : Cause → words.Cause
+causeOf Full = words.full
+causeOf Split = words.split
+causeOf Clock = words.clock
+
+-- where a station is in its course
+abbrev pub courseOf : Phase → words.Phase
+courseOf InView = words.inView
+courseOf (Waiting q) = words.waiting q
+courseOf (Stopped c) = words.stopped (causeOf c)
+
+unfoldable pub tallyOf : Tally → words.Tally
+unfolding nameOf
+tallyOf t = record { view = t .view; height = t .height; name = nameOf (t .name); mask = t .mask }
+
+-- the numbers of a station, as the header has them
+unfoldable pub headerOf : Station → List ℕ
+unfolding nameOf
+headerOf s =
+    phaseNumber (courseOf (s .phase)) ∷ s .settings .n ∷ s .settings .delay ∷ s .settings .own ∷ s .view ∷ s .entry ∷ s .clock
+    ∷ s .lock .view ∷ s .lock .height ∷ nameOf (s .lock .name) ∷ s .lock .mask
+    ∷ s .statements ∷ s .tallies ∷ s .logged ∷ []
