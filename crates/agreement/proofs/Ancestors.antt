@@ -156,7 +156,7 @@ module _ (X : Group) where
     s = st X r k
 
     after-tick : ck X (suc k) ≡ ck X k + 1
-    after-tick = clock-suc n D event k ∙ ap (λ (y : Event). ck X k + ticks y) (S .tick) ∙ (unfold ticks in refl)
+    after-tick = clock-suc n D event k ∙ ap (λ (y : Event). ck X k + ticks 0 y) (S .tick) ∙ (unfold ticks in refl)
 
     later : suc j < k
     later =

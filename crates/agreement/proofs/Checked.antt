@@ -20,8 +20,8 @@ use Rattle.rules.proofs.Tests.{eqb-eq, by-bool, by-option, no-some, no-bool}
 use Rattle.rules.proofs.Truths.{eq-eqb, lt-ltb, ltb-lt, and-true, true-and, or-true}
 use Rattle.rules.proofs.Searches.{by-mem, first-mem, first-any, first-none}
 use Rattle.rules.proofs.Bytes.{Bytes, none as no-bytes, one}
-use Rattle.agreement.specs.Schedule.{Event, idle, commonTick, given, offeredTo, happens, settingsOf, at, out, clock, Says, HasVoted, HasBlamed, HasMade, Sound, NeverFull, IsLent, ProperBuffers, Sends, InTime, VotersVoted, Genuine, Hands, NoForgery, Offers, OneBlock, OneName}
-use Rattle.agreement.specs.Checks.{implies, every, some?, sameMessage, maskIn, toAllThat, brought, ifSome, isTick, givenTo, offeredAs, listed, isSound, hasSaid, votersVoted, hasMade, isGenuine, taken, noneForged, comes, comesInTime, saidInTime, allInTime, allRun, allLent, isOneBlock, oneNamed}
+use Rattle.agreement.specs.Schedule.{Event, idle, commonTick, tickOf, given, offeredTo, happens, ticks, IsCommon, CommonTicks, settingsOf, at, out, clock, Says, HasVoted, HasBlamed, HasMade, Sound, NeverFull, IsLent, ProperBuffers, Sends, InTime, VotersVoted, Genuine, Hands, NoForgery, Offers, OneBlock, OneName}
+use Rattle.agreement.specs.Checks.{implies, every, some?, sameMessage, maskIn, toAllThat, brought, ifSome, isCommon, givenTo, offeredAs, listed, isSound, hasSaid, votersVoted, hasMade, isGenuine, taken, noneForged, comes, comesInTime, saidInTime, allInTime, allCommon, allRun, allLent, isOneBlock, oneNamed}
 
 -- ---- tests
 
@@ -218,6 +218,7 @@ module _ (n D : ℕ) (es : List Event) (faulty : ℕ) where
   unfolding givenTo offeredAs
   lent-test idle t u = tt
   lent-test commonTick t u = tt
+  lent-test (tickOf j) t u = tt
   lent-test (given j bs) t u = bytes-test bs t
   lent-test (offeredTo j b) t u = ltb-lt b (256 ^ 32) u
 
@@ -231,14 +232,11 @@ module _ (n D : ℕ) (es : List Event) (faulty : ℕ) where
 
   -- ---- delivery in time
 
-  tick-test : (e : Event) → e ≡ commonTick → isTick e ≡ true
-  unfolding isTick
-  tick-test e q = rw q refl
-
   given-test : (e : Event) (j : ℕ) (bs : List ℕ) → givenTo e (λ t cs. eqb t j && sameList cs bs) false ≡ true → e ≡ given j bs
   unfolding givenTo
   given-test idle j bs t = no-bool (sym t)
   given-test commonTick j bs t = no-bool (sym t)
+  given-test (tickOf i) j bs t = no-bool (sym t)
   given-test (given i cs) j bs t =
       let q = and-true (eqb i j) (sameList cs bs) t in ap₂ (λ (x : ℕ) (ys : List ℕ). given x ys) (eqb-eq i j (q .0)) (sameList-eq cs bs (q .1))
   given-test (offeredTo i b) j bs t = no-bool (sym t)
@@ -249,33 +247,50 @@ module _ (n D : ℕ) (es : List Event) (faulty : ℕ) where
       (toAll m, s, by-bool (eqb i j) (λ q. absurd (ne (eqb-eq i j q))) (λ q. rw (q, brought)))
   sends-brought i j k m (inr s) = (toOne j m, s, rw (eq-eqb j j refl, brought))
 
-  message-test : (j k : ℕ) (m : Message) (l : ℕ) → comesInTime n D es faulty j k m ≡ true → l < length es → E l ≡ commonTick → clock n D E l ≡ clock n D E (suc k) + D
-      → comes n D es faulty j k m l ≡ true
+  message-test : (i j k : ℕ) (m : Message) (l : ℕ) → comesInTime n D es faulty i j k m ≡ true → l < length es → ticks i (E l) ≡ 1
+      → clock n D E i l ≡ clock n D E i (suc k) + D → comes n D es faulty j k m l ≡ true
   unfolding comesInTime
-  message-test j k m l t d tick now =
-      implies-true (isTick (E l) && eqb (clock n D E l) (clock n D E (suc k) + D))
-      (every-true (length es) (λ l. implies (isTick (E l) && eqb (clock n D E l) (clock n D E (suc k) + D)) (comes n D es faulty j k m l)) t l d)
-      (true-and (isTick (E l)) (eqb (clock n D E l) (clock n D E (suc k) + D)) (tick-test (E l) tick) (eq-eqb (clock n D E l) (clock n D E (suc k) + D) now))
+  message-test i j k m l t d tick now =
+      implies-true (eqb (ticks i (E l)) 1 && eqb (clock n D E i l) (clock n D E i (suc k) + D))
+      (every-true (length es) (λ l. implies (eqb (ticks i (E l)) 1 && eqb (clock n D E i l) (clock n D E i (suc k) + D)) (comes n D es faulty j k m l)) t l d)
+      (true-and (eqb (ticks i (E l)) 1) (eqb (clock n D E i l) (clock n D E i (suc k) + D)) (eq-eqb (ticks i (E l)) 1 tick) (eq-eqb (clock n D E i l) (clock n D E i (suc k) + D) now))
+
+  tick-here : (i l : ℕ) → ticks i (E l) ≡ 1 → l < length es
+  tick-here i l t =
+      elim (decLt l (length es)) [
+        | yes d ↦ d
+        | no d ↦ (let z : ticks i (E l) ≡ 0 = ap (ticks i) (listed-idle l (omega arith)) ∙ (unfold ticks in refl) in absurd (omega arith))
+      ]
 
   pub time-checked : allInTime n D es faulty ≡ true → InTime n D E faulty
   unfolding allInTime saidInTime comes
   time-checked t i j hi hj k m s l tick now =
       let (e, q, b) = sends-brought i j k m s in
-      let kl = says-here i k e q in
-      let ll : l < length es = elim (decLt l (length es)) [
-        | yes d ↦ d
-        | no d ↦ absurd (no-tick (sym (listed-idle l (omega arith)) ∙ tick))
-      ] in
       let t1 = every-true n _ (every-true n _ t i (hi .0)) j (hj .0) in
       let t2 = implies-true (isSound n D es faulty i && isSound n D es faulty j) t1 (true-and (isSound n D es faulty i) (isSound n D es faulty j) (sound-test i hi) (sound-test j hj)) in
-      let t3 = all-true (saidInTime n D es faulty i j k) (out n D E i k) (every-true (length es) (λ x. all (saidInTime n D es faulty i j x) (out n D E i x)) t2 k kl) e q in
-      let t4 = message-test j k m l (ifSome-true (brought i j e) (comesInTime n D es faulty j k) m t3 b) ll tick now in
+      let t3 = all-true (saidInTime n D es faulty i j k) (out n D E i k) (every-true (length es) (λ x. all (saidInTime n D es faulty i j x) (out n D E i x)) t2 k (says-here i k e q)) e q in
+      let t4 = message-test i j k m l (ifSome-true (brought i j e) (comesInTime n D es faulty i j k) m t3 b) (tick-here i l tick) tick now in
       let (h, hl, g) = some-true l (λ h. ltb k h && givenTo (E h) (λ x bs. eqb x j && sameList bs (write m)) false) t4 in
       let g2 = and-true (ltb k h) (givenTo (E h) (λ x bs. eqb x j && sameList bs (write m)) false) g in
       (h, ltb-lt k h (g2 .0), hl, given-test (E h) j (write m) (g2 .1))
-    where
-      no-tick : idle ≡ commonTick → ⊥
-      no-tick e = let z : _≡_ {A = ℕ} 0 1 = cc in absurd (omega arith)
+
+  -- ---- common ticks
+
+  common-test : (e : Event) → isCommon e ≡ true → IsCommon e
+  unfolding isCommon
+  common-test idle t = tt
+  common-test commonTick t = tt
+  common-test (tickOf j) t = no-bool (sym t)
+  common-test (given j bs) t = tt
+  common-test (offeredTo j b) t = tt
+
+  pub common-checked : allCommon n D es faulty ≡ true → CommonTicks n D E faulty
+  unfolding allCommon
+  common-checked t k =
+      elim (decLt k (length es)) [
+        | yes d ↦ common-test (E k) (every-true (length es) (λ x. isCommon (E x)) t k d)
+        | no d ↦ subst IsCommon (sym (listed-idle k (omega arith))) tt
+      ]
 
   -- ---- nobody sound stops
 

@@ -58,5 +58,5 @@ module _ (X : Group) where
   pub follow : (i j : ℕ) → Ok X i → Ok X j → {v e : ℕ} → Past (SaidAt X i) (G X i) v e → (k : ℕ) → e + D ≤ ck X k → v ≤ st X j k .view
   follow i j hi hj start k d = view-run X j hj k .0
   follow i j hi hj (onward {v = v} {e = e} {q = q} p l w t) k d =
-      let r = last-of n D event (q + D) k (omega arith) in
+      let r = last-of n D event (X .common) (q + D) k (omega arith) in
       next-view i j hi hj v q (r .0) k t (le-of-lt (r .1)) (r .2) (r .3) (follow i j hi hj p (r .0) (rw (r .2) (omega arith))) w d

@@ -30,7 +30,7 @@ use Rattle.rules.proofs.Orderly.{Orderly, fresh-orderly, moves-orderly, past-ra
 use Rattle.rules.proofs.Held.{Held, held-kept, step-held, HeldSaid, moves-said}
 use Rattle.rules.proofs.Votes.{Cast, CastSaid, moves-cast}
 use Rattle.rules.proofs.Proper.{Right, Proper, Known, Sayable, Parented, fresh-proper, proper-map, moves-proper}
-use Rattle.agreement.specs.Schedule.{Event, idle, commonTick, given, offeredTo, happens, ticks, settingsOf, at, out, clock, Says, Sound, IsLent, Hands, Offers}
+use Rattle.agreement.specs.Schedule.{Event, idle, commonTick, tickOf, given, offeredTo, happens, ticks, IsCommon, settingsOf, at, out, clock, Says, Sound, IsLent, Hands, Offers}
 use Rattle.agreement.proofs.Clock.{clock-suc, clock-mono, clock-before}
 use Rattle.agreement.proofs.Events.{GivenBy, OfferedBy, Brings, begun, before, event-moves, begun-clock, begun-same, begun-kept, begun-orderly, begun-proper, before-all, mem-after, event-settled, ticks-two, happens-given}
 
@@ -64,12 +64,13 @@ pub record Group : Type 0 where
   pub parentOf : ℕ → ℕ
   pub settings : goodSettings (settingsOf n D 0) ≡ true
   pub few : count faulty ≤ n / 2
+  pub common : (k : ℕ) → IsCommon (event k)
   pub runs : (i : ℕ) → Sound n D event faulty i → (k : ℕ) → running (at n D event i k) ≡ true
-  pub soon : (k : ℕ) → clock n D event (suc k) ≤ next k
-  pub late : (k : ℕ) → next k ≤ clock n D event k + 1
+  pub soon : (k : ℕ) → clock n D event 0 (suc k) ≤ next k
+  pub late : (k : ℕ) → next k ≤ clock n D event 0 k + 1
   pub lent : (k : ℕ) → IsLent n D event faulty (event k)
   pub reaches : (i j : ℕ) → Sound n D event faulty i → Sound n D event faulty j → ¬ (i ≡ j) → (l k : ℕ) (m : Message) → Says n D event i l (toAll m)
-      → clock n D event (suc l) + D + 1 ≤ next k → (h : ℕ) × (h < k) × (event h ≡ given j (write m))
+      → clock n D event 0 (suc l) + D + 1 ≤ next k → (h : ℕ) × (h < k) × (event h ≡ given j (write m))
   pub voters : (k j : ℕ) (m : Message) → Hands n D event faulty k j m → (t : Tally) → carried m ≡ some t → (i : ℕ) → Sound n D event faulty i → bit (t .mask) i ≡ 1
       → (l : ℕ) × (l < k) × Says n D event i l (toAll (vote (t .view) (t .height) (t .name) i))
   pub parents : (k j : ℕ) (m : Message) → Hands n D event faulty k j m ⊎ Offers n D event faulty k j m → Parented parentOf m
@@ -81,7 +82,7 @@ module _ (X : Group) where
   st i k = at n D event i k
 
   abbrev pub ck : ℕ → ℕ
-  ck k = clock n D event k
+  ck k = clock n D event 0 k
 
   abbrev pub Ok : ℕ → Type 0
   Ok i = Sound n D event faulty i
@@ -102,7 +103,7 @@ module _ (X : Group) where
   pub moves-of : (i : ℕ) → Ok i → (k : ℕ)
       → (o : List Effect) × (out n D event i k ≡ before (event k) (st i k) ++ o) × Moves (Brings i (event k) (st i k)) (begun (event k) (st i k)) (st i (suc k)) o
   unfolding at out
-  moves-of i h k = event-moves i (event k) (st i k) (X .runs i h (suc k))
+  moves-of i h k = event-moves i (event k) (st i k) (X .common k) (X .runs i h (suc k))
 
   -- what the moves of event k say, station i says at the clock after it
   said-here : (i : ℕ) (k : ℕ) (o : List Effect) → out n D event i k ≡ before (event k) (st i k) ++ o → (c : ℕ) → ck (suc k) ≡ c → All (SaidAt i c) o
@@ -122,10 +123,10 @@ module _ (X : Group) where
   pub at-clock : (i : ℕ) → Ok i → (k : ℕ) → st i k .clock ≡ ck k
   unfolding at fresh clock
   at-clock i h zero = refl
-  at-clock i h (suc k) = moves-fixed (moves-of i h k .2) .1 ∙ begun-clock (event k) (st i k) ∙ ap (_+ ticks (event k)) (at-clock i h k)
+  at-clock i h (suc k) = moves-fixed (moves-of i h k .2) .1 ∙ begun-clock (event k) (st i k) (X .common k) ∙ ap (_+ ticks 0 (event k)) (at-clock i h k)
 
   pub begun-at : (i : ℕ) → Ok i → (k : ℕ) → begun (event k) (st i k) .clock ≡ ck (suc k)
-  begun-at i h k = begun-clock (event k) (st i k) ∙ ap (_+ ticks (event k)) (at-clock i h k) ∙ sym (clock-suc n D event k)
+  begun-at i h k = begun-clock (event k) (st i k) (X .common k) ∙ ap (_+ ticks 0 (event k)) (at-clock i h k) ∙ sym (clock-suc n D event k)
 
   -- ---- L1 to L5 along the run
 
@@ -169,17 +170,17 @@ module _ (X : Group) where
   prompt i h zero q p l = no-phase (sym p)
   prompt i h (suc k) q p l =
       go (clock-suc n D event k) (at-clock i h (suc k)) (prompt i h k q)
-      (moves-late (begun (event k) (st i k)) (st i (suc k)) (moves-of i h k .0) (moves-of i h k .2) q p) (ticks-two (event k))
+      (moves-late (begun (event k) (st i k)) (st i (suc k)) (moves-of i h k .0) (moves-of i h k .2) q p) (ticks-two (event k) (X .common k))
     where
-      go : ck (suc k) ≡ ck k + ticks (event k) → st i (suc k) .clock ≡ ck (suc k) → (st i k .phase ≡ waiting q → st i k .view < lastView → ck k ≤ q + D)
-          → (begun (event k) (st i k) .phase ≡ waiting q) ⊎ (q ≡ st i (suc k) .clock) → (ticks (event k) ≡ 0) ⊎ ((ticks (event k) ≡ 1) × (event k ≡ commonTick)) → ck (suc k) ≤ q + D
+      go : ck (suc k) ≡ ck k + ticks 0 (event k) → st i (suc k) .clock ≡ ck (suc k) → (st i k .phase ≡ waiting q → st i k .view < lastView → ck k ≤ q + D)
+          → (begun (event k) (st i k) .phase ≡ waiting q) ⊎ (q ≡ st i (suc k) .clock) → (ticks 0 (event k) ≡ 0) ⊎ ((ticks 0 (event k) ≡ 1) × (event k ≡ commonTick)) → ck (suc k) ≤ q + D
       go c1 c2 f (inr e) t = omega arith
       go c1 c2 f (inl e) (inl t) =
           let v = kept-one i h k .view in let b = f (sym (begun-same (event k) (st i k) .1) ∙ e) (omega arith) in omega arith
       go c1 c2 f (inl e) (inr (t, _)) =
           let v = kept-one i h k .view in
           let b = f (sym (begun-same (event k) (st i k) .1) ∙ e) (omega arith) in
-          let w = settled-waits (st i (suc k)) q (event-settled i (event k) (st i k) t (X .runs i h (suc k))) p l in
+          let w = settled-waits (st i (suc k)) q (event-settled i (event k) (st i k) (X .common k) t (X .runs i h (suc k))) p l in
           let d : st i (suc k) .settings .D ≡ D = ap (λ (g : Settings). g .D) (at-settings i h (suc k)) in
           let u : ¬ (ck (suc k) ≡ q + D + 1) = λ z. w (rw d (c2 ∙ z)) in
           omega arith
@@ -189,12 +190,14 @@ module _ (X : Group) where
   given-of : (i : ℕ) (e : Event) (m : Message) → GivenBy i e m → (bs : List ℕ) × (e ≡ given i bs) × (read bs ≡ some m)
   given-of i idle m r = absurd r
   given-of i commonTick m r = absurd r
+  given-of i (tickOf j) m r = absurd r
   given-of i (given j bs) m (q, r) = (bs, ap (λ (x : ℕ). given x bs) (sym q), r)
   given-of i (offeredTo j b) m r = absurd r
 
   offered-of : (i : ℕ) (e : Event) (s : State) (b : ℕ) (m : Message) → OfferedBy i e s b m → (e ≡ offeredTo i b) × (offered b s ≡ some m)
   offered-of i idle s b m r = absurd r
   offered-of i commonTick s b m r = absurd r
+  offered-of i (tickOf j) s b m r = absurd r
   offered-of i (given j bs) s b m r = absurd r
   offered-of i (offeredTo j c) s b m (q, p, r) = (ap (λ (x : ℕ). offeredTo x c) (sym q) ∙ ap (offeredTo i) (sym p), r)
 

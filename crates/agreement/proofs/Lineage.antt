@@ -25,11 +25,6 @@ module _ (parentOf : ℕ → ℕ) where
   up zero b = b
   up (suc d) b = up d (parentOf b)
 
-  pub length-lineage : (h b : ℕ) → length (lineage parentOf h b) ≡ h
-  unfolding lineage
-  length-lineage zero b = refl
-  length-lineage (suc h) b = length-append (lineage parentOf h (parentOf b)) (b ∷ []) ∙ (let e = length-lineage h (parentOf b) in omega arith)
-
   -- the lineage of an ancestor begins that of the block
   pub lineage-up : (d h b : ℕ) → IsPrefix (lineage parentOf h (up d b)) (lineage parentOf (d + h) b)
   unfolding up
@@ -71,10 +66,6 @@ module _ (parentOf : ℕ → ℕ) where
         let p = and-true (not (x .isNewView) && eqb h (x .height)) (eqb b (x .name)) e in
         let q = and-true (not (x .isNewView)) (eqb h (x .height)) (p .0) in
         (not-true (x .isNewView) (q .0), eqb-eq h (x .height) (q .1), eqb-eq b (x .name) (p .1))
-
-    block-is : (x : Statement) → x .isNewView ≡ false → isBlock (x .height) (x .name) x ≡ true
-    unfolding isBlock
-    block-is x e = rw (e, eq-eqb (x .height) (x .height) refl, eq-eqb (x .name) (x .name) refl)
 
     -- one step down
     block-link : (xs : List Statement) (h b : ℕ) (z : Statement) → All Ok xs → first (isBlock (suc h) b) xs ≡ some z → (parentOf b ≡ z .link) × (blockAllowed h (z .link) ≡ true)

@@ -23,7 +23,7 @@ use Rattle.rules.proofs.Orderly.{Voted}
 use Rattle.rules.proofs.Proper.{Right}
 use Rattle.rules.proofs.Commits.{begins-merge, commits-some, commits-none, Due, due-facts, reports-append, moves-messages}
 use Rattle.rules.proofs.Splits.{dueCommits}
-use Rattle.agreement.specs.Schedule.{Event, idle, commonTick, given, offeredTo, happens, ticks, at, out, Linked, lineage, reportsIn, reported}
+use Rattle.agreement.specs.Schedule.{Event, idle, commonTick, tickOf, given, offeredTo, happens, ticks, IsCommon, at, out, Linked, lineage, reportsIn, reported}
 use Rattle.agreement.proofs.Lineage.{up, lineage-up, lineage-linked, chain-lineage}
 use Rattle.agreement.proofs.Events.{Brings, begun, before}
 use Rattle.agreement.proofs.Clock.{clock-suc}
@@ -34,14 +34,15 @@ use Rattle.agreement.proofs.Extends.{Extends, extends}
 
 -- ---- a tick, seen from the event
 
-pub event-log : (i : ℕ) (e : Event) (s : State) → running (happens i e s .next) ≡ true
+pub event-log : (i : ℕ) (e : Event) (s : State) → IsCommon e → running (happens i e s .next) ≡ true
     → (begun e s .log ≡ s .log)
     ⊎ ((e ≡ commonTick) × (begun e s .log ≡ logAfter s) × (commits (counted s .statements) (due (counted s)) (counted s .log) ≡ some (logAfter s)))
 unfolding happens begun withLog
-event-log i idle s r = inl refl
-event-log i commonTick s r = inr (refl, refl, tick-moves (Brings i commonTick s) s r .0)
-event-log i (given j bs) s r = inl refl
-event-log i (offeredTo j b) s r = inl refl
+event-log i idle s c r = inl refl
+event-log i commonTick s c r = inr (refl, refl, tick-moves (Brings i commonTick s) s r .0)
+event-log i (tickOf j) s c r = absurd c
+event-log i (given j bs) s c r = inl refl
+event-log i (offeredTo j b) s c r = inl refl
 
 event-tick : (i : ℕ) (e : Event) (s : State) → e ≡ commonTick → running (happens i e s .next) ≡ true
     → (begun e s .log ≡ logAfter s) × (commits (counted s .statements) (due (counted s)) (counted s .log) ≡ some (logAfter s))
@@ -73,19 +74,20 @@ none-reported [] a = unfold reportsIn in refl
 none-reported (e ∷ o) a = reportsIn-append (e ∷ []) o ∙ ap (_++ reportsIn o) (a .0) ∙ none-reported o (a .1)
 
 -- what the begin of an event reports is what the log gains
-event-reported : (i : ℕ) (e : Event) (s : State) → running (happens i e s .next) ≡ true
+event-reported : (i : ℕ) (e : Event) (s : State) → IsCommon e → running (happens i e s .next) ≡ true
     → reports 1 (s .log) ++ reportsIn (before e s) ≡ reports 1 (begun e s .log)
 unfolding happens begun before withLog reportsIn news
-event-reported i idle s r = append-nil _
-event-reported i commonTick s r =
+event-reported i idle s c r = append-nil _
+event-reported i commonTick s c r =
     let (new, e) = commits-some (counted s .statements) (due (counted s)) (counted s .log) (logAfter s) (tick-moves (Brings i commonTick s) s r .0) .begins in
     let f : logAfter s ≡ s .log ++ new = sym e ∙ ap (_++ new) (counted-same s .1) in
     let g : news s ≡ reports (suc (length (s .log))) new = ap (λ (l : List ℕ). reports (suc (length (s .log))) (drop (length (s .log)) l)) f ∙ ap (reports (suc (length (s .log)))) (drop-append-seam (s .log) new) in
     let z : 1 + length (s .log) ≡ suc (length (s .log)) = omega arith in
     ap (λ (x : List Effect). reports 1 (s .log) ++ reportsIn x) g ∙ ap (reports 1 (s .log) ++_) (reportsIn-reports (suc (length (s .log))) new)
     ∙ sym (ap (reports 1) f ∙ reports-append 1 (s .log) new ∙ ap (λ (y : ℕ). reports 1 (s .log) ++ reports y new) z)
-event-reported i (given j bs) s r = append-nil _
-event-reported i (offeredTo j b) s r = append-nil _
+event-reported i (tickOf j) s c r = absurd c
+event-reported i (given j bs) s c r = append-nil _
+event-reported i (offeredTo j b) s c r = append-nil _
 
 module _ (X : Group) where
   open Group X using (n, D, faulty, event, next, parentOf)
@@ -145,7 +147,7 @@ module _ (X : Group) where
   log-run i ok zero = inl refl
   log-run i ok (suc k) =
       let same = moves-fixed (moves-of X i ok k .2) .2 in
-      go same (log-run i ok k) (event-log i (event k) (st X i k) (X .runs i ok (suc k)))
+      go same (log-run i ok k) (event-log i (event k) (st X i k) (X .common k) (X .runs i ok (suc k)))
     where
       keeps : (l m : List ℕ) → m ≡ l → (l ≡ []) ⊎ RipeLog i l → (m ≡ []) ⊎ RipeLog i m
       keeps l m e h = subst (λ (y : List ℕ). (y ≡ []) ⊎ RipeLog i y) (sym e) h
@@ -158,7 +160,7 @@ module _ (X : Group) where
           let s = st X i k in
           let d = due-facts (counted s) x m in
           let es = counted-same s .0 in
-          let t : ck X k + 1 ≡ ck X (suc k) = sym (clock-suc n D event k ∙ ap (λ (y : Event). ck X k + ticks y) f ∙ (unfold ticks in refl)) in
+          let t : ck X k + 1 ≡ ck X (suc k) = sym (clock-suc n D event k ∙ ap (λ (y : Event). ck X k + ticks 0 y) f ∙ (unfold ticks in refl)) in
           let sn = X .soon k in
           let (c, r) = due-ripe i ok k (omega arith) x d in
           let (l, u) = stored-lineage i ok k x (logAfter s) (subst (List·Memᴰ x) es (d .0)) (d .1) (subst (λ (y : List Statement). chain y x ≡ some (logAfter s)) es q) in
@@ -223,7 +225,7 @@ module _ (X : Group) where
       let s = st X i k in
       let quiet = none-reported o (moves-messages (λ e. reportsIn (e ∷ []) ≡ []) (λ m. unfold reportsIn in refl) (λ j m. unfold reportsIn in refl) (begun (event k) s) (st X i (suc k)) o w) in
       let e : reportsIn (out n D event i k) ≡ reportsIn (before (event k) s) = ap reportsIn q ∙ reportsIn-append (before (event k) s) o ∙ ap (reportsIn (before (event k) s) ++_) quiet ∙ append-nil _ in
-      ap (_++ reportsIn (out n D event i k)) (log-reported i ok k) ∙ ap (reports 1 (s .log) ++_) e ∙ event-reported i (event k) s (X .runs i ok (suc k)) ∙ ap (reports 1) (sym same)
+      ap (_++ reportsIn (out n D event i k)) (log-reported i ok k) ∙ ap (reports 1 (s .log) ++_) e ∙ event-reported i (event k) s (X .common k) (X .runs i ok (suc k)) ∙ ap (reports 1) (sym same)
 
   -- ---- no due commit differs from the log
 

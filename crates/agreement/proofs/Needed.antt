@@ -1,6 +1,6 @@
 -- The premises of 01 give what the proof needs. Of what is forged it needs the votes alone, of a block the parent alone, and that
 -- a delivery comes after its sending is not used. Assumes nothing.
-use mathlib.Core.Path.{_≡_, subst, sym}
+use mathlib.Core.Path.{_≡_, subst, refl, sym, ap, _∙_}
 use Prim.Native.Nat.{ℕ, suc, _+_, _≤_, _<_}
 use native.Mathlib.Omega.{arith}
 use mathlib.Core.Logic.{_⊎_, inl, inr}
@@ -12,16 +12,16 @@ use Rattle.rules.proofs.Tests.{no-some}
 use Rattle.rules.proofs.Tallies.{bit-only}
 use Rattle.rules.proofs.Moves.{carried}
 use Rattle.rules.proofs.Proper.{Parented}
-use Rattle.agreement.specs.Schedule.{Event, commonTick, given, ticks, clock, Says, HasVoted, Sound, SoundRun, Genuine, OneBlock, Premises}
+use Rattle.agreement.specs.Schedule.{Event, commonTick, given, ticks, IsCommon, clock, Says, HasVoted, Sound, SoundRun, Genuine, OneBlock, Premises}
 use Rattle.agreement.proofs.Events.{ticks-two}
-use Rattle.agreement.proofs.Clock.{clock-suc, last-of}
+use Rattle.agreement.proofs.Clock.{clock-suc, last-of, clock-alike}
 use Rattle.agreement.proofs.Group.{Group}
 
-pub one-tick : (n D : ℕ) (event : ℕ → Event) (k : ℕ) → clock n D event (suc k) ≤ clock n D event k + 1
-one-tick n D event k = go (clock-suc n D event k) (ticks-two (event k))
+pub one-tick : (n D : ℕ) (event : ℕ → Event) → ((k : ℕ) → IsCommon (event k)) → (k : ℕ) → clock n D event 0 (suc k) ≤ clock n D event 0 k + 1
+one-tick n D event cm k = go (clock-suc n D event k) (ticks-two (event k) (cm k))
   where
-    go : clock n D event (suc k) ≡ clock n D event k + ticks (event k) → (ticks (event k) ≡ 0) ⊎ ((ticks (event k) ≡ 1) × (event k ≡ commonTick))
-        → clock n D event (suc k) ≤ clock n D event k + 1
+    go : clock n D event 0 (suc k) ≡ clock n D event 0 k + ticks 0 (event k) → (ticks 0 (event k) ≡ 0) ⊎ ((ticks 0 (event k) ≡ 1) × (event k ≡ commonTick))
+        → clock n D event 0 (suc k) ≤ clock n D event 0 k + 1
     go e (inl t) = omega arith
     go e (inr (t, f)) = omega arith
 
@@ -50,10 +50,12 @@ module _ (n D : ℕ) (event : ℕ → Event) (faulty : ℕ) (heightOf parentOf :
 
   -- what was said to all is delivered before every moment after which the clock is D + 1 later
   pub delivered : Premises n D event faulty heightOf parentOf → (i j : ℕ) → Sound n D event faulty i → Sound n D event faulty j → ¬ (i ≡ j) → (l k : ℕ) (m : Message)
-      → Says n D event i l (toAll m) → clock n D event (suc l) + D + 1 ≤ clock n D event (suc k) → (h : ℕ) × (h < k) × (event h ≡ given j (write m))
+      → Says n D event i l (toAll m) → clock n D event 0 (suc l) + D + 1 ≤ clock n D event 0 (suc k) → (h : ℕ) × (h < k) × (event h ≡ given j (write m))
   delivered P i j hi hj ne l k m s d =
-      let (k′, a, b, c, e) = last-of n D event (clock n D event (suc l) + D) (suc k) (omega arith) in
-      let (h, u, w, g) = P .inTime i j hi hj l m (inl (s, ne)) k′ e b in
+      let (k′, a, b, c, e) = last-of n D event (P .common) (clock n D event 0 (suc l) + D) (suc k) (omega arith) in
+      let ti : ticks i (event k′) ≡ 1 = ap (ticks i) e ∙ (unfold ticks in refl) in
+      let ca = clock-alike n D event (P .common) i in
+      let (h, u, w, g) = P .inTime i j hi hj l m (inl (s, ne)) k′ ti (ca k′ ∙ b ∙ ap (_+ D) (sym (ca (suc l)))) in
       (h, omega arith, g)
 
   abbrev pub to-group : Premises n D event faulty heightOf parentOf → SoundRun n D event faulty → Group
@@ -63,13 +65,14 @@ module _ (n D : ℕ) (event : ℕ → Event) (faulty : ℕ) (heightOf parentOf :
         D = D;
         faulty = faulty;
         event = event;
-        next = λ k. clock n D event (suc k);
+        next = λ k. clock n D event 0 (suc k);
         parentOf = parentOf;
         settings = P .settings;
         few = P .few;
+        common = P .common;
         runs = R;
         soon = λ k. omega arith;
-        late = one-tick n D event;
+        late = one-tick n D event (P .common);
         lent = P .lent;
         reaches = delivered P;
         voters = λ k j m h t c i ok y. genuine-voters k m t c (P .noForgery k j m h) i ok y;

@@ -19,7 +19,7 @@ use Rattle.rules.proofs.Truths.{lt-ltb, ltb-lt}
 use Rattle.rules.proofs.Moves.{carried}
 use Rattle.rules.proofs.Proper.{Parented}
 use Rattle.rules.proofs.Splits.{Split, dueCommits, step-split, offer-split, tick-split}
-use Rattle.agreement.specs.Schedule.{Event, idle, commonTick, given, offeredTo, happens, ticks, at, out, clock, Says, Sound, NeverFull, SoundRun, IsLent, Hands, Offers, Premises}
+use Rattle.agreement.specs.Schedule.{Event, idle, commonTick, tickOf, given, offeredTo, happens, ticks, IsCommon, at, out, clock, Says, Sound, NeverFull, SoundRun, IsLent, Hands, Offers, Premises}
 use Rattle.agreement.proofs.Clock.{clock-suc}
 use Rattle.agreement.proofs.Group.{Group}
 use Rattle.agreement.proofs.Logs.{commits-agree}
@@ -30,12 +30,13 @@ unfolding running
 still s r e = no-bool (sym (rw (e, running) at r))
 
 -- an event that splits a running station is a tick whose due commits differ
-happens-split : (i : ℕ) (e : Event) (s : State) → running s ≡ true → Split (happens i e s .next) → (e ≡ commonTick) × (dueCommits s ≡ none)
+happens-split : (i : ℕ) (e : Event) (s : State) → IsCommon e → running s ≡ true → Split (happens i e s .next) → (e ≡ commonTick) × (dueCommits s ≡ none)
 unfolding happens done saying
-happens-split i idle s r = λ q. absurd (still s r q)
-happens-split i commonTick s r = λ q. (refl, tick-split s r q)
-happens-split i (given j bs) s r = by-bool (eqb i j) (λ q. rw (q, happens) (λ e. absurd (step-split bs s r e))) (λ q. rw (q, happens) (λ e. absurd (still s r e)))
-happens-split i (offeredTo j b) s r = by-bool (eqb i j) (λ q. rw (q, happens) (λ e. absurd (offer-split b s r e))) (λ q. rw (q, happens) (λ e. absurd (still s r e)))
+happens-split i idle s c r = λ q. absurd (still s r q)
+happens-split i commonTick s c r = λ q. (refl, tick-split s r q)
+happens-split i (tickOf j) s c r = absurd c
+happens-split i (given j bs) s c r = by-bool (eqb i j) (λ q. rw (q, happens) (λ e. absurd (step-split bs s r e))) (λ q. rw (q, happens) (λ e. absurd (still s r e)))
+happens-split i (offeredTo j b) s c r = by-bool (eqb i j) (λ q. rw (q, happens) (λ e. absurd (offer-split b s r e))) (λ q. rw (q, happens) (λ e. absurd (still s r e)))
 
 -- ---- a schedule cut at moment k: idle from there on
 
@@ -94,18 +95,18 @@ module _ (n D : ℕ) (event : ℕ → Event) (k : ℕ) where
   unfolding out
   out-after i j l = ap (λ (e : Event). happens i e (at n D E i j) .out) (cut-after k event j l) ∙ (unfold happens done saying in refl)
 
-  ticks-before : (j : ℕ) → j ≤ k → clock n D E j ≡ clock n D event j
+  ticks-before : (j : ℕ) → j ≤ k → clock n D E 0 j ≡ clock n D event 0 j
   unfolding clock
   ticks-before zero l = refl
-  ticks-before (suc j) l = let a = ticks-before j (omega arith) in let b = ap ticks (cut-before k event j l) in omega arith
+  ticks-before (suc j) l = let a = ticks-before j (omega arith) in let b = ap (ticks 0) (cut-before k event j l) in omega arith
 
-  ticks-after : (j : ℕ) → k ≤ j → clock n D E j ≡ clock n D event k
+  ticks-after : (j : ℕ) → k ≤ j → clock n D E 0 j ≡ clock n D event 0 k
   unfolding clock
-  ticks-after zero l = let e : 0 ≡ k = omega arith in ap (clock n D event) e
+  ticks-after zero l = let e : 0 ≡ k = omega arith in ap (clock n D event 0) e
   ticks-after (suc j) l =
       elim (decLe k j) [
-        | yes d ↦ (let a = ticks-after j d in let b : ticks (E j) ≡ 0 = ap ticks (cut-after k event j d) ∙ (unfold ticks in refl) in omega arith)
-        | no d ↦ (let e : suc j ≡ k = omega arith in ticks-before (suc j) (omega arith) ∙ ap (clock n D event) e)
+        | yes d ↦ (let a = ticks-after j d in let b : ticks 0 (E j) ≡ 0 = ap (ticks 0) (cut-after k event j d) ∙ (unfold ticks in refl) in omega arith)
+        | no d ↦ (let e : suc j ≡ k = omega arith in ticks-before (suc j) (omega arith) ∙ ap (clock n D event 0) e)
       ]
 
   -- what is said in the cut schedule is said before k
@@ -142,10 +143,10 @@ module _ (n D : ℕ) (event : ℕ → Event) (k : ℕ) where
   module _ (faulty : ℕ) (heightOf parentOf : ℕ → ℕ) (P : Premises n D event faulty heightOf parentOf) (tick-next : event k ≡ commonTick)
       (runs : (i : ℕ) → Sound n D event faulty i → (j : ℕ) → j ≤ k → running (at n D event i j) ≡ true) where
     F : ℕ → ℕ
-    F = next k (clock n D event)
+    F = next k (clock n D event 0)
 
-    after-tick : clock n D event (suc k) ≡ clock n D event k + 1
-    after-tick = clock-suc n D event k ∙ ap (λ (y : Event). clock n D event k + ticks y) tick-next ∙ (unfold ticks in refl)
+    after-tick : clock n D event 0 (suc k) ≡ clock n D event 0 k + 1
+    after-tick = clock-suc n D event k ∙ ap (λ (y : Event). clock n D event 0 k + ticks 0 y) tick-next ∙ (unfold ticks in refl)
 
     cut-runs : (i : ℕ) → Sound n D E faulty i → (j : ℕ) → running (at n D E i j) ≡ true
     cut-runs i ok j =
@@ -154,20 +155,27 @@ module _ (n D : ℕ) (event : ℕ → Event) (k : ℕ) where
           | no d ↦ rw (at-after i j (omega arith)) (runs i ok k (omega arith))
         ]
 
-    cut-soon : (j : ℕ) → clock n D E (suc j) ≤ F j
+    cut-soon : (j : ℕ) → clock n D E 0 (suc j) ≤ F j
     unfolding F
     cut-soon j =
         elim (decLt j k) [
-          | yes d ↦ rw (next-before k (clock n D event) j d, ticks-before (suc j) d) (omega arith)
-          | no d ↦ rw (next-after k (clock n D event) j (omega arith), ticks-after (suc j) (omega arith)) (omega arith)
+          | yes d ↦ rw (next-before k (clock n D event 0) j d, ticks-before (suc j) d) (omega arith)
+          | no d ↦ rw (next-after k (clock n D event 0) j (omega arith), ticks-after (suc j) (omega arith)) (omega arith)
         ]
 
-    cut-late : (j : ℕ) → F j ≤ clock n D E j + 1
+    cut-late : (j : ℕ) → F j ≤ clock n D E 0 j + 1
     unfolding F
     cut-late j =
         elim (decLt j k) [
-          | yes d ↦ rw (next-before k (clock n D event) j d, ticks-before j (omega arith)) (one-tick n D event j)
-          | no d ↦ rw (next-after k (clock n D event) j (omega arith), ticks-after j (omega arith)) (omega arith)
+          | yes d ↦ rw (next-before k (clock n D event 0) j d, ticks-before j (omega arith)) (one-tick n D event (P .common) j)
+          | no d ↦ rw (next-after k (clock n D event 0) j (omega arith), ticks-after j (omega arith)) (omega arith)
+        ]
+
+    cut-common : (j : ℕ) → IsCommon (E j)
+    cut-common j =
+        elim (decLt j k) [
+          | yes d ↦ subst IsCommon (sym (cut-before k event j d)) (P .common j)
+          | no d ↦ subst IsCommon (sym (cut-after k event j (omega arith))) tt
         ]
 
     cut-lent : (j : ℕ) → IsLent n D E faulty (E j)
@@ -180,11 +188,12 @@ module _ (n D : ℕ) (event : ℕ → Event) (k : ℕ) where
         lent-on : (e : Event) → IsLent n D event faulty e → IsLent n D E faulty e
         lent-on idle h = tt
         lent-on commonTick h = tt
+        lent-on (tickOf j) h = tt
         lent-on (given j bs) h = h
         lent-on (offeredTo j b) h = h
 
     cut-reaches : (i j : ℕ) → Sound n D E faulty i → Sound n D E faulty j → ¬ (i ≡ j) → (l q : ℕ) (m : Message) → Says n D E i l (toAll m)
-        → clock n D E (suc l) + D + 1 ≤ F q → (h : ℕ) × (h < q) × (E h ≡ given j (write m))
+        → clock n D E 0 (suc l) + D + 1 ≤ F q → (h : ℕ) × (h < q) × (E h ≡ given j (write m))
     unfolding F
     cut-reaches i j hi hj ne l q m s d =
         let (u, s′) = says-back i l (toAll m) s in
@@ -192,11 +201,11 @@ module _ (n D : ℕ) (event : ℕ → Event) (k : ℕ) where
         let t = after-tick in
         elim (decLt q k) [
           | yes y ↦ (
-              let f = next-before k (clock n D event) q y in
+              let f = next-before k (clock n D event 0) q y in
               let (h, a, e) = delivered n D event faulty heightOf parentOf P i j hi hj ne l q m s′ (omega arith) in
               (h, a, cut-before k event h (omega arith) ∙ e))
           | no y ↦ (
-              let f = next-after k (clock n D event) q (omega arith) in
+              let f = next-after k (clock n D event 0) q (omega arith) in
               let (h, a, e) = delivered n D event faulty heightOf parentOf P i j hi hj ne l k m s′ (omega arith) in
               (h, omega arith, cut-before k event h a ∙ e))
         ]
@@ -222,12 +231,12 @@ module _ (n D : ℕ) (event : ℕ → Event) (k : ℕ) where
 
     abbrev cut-group : Group
     cut-group =
-        record { n = n; D = D; faulty = faulty; event = E; next = F; parentOf = parentOf; settings = P .settings; few = P .few; runs = cut-runs; soon = cut-soon; late = cut-late; lent = cut-lent; reaches = cut-reaches; voters = cut-voters; parents = cut-parents }
+        record { n = n; D = D; faulty = faulty; event = E; next = F; parentOf = parentOf; settings = P .settings; few = P .few; common = cut-common; runs = cut-runs; soon = cut-soon; late = cut-late; lent = cut-lent; reaches = cut-reaches; voters = cut-voters; parents = cut-parents }
 
     no-split-here : (i : ℕ) → Sound n D event faulty i → ¬ (dueCommits (at n D event i k) ≡ none)
     unfolding F
     no-split-here i ok e =
-        let f = next-after k (clock n D event) k (omega arith) in
+        let f = next-after k (clock n D event 0) k (omega arith) in
         let c = ticks-before k (omega arith) in
         commits-agree cut-group i ok k (omega arith) (subst (λ (s : State). dueCommits s ≡ none) (sym (at-before i k (omega arith))) e)
 
@@ -242,7 +251,7 @@ module _ (n D : ℕ) (event : ℕ → Event) (faulty : ℕ) (heightOf parentOf :
       go (stopped full) e = absurd (room i ok (suc k) .0 e)
       go (stopped late) e = absurd (room i ok (suc k) .1 e)
       go (stopped split) e =
-          let (t, d) = happens-split i (event k) (at n D event i k) (ih i ok k (omega arith)) e in
+          let (t, d) = happens-split i (event k) (at n D event i k) (P .common k) (ih i ok k (omega arith)) e in
           absurd (no-split-here n D event k faulty heightOf parentOf P t ih i ok d)
 
   runs-to : (k i : ℕ) → Sound n D event faulty i → (j : ℕ) → j ≤ k → running (at n D event i j) ≡ true

@@ -76,7 +76,7 @@ module _ (X : Group) where
         let d = R .due in
         let u = X .late k0 in
         let (odd, least, most, delay) = good-facts (G X 0) (X .settings) in
-        let m = last-of n D event (t + D) k0 (omega arith) in
+        let m = last-of n D event (X .common) (t + D) k0 (omega arith) in
         (m .0, m .1, m .2, m .3)
 
     -- G3b: at that moment every sound station is in the view, holds x and has voted for it

@@ -1,7 +1,7 @@
 -- Demand 3, of the rules of one station under every schedule. A: of the logs of two sound stations one begins the other, and each is
 -- one that a single clerk could have kept. B: who votes for a propose and stays commits it with all its ancestors. C: no sound
 -- station is ever stopped by a due commit. Assumes nothing.
-use mathlib.Core.Path.{_≡_}
+use mathlib.Core.Path.{_≡_, sym, ap, _∙_}
 use Prim.Native.Nat.{ℕ, suc, _+_, _*_}
 use mathlib.Core.List.{IsPrefix}
 use mathlib.Core.Logic.{_⊎_}
@@ -9,6 +9,7 @@ use Rattle.rules.specs.Messages.{propose, vote, toAll}
 use Rattle.rules.specs.Words.{inView}
 use Rattle.rules.specs.Inputs.{reports}
 use Rattle.agreement.specs.Schedule.{Event, commonTick, at, clock, Says, Sound, SoundRun, Schedule, Linked, lineage, reported}
+use Rattle.agreement.proofs.Clock.{clock-alike}
 use Rattle.agreement.proofs.Group.{Group}
 use Rattle.agreement.proofs.Logs.{logs-begin, log-linked, log-reported}
 use Rattle.agreement.proofs.Ancestors.{commits-lineage}
@@ -37,7 +38,8 @@ module _ (n D : ℕ) (event : ℕ → Event) (faulty : ℕ) (heightOf parentOf :
   -- begins, has that block and all its ancestors in its log after that tick
   pub vote-commits : (r : ℕ) → Sound n D event faulty r → (j v h b p m a : ℕ)
       → Says n D event r j (toAll (propose v h b p m a)) → Says n D event r j (toAll (vote v h b r))
-      → (k : ℕ) → event k ≡ commonTick → clock n D event k ≡ clock n D event (suc j) + 2 * D → at n D event r k .phase ≡ inView → at n D event r k .view ≡ v
+      → (k : ℕ) → event k ≡ commonTick → clock n D event r k ≡ clock n D event r (suc j) + 2 * D → at n D event r k .phase ≡ inView → at n D event r k .view ≡ v
       → IsPrefix (lineage parentOf h b) (at n D event r (suc k) .log)
   vote-commits r ok j v h b p m a s w k e d ph vw =
-      commits-lineage group r j k v h b p m a (record { ok = ok; statement = s; ballot = w; tick = e; due = d; phase = ph; view = vw })
+      let alike = clock-alike n D event (X .premises .common) r in
+      commits-lineage group r j k v h b p m a (record { ok = ok; statement = s; ballot = w; tick = e; due = sym (alike k) ∙ d ∙ ap (_+ 2 * D) (alike (suc j)); phase = ph; view = vw })

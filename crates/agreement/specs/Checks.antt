@@ -11,7 +11,7 @@ use Rattle.rules.specs.Messages.{Message, newView, propose, vote, blame, blameS
 use Rattle.rules.specs.Inputs.{offered}
 use Rattle.rules.specs.Refusals.{running}
 use Rattle.rules.specs.Script.{sameList}
-use Rattle.agreement.specs.Schedule.{Event, idle, commonTick, given, offeredTo, settingsOf, at, out, clock}
+use Rattle.agreement.specs.Schedule.{Event, idle, commonTick, tickOf, given, offeredTo, ticks, settingsOf, at, out, clock}
 
 unfoldable pub implies : Bool → Bool → Bool
 implies true b = b
@@ -54,21 +54,24 @@ unfoldable pub ifSome : {A : Type 0} → Option A → (A → Bool) → Bool
 ifSome none p = true
 ifSome (some a) p = p a
 
-unfoldable pub isTick : Event → Bool
-isTick idle = false
-isTick commonTick = true
-isTick (given j bs) = false
-isTick (offeredTo j b) = false
+unfoldable pub isCommon : Event → Bool
+isCommon idle = true
+isCommon commonTick = true
+isCommon (tickOf j) = false
+isCommon (given j bs) = true
+isCommon (offeredTo j b) = true
 
 unfoldable pub givenTo : Event → (ℕ → List ℕ → Bool) → Bool → Bool
 givenTo idle p d = d
 givenTo commonTick p d = d
+givenTo (tickOf j) p d = d
 givenTo (given j bs) p d = p j bs
 givenTo (offeredTo j b) p d = d
 
 unfoldable pub offeredAs : Event → (ℕ → ℕ → Bool) → Bool
 offeredAs idle p = true
 offeredAs commonTick p = true
+offeredAs (tickOf j) p = true
 offeredAs (given j bs) p = true
 offeredAs (offeredTo j b) p = p j b
 
@@ -117,14 +120,14 @@ module _ (n D : ℕ) (es : List Event) (faulty : ℕ) where
   unfolding some? givenTo sameList write listed
   comes j k m l = some? l (λ h. ltb k h && givenTo (listed es h) (λ t bs. eqb t j && sameList bs (write m)) false)
 
-  unfoldable pub comesInTime : (j k : ℕ) → Message → Bool
-  unfolding every implies isTick clock listed comes
-  comesInTime j k m =
-      every (length es) (λ l. implies (isTick (listed es l) && eqb (clock n D (listed es) l) (clock n D (listed es) (suc k) + D)) (comes j k m l))
+  unfoldable pub comesInTime : (i j k : ℕ) → Message → Bool
+  unfolding every implies ticks clock listed comes
+  comesInTime i j k m =
+      every (length es) (λ l. implies (eqb (ticks i (listed es l)) 1 && eqb (clock n D (listed es) i l) (clock n D (listed es) i (suc k) + D)) (comes j k m l))
 
   unfoldable pub saidInTime : (i j k : ℕ) → Effect → Bool
   unfolding ifSome brought comesInTime
-  saidInTime i j k e = ifSome (brought i j e) (comesInTime j k)
+  saidInTime i j k e = ifSome (brought i j e) (comesInTime i j k)
 
   unfoldable pub allInTime : Bool
   unfolding every implies isSound saidInTime out listed all
@@ -134,6 +137,10 @@ module _ (n D : ℕ) (es : List Event) (faulty : ℕ) where
   unfoldable pub allRun : Bool
   unfolding every implies isSound running at listed
   allRun = every n (λ i. implies (isSound i) (every (suc (length es)) (λ k. running (at n D (listed es) i k))))
+
+  unfoldable pub allCommon : Bool
+  unfolding every isCommon listed
+  allCommon = every (length es) (λ k. isCommon (listed es k))
 
   unfoldable pub allLent : Bool
   unfolding every givenTo offeredAs listed all
@@ -154,7 +161,7 @@ module _ (n D : ℕ) (es : List Event) (faulty : ℕ) where
         every (length es) (λ k. taken k isOneBlock
         && offeredAs (listed es k) (λ j b. implies (isSound j) (ifSome (offered b (at n D (listed es) j k)) isOneBlock)))
 
-    -- the tests of a schedule: who runs, what is lent, in time, genuine, one block per name
+    -- the tests of a schedule: who runs, what is lent, in time, genuine, one block per name, common ticks
     unfoldable pub verdict : List Bool
-    unfolding allRun allLent allInTime noneForged oneNamed
-    verdict = allRun ∷ allLent ∷ allInTime ∷ noneForged ∷ oneNamed ∷ []
+    unfolding allRun allLent allInTime noneForged oneNamed allCommon
+    verdict = allRun ∷ allLent ∷ allInTime ∷ noneForged ∷ oneNamed ∷ allCommon ∷ []

@@ -1,11 +1,11 @@
--- Schedules that show what the theorems of demand 3 are about: one in which all premises hold, and for each of four premises one
+-- Schedules that show what the theorems of demand 3 are about: one in which all premises hold, and for each of five premises one
 -- in which the others hold and the logs split or the commit is missed. proofs/Examples.antt evaluates them. Assumes nothing.
 use Prim.Native.Nat.{ℕ}
-use mathlib.Core.Bool.{true, false}
+use mathlib.Core.Bool.{true, false, _||_}
 use mathlib.Core.List.{List, [], _∷_}
 use lib.Dec.{eqb}
 use Rattle.rules.specs.Messages.{Message, newView, propose, vote, blame, blameSet, status, write}
-use Rattle.agreement.specs.Schedule.{Event, commonTick, given, offeredTo}
+use Rattle.agreement.specs.Schedule.{Event, commonTick, tickOf, given, offeredTo}
 
 abbrev hears : ℕ → Message → Event
 hears j m = given j (write m)
@@ -68,10 +68,17 @@ twoParents =
     ∷ hears 0 (propose 2 4 101 100 5 2) ∷ hears 0 (vote 2 4 101 2) ∷ hears 2 (propose 2 4 101 100 5 2)
     ∷ hears 2 (vote 2 4 101 0) ∷ commonTick ∷ commonTick ∷ commonTick ∷ []
 
+-- n=3, D=1, station 1 faulty: station 2 votes for a block and is not ticked; station 0 votes for one above it and is ticked alone
+unfoldable pub ownTicks : List Event
+unfolding write
+ownTicks =
+    hears 2 (newView 1 0 0 0 0 1) ∷ hears 2 (propose 1 1 98 0 6 1) ∷ hears 0 (propose 1 2 99 98 6 1)
+    ∷ hears 2 (propose 1 2 99 98 6 1) ∷ hears 2 (vote 1 2 99 0) ∷ tickOf 0 ∷ tickOf 0 ∷ tickOf 0 ∷ []
+
 -- the blocks of these schedules: each name's height and parent
 unfoldable pub heightOf : ℕ → ℕ
 heightOf b =
-    elim (eqb b 77) [ true ↦ 1 | false ↦ elim (eqb b 78) [ true ↦ 2 | false ↦ elim (eqb b 79) [ true ↦ 3 | false ↦ elim (eqb b 99) [ true ↦ 2 | false ↦ 0 ] ] ] ]
+    elim (eqb b 77 || eqb b 98) [ true ↦ 1 | false ↦ elim (eqb b 78 || eqb b 99) [ true ↦ 2 | false ↦ elim (eqb b 79) [ true ↦ 3 | false ↦ 0 ] ] ]
 
 unfoldable pub parentOf : ℕ → ℕ
 parentOf b = elim (eqb b 78) [ true ↦ 77 | false ↦ elim (eqb b 79) [ true ↦ 78 | false ↦ elim (eqb b 99) [ true ↦ 98 | false ↦ 0 ] ] ]

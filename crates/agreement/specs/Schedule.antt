@@ -14,10 +14,11 @@ use Rattle.rules.specs.Inputs.{saying, offered}
 use Rattle.rules.specs.Refusals.{Outcome, done, running, step, offer, tick}
 use Rattle.rules.proofs.Bytes.{Bytes}
 
--- a schedule that ends goes on idle
+-- a schedule that ends goes on idle; a tick of one station alone is there to be shut out (CommonTicks)
 pub data Event : Type 0 where
   idle : Event
   commonTick : Event
+  tickOf : (station : ℕ) → Event
   given : (station : ℕ) → List ℕ → Event
   offeredTo : (station name : ℕ) → Event
 
@@ -26,14 +27,25 @@ unfoldable pub happens : ℕ → Event → State → Outcome
 unfolding done saying tick step offer
 happens i idle s = done (saying s [])
 happens i commonTick s = tick s
+happens i (tickOf j) s = elim (eqb i j) [ true ↦ tick s | false ↦ done (saying s []) ]
 happens i (given j bs) s = elim (eqb i j) [ true ↦ step bs s | false ↦ done (saying s []) ]
 happens i (offeredTo j b) s = elim (eqb i j) [ true ↦ offer b s | false ↦ done (saying s []) ]
 
-unfoldable pub ticks : Event → ℕ
-ticks idle = 0
-ticks commonTick = 1
-ticks (given j bs) = 0
-ticks (offeredTo j b) = 0
+-- how often it ticks station i
+unfoldable pub ticks : ℕ → Event → ℕ
+ticks i idle = 0
+ticks i commonTick = 1
+ticks i (tickOf j) = elim (eqb i j) [ true ↦ 1 | false ↦ 0 ]
+ticks i (given j bs) = 0
+ticks i (offeredTo j b) = 0
+
+-- no tick of one station alone
+abbrev pub IsCommon : Event → Type 0
+IsCommon idle = Unit {0}
+IsCommon commonTick = Unit {0}
+IsCommon (tickOf j) = ⊥
+IsCommon (given j bs) = Unit {0}
+IsCommon (offeredTo j b) = Unit {0}
 
 -- "alike in every setting but the own number, limits included, station i numbered i"
 abbrev pub settingsOf : ℕ → ℕ → ℕ → Settings
@@ -58,10 +70,11 @@ module _ (n D : ℕ) (event : ℕ → Event) where
   unfolding at happens
   out i k = happens i (event k) (at i k) .out
 
-  unfoldable pub clock : ℕ → ℕ
+  -- the ticks of station i before moment k
+  unfoldable pub clock : ℕ → ℕ → ℕ
   unfolding ticks
-  clock zero = 0
-  clock (suc k) = clock k + ticks (event k)
+  clock i zero = 0
+  clock i (suc k) = clock i k + ticks i (event k)
 
   abbrev pub Says : ℕ → ℕ → Effect → Type 0
   Says i k e = List·Memᴰ e (out i k)
@@ -100,10 +113,15 @@ module _ (n D : ℕ) (event : ℕ → Event) where
     abbrev pub SoundRun : Type 0
     SoundRun = (i : ℕ) → Sound i → (k : ℕ) → running (at i k) ≡ true
 
+    -- "a common tick is one event: every station is ticked before the next delivery"
+    abbrev pub CommonTicks : Type 0
+    CommonTicks = (k : ℕ) → IsCommon (event k)
+
     -- "hosts lend proper buffers": a message is bytes, an offered name is 32 of them
     abbrev pub IsLent : Event → Type 0
     IsLent idle = Unit {0}
     IsLent commonTick = Unit {0}
+    IsLent (tickOf j) = Unit {0}
     IsLent (given j bs) = Bytes bs
     IsLent (offeredTo j b) = b < 256 ^ 32
 
@@ -116,7 +134,7 @@ module _ (n D : ℕ) (event : ℕ → Event) where
 
     abbrev pub InTime : Type 0
     InTime =
-        (i j : ℕ) → Sound i → Sound j → (k : ℕ) (m : Message) → Sends i j k m → (l : ℕ) → event l ≡ commonTick → clock l ≡ clock (suc k) + D
+        (i j : ℕ) → Sound i → Sound j → (k : ℕ) (m : Message) → Sends i j k m → (l : ℕ) → ticks i (event l) ≡ 1 → clock i l ≡ clock i (suc k) + D
         → (h : ℕ) × (k < h) × (h < l) × (event h ≡ given j (write m))
 
     -- "a mask or author names a sound station only after it sent that vote or blame, or is the leader that made that statement"
@@ -161,6 +179,7 @@ module _ (n D : ℕ) (event : ℕ → Event) where
       pub record Premises : Type 0 where
         pub settings : GoodSettings
         pub few : AtMostF
+        pub common : CommonTicks
         pub lent : ProperBuffers
         pub inTime : InTime
         pub noForgery : NoForgery

@@ -20,9 +20,6 @@ use Rattle.rules.proofs.Held.{report-all}
 
 -- ---- one log begins another
 
-pub begins-refl : (l : List ℕ) → IsPrefix l l
-begins-refl l = ([], append-nil l)
-
 pub begins-trans : (a b c : List ℕ) → IsPrefix a b → IsPrefix b c → IsPrefix a c
 begins-trans a b c (r, e) (q, f) = (r ++ q, sym (append-assoc a r q) ∙ ap (_++ q) e ∙ f)
 

@@ -112,9 +112,6 @@ votingAll-fixed [] s = ((refl, refl, refl), refl, refl, refl)
 votingAll-fixed (y ∷ ys) s =
     by-bool (belowLock y s) (λ l. rw (voting-low y s l) (votingAll-fixed ys s)) (λ l. rw (voting-high y s l) (votingAll-fixed ys (votedFor y s)))
 
-abbrev ballots : State → State
-ballots s = votingAll (inOrder (current (arrived s))) (arrived s) .now
-
 module _ {R : Outside} where
   pub move-fixed : {s t : State} {o : List Effect} → Move R s t o → Fixed s t
   unfolding withTables withPhase withBlames withLog entering stored votedFor blamed
