@@ -9,4 +9,9 @@ pub mod Encoded
 pub mod ReadBack
 pub mod Decoded
 pub mod OneForm
+pub mod Writes
+pub mod Changes
 pub mod Searches
+pub mod Joining
+pub mod Starts
+pub mod Sized

@@ -1,4 +1,5 @@
 pub mod Layout
 pub mod Decode
 pub mod Meaning
-pub mod Search
+pub mod Changes
+pub mod Fresh

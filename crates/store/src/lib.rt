@@ -5,18 +5,22 @@ ghost use mathlib.Core.Bool.{_&&_};
 ghost use mathlib.Core.Option.{none};
 ghost use lib.ListN.{length};
 ghost use lib.Dec.{eqb};
-ghost use Rattle.rules.specs.Limits.{lastView, mostStatements, mostTallies, maskBits};
+ghost use Rattle.rules.specs.Limits.{lastView, mostStatements, mostTallies, lastClock, maskBits};
 ghost use Rattle.rules.specs.Sizes.{only};
-ghost use Rattle.rules.specs.Words.{sameStatement, sameBlock, grown};
+ghost use Rattle.rules.specs.Words.{sameStatement, sameBlock, grown, join, joinCertificate, fresh};
+ghost use Rattle.rules.specs.Inputs.{withPhase, withClock, entering, blamed};
 ghost use Rattle.fields.specs.Names.{nameOf};
 ghost use Rattle.fields.specs.Places.{number, put as written};
 ghost use Rattle.fields.specs.Records.{fields, puts};
+ghost use Rattle.settings.specs.Made.{settingsOf};
 ghost use Rattle.wire.specs.Meaning.{statementOf};
-ghost use Rattle.store.specs.Layout.{headerFormat, tallyFormat, storeLength};
-ghost use Rattle.store.specs.Decode.{phaseOf, phaseNumber, tallyFrom, tallyValues, statementAt, tallyAt, blameAt, nameAt, kindAt, voteAt, statements, tallies, Form};
+ghost use Rattle.store.specs.Layout.{headerFormat, statementFormat, tallyFormat, statementTable, tallyTable, logTable, storeLength, countOf};
+ghost use Rattle.store.specs.Decode.{phaseOf, phaseNumber, kindNumber, statementValues, tallyFrom, tallyValues, statementAt, tallyAt, blameAt, nameAt, kindAt, voteAt, statements, tallies, stateOf, headerValues, Form, Left};
 ghost use Rattle.store.specs.Meaning.{courseOf, tallyOf, headerOf};
-ghost use Rattle.store.specs.Search.{firstFrom};
+ghost use Rattle.store.specs.Fresh.{answer, freshly};
+ghost use Rattle.store.specs.Changes.{firstFrom, growing, opening, joining, certifying, storing, noting, appending};
 use fields::Name;
+use settings::Made;
 use settings::Settings;
 use wire::Statement;
 
@@ -24,63 +28,63 @@ use wire::Statement;
 pub const LENGTH: usize = 25_220;
 
 // Where the header's numbers are; the lock is a tally's record.
-pub const PHASE: usize = 0;
+const PHASE: usize = 0;
 
-pub const N: usize = 4;
+const N: usize = 4;
 
-pub const DELAY: usize = 5;
+const DELAY: usize = 5;
 
-pub const OWN: usize = 7;
+const OWN: usize = 7;
 
-pub const CURRENT: usize = 8;
+const CURRENT: usize = 8;
 
-pub const ENTRY: usize = 12;
+const ENTRY: usize = 12;
 
-pub const CLOCK: usize = 16;
+const CLOCK: usize = 16;
 
-pub const LOCK: usize = 20;
+const LOCK: usize = 20;
 
-pub const STATEMENT_COUNT: usize = 62;
+const STATEMENT_COUNT: usize = 62;
 
-pub const TALLY_COUNT: usize = 64;
+const TALLY_COUNT: usize = 64;
 
-pub const LOG_COUNT: usize = 66;
+const LOG_COUNT: usize = 66;
 
 // Where each table begins, and the size of its records.
-pub const STATEMENTS: usize = 68;
+const STATEMENTS: usize = 68;
 
-pub const STATEMENT_SIZE: usize = 80;
+const STATEMENT_SIZE: usize = 80;
 
-pub const TALLIES: usize = 10_308;
+const TALLIES: usize = 10_308;
 
-pub const TALLY_SIZE: usize = 42;
+const TALLY_SIZE: usize = 42;
 
-pub const BLAMES: usize = 21_060;
+const BLAMES: usize = 21_060;
 
-pub const BLAME_SIZE: usize = 2;
+const BLAME_SIZE: usize = 2;
 
-pub const LOG: usize = 21_124;
+const LOG: usize = 21_124;
 
-pub const NAME_SIZE: usize = 32;
+const NAME_SIZE: usize = 32;
 
 // Where the numbers of a record are: of a block, a tally's last, a statement's last.
-pub const VIEW: usize = 0;
+const VIEW: usize = 0;
 
-pub const HEIGHT: usize = 4;
+const HEIGHT: usize = 4;
 
-pub const NAME: usize = 8;
+const NAME: usize = 8;
 
-pub const VOTERS: usize = 40;
+const VOTERS: usize = 40;
 
-pub const KIND: usize = 40;
+const KIND: usize = 40;
 
-pub const AUTHOR: usize = 41;
+const AUTHOR: usize = 41;
 
-pub const MASK: usize = 42;
+const MASK: usize = 42;
 
-pub const LINK: usize = 44;
+const LINK: usize = 44;
 
-pub const VOTE: usize = 76;
+const VOTE: usize = 76;
 
 // Why a station stopped.
 pub enum Cause {
@@ -140,7 +144,7 @@ fn get_two(store: &[u8], at: usize) -> u16
 }
 
 // How many records a table has in use.
-pub fn get_count(store: &[u8], at: usize) -> usize
+fn get_count(store: &[u8], at: usize) -> usize
     requires { ⌜ at + 2 ≤ length (now store) ⌝ }
     ensures { λ r. ⌜ (r ≡ number (now (store .entry)) at 2) × (r < 256 ^ 2) ⌝ }
 {
@@ -242,7 +246,7 @@ pub fn name_at(store: &[u8], i: usize) -> Name
 }
 
 // The phase's number.
-pub fn phase_number(phase: Phase) -> u64
+fn phase_number(phase: Phase) -> u64
     ensures { λ r. ⌜ r ≡ phaseNumber (courseOf phase) ⌝ }
 {
     match phase {
@@ -362,7 +366,7 @@ pub fn find_statement(store: &[u8], statement: Statement) -> Found
 }
 
 // Writes a block's view, height and name to a record.
-pub fn put_block(store: &mut [u8], at: usize, view: u32, height: u32, name: Name)
+fn put_block(store: &mut [u8], at: usize, view: u32, height: u32, name: Name)
     requires { ⌜ at + 40 ≤ length (now store) ⌝ }
     ensures { λ _. ⌜ now (store .exit) ≡ written (written (written (now (store .entry)) (at + 0) 4 view) (at + 4) 4 height) (at + 8) 32 (nameOf name) ⌝ }
 {
@@ -372,12 +376,137 @@ pub fn put_block(store: &mut [u8], at: usize, view: u32, height: u32, name: Name
 }
 
 // Writes a tally's record.
-pub fn put_tally(store: &mut [u8], at: usize, tally: Tally)
+fn put_tally(store: &mut [u8], at: usize, tally: Tally)
     requires { ⌜ at + 42 ≤ length (now store) ⌝ }
     ensures { λ _. ⌜ now (store .exit) ≡ puts (now (store .entry)) at tallyFormat (tallyValues (tallyOf tally)) ⌝ }
 {
     put_block(store, at, tally.view, tally.height, tally.name);
     fields::put(store, at + VOTERS, 2, tally.mask as u64);
+}
+
+// A kind's number, as on the wire.
+fn kind_number(is_new_view: bool) -> u64
+    ensures { λ r. ⌜ r ≡ kindNumber «is_new_view» ⌝ }
+{
+    if is_new_view { 1 } else { 2 }
+}
+
+// Writes a statement's record, not voted for.
+fn put_statement(store: &mut [u8], at: usize, statement: Statement)
+    requires { ⌜ at + 80 ≤ length (now store) ⌝ }
+    ensures { λ _. ⌜ now (store .exit) ≡ puts (now (store .entry)) at statementFormat (statementValues (statementOf statement none)) ⌝ }
+{
+    let kind = kind_number(statement.is_new_view);
+    put_block(store, at, statement.view, statement.height, statement.name);
+    fields::put(store, at + KIND, 1, kind);
+    fields::put(store, at + AUTHOR, 1, statement.author as u64);
+    fields::put(store, at + MASK, 2, statement.mask as u64);
+    fields::put_name(store, at + LINK, statement.link);
+    fields::put(store, at + VOTE, 4, 0);
+}
+
+// A statement is stored behind the others.
+pub fn append_statement(store: &mut [u8], statement: Statement)
+    requires { ⌜ (Form (now store)) × (countOf statementTable (now store) < mostStatements) ⌝ }
+    ensures { λ _. ⌜ Left (now (store .exit)) (storing (statementOf statement none) (stateOf (now (store .entry)))) ⌝ }
+{
+    let count = get_count(store, STATEMENT_COUNT);
+    put_statement(store, STATEMENTS + STATEMENT_SIZE * count, statement);
+    fields::put(store, STATEMENT_COUNT, 2, (count + 1) as u64);
+}
+
+// The own vote for statement i notes the clock.
+pub fn note_vote(store: &mut [u8], i: usize, clock: u32)
+    requires { ⌜ (Form (now store)) × (i < countOf statementTable (now store)) × (clock ≤ lastClock) ⌝ }
+    ensures { λ _. ⌜ Left (now (store .exit)) (noting i clock (stateOf (now (store .entry)))) ⌝ }
+{
+    fields::put(
+        store,
+        STATEMENTS + STATEMENT_SIZE * i + VOTE,
+        4,
+        clock as u64 + 1,
+    );
+}
+
+// A tally is opened behind the others.
+pub fn open_tally(store: &mut [u8], tally: Tally)
+    requires { ⌜ (Form (now store)) × (countOf tallyTable (now store) < mostTallies) ⌝ }
+    ensures { λ _. ⌜ Left (now (store .exit)) (opening (tallyOf tally) (stateOf (now (store .entry)))) ⌝ }
+{
+    let count = get_count(store, TALLY_COUNT);
+    put_tally(store, TALLIES + TALLY_SIZE * count, tally);
+    fields::put(store, TALLY_COUNT, 2, (count + 1) as u64);
+}
+
+// A mask joins tally i.
+pub fn join_at(store: &mut [u8], i: usize, mask: u16)
+    requires { ⌜ (Form (now store)) × (i < countOf tallyTable (now store)) ⌝ }
+    ensures { λ _. ⌜ Left (now (store .exit)) (growing i mask (stateOf (now (store .entry)))) ⌝ }
+{
+    let tally = tally_at(store, i).grown(mask);
+    fields::put(
+        store,
+        TALLIES + TALLY_SIZE * i + VOTERS,
+        2,
+        tally.mask as u64,
+    );
+}
+
+// A tally's mask joins the tally of its block, opened if missing.
+pub fn join_tally(store: &mut [u8], tally: Tally)
+    requires { ⌜ (Form (now store)) × (length (join (tallyOf tally) (tallies (now store))) ≤ mostTallies) ⌝ }
+    ensures { λ _. ⌜ Left (now (store .exit)) (joining (tallyOf tally) (stateOf (now (store .entry)))) ⌝ }
+{
+    match find_tally(store, tally) {
+        Found::At(i) => join_at(store, i, tally.mask),
+        Found::Nothing => open_tally(store, tally),
+    }
+}
+
+// The same of a certificate: genesis has no tally in view 0.
+pub fn join_certificate(store: &mut [u8], certificate: Tally)
+    requires { ⌜ (Form (now store)) × (length (joinCertificate (tallyOf certificate) (tallies (now store))) ≤ mostTallies) ⌝ }
+    ensures { λ _. ⌜ Left (now (store .exit)) (certifying (tallyOf certificate) (stateOf (now (store .entry)))) ⌝ }
+{
+    if certificate.view != 0 {
+        join_tally(store, certificate);
+    }
+}
+
+// A mask joins the blame mask of a view.
+pub fn join_blame(store: &mut [u8], view: u32, mask: u16)
+    requires { ⌜ (Form (now store)) × (1 ≤ view) × (view ≤ lastView) ⌝ }
+    ensures { λ _. ⌜ Left (now (store .exit)) (blamed view mask (stateOf (now (store .entry)))) ⌝ }
+{
+    let i = view as usize - 1;
+    let joined = blame_at(store, i) | mask;
+    fields::put(store, BLAMES + BLAME_SIZE * i, 2, joined as u64);
+}
+
+// A name is logged above the others.
+pub fn append_name(store: &mut [u8], name: Name)
+    requires { ⌜ (Form (now store)) × (countOf logTable (now store) < mostStatements) ⌝ }
+    ensures { λ _. ⌜ Left (now (store .exit)) (appending (nameOf name) (stateOf (now (store .entry)))) ⌝ }
+{
+    let count = get_count(store, LOG_COUNT);
+    fields::put_name(store, LOG + NAME_SIZE * count, name);
+    fields::put(store, LOG_COUNT, 2, (count + 1) as u64);
+}
+
+// The phase is set.
+pub fn set_phase(store: &mut [u8], phase: Phase)
+    requires { ⌜ (Form (now store)) × (phaseNumber (courseOf phase) < 256 ^ 4) ⌝ }
+    ensures { λ _. ⌜ Left (now (store .exit)) (withPhase (courseOf phase) (stateOf (now (store .entry)))) ⌝ }
+{
+    fields::put(store, PHASE, 4, phase_number(phase));
+}
+
+// The clock is set.
+pub fn set_clock(store: &mut [u8], clock: u32)
+    requires { ⌜ Form (now store) ⌝ }
+    ensures { λ _. ⌜ Left (now (store .exit)) (withClock clock (stateOf (now (store .entry)))) ⌝ }
+{
+    fields::put(store, CLOCK, 4, clock as u64);
 }
 
 // Writes the settings to the header.
@@ -443,4 +572,63 @@ impl Station {
         put_tally(store, LOCK, self.lock);
         put_counts(store, self.statements, self.tallies, self.logged);
     }
+}
+
+// A view is entered, with its lock.
+pub fn enter(store: &mut [u8], view: u32, lock: Tally)
+    requires { ⌜ Form (now store) ⌝ }
+    ensures { λ _. ⌜ Left (now (store .exit)) (entering view (tallyOf lock) (stateOf (now (store .entry)))) ⌝ }
+{
+    let old = Station::load(store);
+    let settings = old.settings;
+    let station = Station {
+        settings,
+        phase: Phase::InView,
+        view,
+        entry: old.clock,
+        clock: old.clock,
+        lock,
+        statements: old.statements,
+        tallies: old.tallies,
+        logged: old.logged,
+    };
+    station.save(store);
+}
+
+// The station that a store starts with.
+fn starting(settings: Settings) -> Station
+    ensures { λ r. ⌜ headerOf r ≡ headerValues (fresh (settingsOf settings)) ⌝ }
+{
+    let lock = Tally {
+        view: 0,
+        height: 0,
+        name: Name::zero(),
+        mask: 0,
+    };
+    Station {
+        settings,
+        phase: Phase::InView,
+        view: Settings::FIRST_VIEW as u32,
+        entry: 0,
+        clock: 0,
+        lock,
+        statements: 0,
+        tallies: 0,
+        logged: 0,
+    }
+}
+
+// Makes a fresh store of whatever was in it; refused for another length, then for bad settings.
+pub fn fresh(store: &mut [u8], n: u64, d: u64, own: u64) -> u64
+    ensures { λ r. ⌜ answer r (now (store .exit)) ≡ freshly (now (store .entry)) n d own ⌝ }
+{
+    if store.len() != LENGTH {
+        return 1 << 32;
+    }
+    let Made::Good(settings) = Settings::new(n, d, own) else {
+        return 10 << 32;
+    };
+    fields::clear(store, 0, LENGTH);
+    starting(settings).save(store);
+    0
 }

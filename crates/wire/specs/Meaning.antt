@@ -1,5 +1,7 @@
 -- What the code's statements, messages and answers mean in the words of the rules. Assumes nothing.
-use Prim.Native.Nat.{ℕ}
+use Prim.Native.Nat.{ℕ, _^_, _<_}
+use mathlib.Core.Path.{_≡_}
+use mathlib.Core.Bool.{true}
 use mathlib.Core.Option.{Option, none, some}
 use Rattle.fields.specs.Names.{nameOf}
 use Rattle.rules.specs.Messages as messages
@@ -35,6 +37,18 @@ messageOf (Vote v h b a) = vote v h (nameOf b) a
 messageOf (Blame v a) = blame v a
 messageOf (BlameSet v m) = blameSet v m
 messageOf (Status h b c m) = status h (nameOf b) c m
+
+-- a new-view's link is a certificate view, of 4 bytes
+abbrev pub Linked : Statement → Type 0
+Linked x = x .«is_new_view» ≡ true → nameOf (x .link) < 256 ^ 4
+
+-- every number fits the bytes of its field
+abbrev pub Writable : Message → Type 0
+Writable (Stated x) = Linked x
+Writable (Vote v h b a) = Unit
+Writable (Blame v a) = Unit
+Writable (BlameSet v m) = Unit
+Writable (Status h b c m) = Unit
 
 -- the answer of each case: a message, or refusal 4
 unfoldable pub readOf : Read → Option messages.Message

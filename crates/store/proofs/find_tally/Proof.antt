@@ -1,7 +1,7 @@
 -- `store::find_tally` meets its contract. Assumes nothing.
 use Rattle.store.proofs.Searches.{find-none, find-here, find-next}
 use Rattle.store.proofs.Forms.{form-long, form-tallies}
-use Rattle.store.specs.Search.{firstFrom}
+use Rattle.store.specs.Changes.{firstFrom}
 use Rattle.store.specs.Meaning.{tallyOf}
 use Rattle.store.specs.Decode.{rows, tallyAt, tallies}
 use Rattle.store.specs.Layout.{countOf, tallyTable}
