@@ -106,13 +106,13 @@ pub fn blame_set(s: &[u8], at: usize) -> Read
     ensures { λ r. ⌜ readOf r ≡ bodyAt 5 (now (s .entry)) at ⌝ }
 {
     let view = read_number(s, at, 2, 4);
-    let mask = read_number(s, view.next, 7, 2);
-    if mask.next != s.len() {
+    let blamers = read_number(s, view.next, 7, 2);
+    if blamers.next != s.len() {
         return Read::Unreadable;
     }
     Read::Readable(Message::BlameSet {
         view: view.value as u32,
-        mask: mask.value as u16,
+        mask: blamers.value as u16,
     })
 }
 
