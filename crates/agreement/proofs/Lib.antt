@@ -11,6 +11,5 @@ pub mod Ancestors
 pub mod Needed
 pub mod NoSplit
 pub mod Theorems
-pub mod Stores
 pub mod Checked
 pub mod Examples
