@@ -46,9 +46,9 @@ module _ (s : List ℕ) (bytes : Bytes s) where
       let x = getD s at 0 in
       let e : number s at (suc w) ≡ x * 256 ^ w + number s (suc at) w = number-head s at w in
       let hi : number s at (suc w) / 256 ^ w ≡ x =
-              ap (λ (y : ℕ). y / 256 ^ w) e ∙ mul-add-div-right (pow-pos w) x (number s (suc at) w) ∙ rw (div-eq-of-lt l, add-zero) in
+      ap (λ (y : ℕ). y / 256 ^ w) e ∙ mul-add-div-right (pow-pos w) x (number s (suc at) w) ∙ rw (div-eq-of-lt l, add-zero) in
       let lo : number s at (suc w) % 256 ^ w ≡ number s (suc at) w =
-              ap (λ (y : ℕ). y % 256 ^ w) e ∙ mul-add-mod-self-right x (256 ^ w) (number s (suc at) w) ∙ mod-eq-of-lt l in
+      ap (λ (y : ℕ). y % 256 ^ w) e ∙ mul-add-mod-self-right x (256 ^ w) (number s (suc at) w) ∙ mod-eq-of-lt l in
       ap₂ _∷_ hi (ap (unbe w) lo ∙ unbe-number (suc at) w)
 
   unbe-zero : (w : ℕ) → unbe w 0 ≡ replicate w 0
@@ -92,7 +92,7 @@ module _ (s : List ℕ) (bytes : Bytes s) where
       let q : t .base + t .size * 0 ≡ t .base = omega arith in
       let p : t .size * n + rest ≡ t .size * t .room = omega arith in
       let z : replicate rest 0 ≡ bytesAt s (t .base + t .size * n) rest =
-              sym (unbe-zero rest) ∙ ap (unbe rest) (sym (u .clear)) ∙ unbe-number (t .base + t .size * n) rest in
+      sym (unbe-zero rest) ∙ ap (unbe rest) (sym (u .clear)) ∙ unbe-number (t .base + t .size * n) rest in
       ap₂ _++_ (rows-bytes e f (t .base) (t .size) 0 n (λ k a b. h k (omega arith)) ∙ ap (λ (x : ℕ). bytesAt s x (t .size * n)) q)
       (ap (λ (x : ℕ). replicate (t .size * t .room - t .size * x) 0) (rows-length f 0 n) ∙ z)
       ∙ sym (rows-append (λ i. getD s i 0) (t .base) (t .size * n) rest) ∙ ap (bytesAt s (t .base)) p

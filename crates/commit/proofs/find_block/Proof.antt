@@ -1,0 +1,81 @@
+use Rattle.commit.proofs.Readers.{form-long, form-statements, block-of}
+use Rattle.commit.proofs.Search.{place-none, place-here, place-next}
+use Rattle.commit.specs.Search.{placeFrom}
+use Rattle.store.specs.Decode.{rows, statements, statementAt}
+use Rattle.store.specs.Layout.{statementTable, countOf}
+use Rattle.fields.specs.Names.{nameOf}
+use Rattle.rules.specs.Inputs.{isBlock}
+use native.Mathlib.Nat.{sub-zero}
+use native.Mathlib.Omega.{arith}
+use mathlib.Core.Path.{_≡_, _∙_, sym}
+use Prim.Native.Nat.{_≤_, _-_}
+use borrow.Author.Needs.{needs}
+use Rattle.commit.proofs.find_block.Statement.{statement}
+use Rattle.commit.proofs.find_block.Tie as tie
+use Rattle.commit.proofs.find_block.Reads as reads
+use Rattle.commit.proofs.find_block.Lts as lts
+use Rattle.commit.proofs.is_block.Reads as is-block-reads
+use Rattle.store.proofs.statement_at.Reads as statement-at-reads
+
+abbrev Inv-loop : tie.InvT-loop
+Inv-loop store count height name i₀ i =
+    (i ≤ count) × (placeFrom (isBlock height (nameOf name)) 0 (statements store) ≡ placeFrom (isBlock height (nameOf name)) i (rows (statementAt store) i (count - i)))
+
+abbrev μ-loop : tie.MeasureT-loop
+μ-loop store count height name i₀ i =
+    count - i
+
+-- src/lib.rt:42:5
+loop-holds : tie.Need-loop-holds Inv-loop μ-loop
+unfolding statements
+loop-holds c =
+    (omega arith, rw (c .before .pre .1, sub-zero))
+
+-- src/lib.rt:46:13
+statement-at-requires : tie.Need-statement-at-requires Inv-loop μ-loop
+statement-at-requires c κs =
+    (form-long (c .before .before .before .pre .0), omega (arith, c .before .before .before .pre .1, form-statements (c .before .before .before .pre .0)))
+
+-- src/lib.rt:47:12
+is-block-requires : tie.Need-is-block-requires Inv-loop μ-loop
+is-block-requires c κs = search needs
+
+-- src/lib.rt:50:9
+add-i : tie.Need-add-i Inv-loop μ-loop
+add-i c =
+    omega (arith, c .before .before .before .before .before .before .pre .1, form-statements (c .before .before .before .before .before .before .pre .0))
+
+-- src/lib.rt:42:5
+loop-less : tie.Need-loop-less Inv-loop μ-loop
+loop-less c =
+    omega arith
+
+-- src/lib.rt:42:5
+loop-again : tie.Need-loop-again Inv-loop μ-loop
+loop-again c =
+    (omega arith, c .before .before .before .before .loop .inv .1 ∙ place-next _ _ (c .before .before .before .before .loop .i) (c .before .before .before .before .before .before .args .count) (omega arith) (sym (block-of _ _ _ (c .before .before .statement-at .ensures) _ _) ∙ sym (c .before .is-block .ensures) ∙ c .if2 .left))
+
+-- src/lib.rt:37:1
+returns : tie.Need-returns Inv-loop μ-loop
+returns c =
+    sym (c .before .loop .inv .1 ∙ place-none _ _ (c .before .loop .i) _ (omega arith))
+
+-- src/lib.rt:37:1
+returns-2 : tie.Need-returns-2 Inv-loop μ-loop
+returns-2 c =
+    sym (c .before .before .before .before .loop .inv .1 ∙ place-here _ _ (c .before .before .before .before .loop .i) _ (omega arith) (sym (block-of _ _ _ (c .before .before .statement-at .ensures) _ _) ∙ sym (c .before .is-block .ensures) ∙ c .if2 .taken))
+
+pub find-block-spec : {M : Type 1} → statement M
+find-block-spec =
+    tie.close
+    (tie.spec
+    Inv-loop
+    μ-loop
+    loop-holds
+    statement-at-requires
+    is-block-requires
+    add-i
+    loop-less
+    loop-again
+    returns
+    returns-2)

@@ -1,0 +1,53 @@
+-- Chains and the log of a tick as places of statements in local tables. Assumes nothing.
+use Prim.Native.Nat.{ℕ, zero, suc, _+_, _-_, _<_, _≤_}
+use mathlib.Core.Path.{_≡_}
+use mathlib.Core.Bool.{Bool, true, false, not, _&&_}
+use mathlib.Core.List.{List}
+use mathlib.Core.Option.{Option, none, some}
+use lib.ListN.{getD}
+use lib.Dec.{leb, ltb, eqb}
+use Rattle.rules.specs.Words.{Statement}
+use Rattle.rules.specs.Inputs.{chain}
+use Rattle.store.specs.Layout.{statementTable, logTable, countOf}
+use Rattle.store.specs.Decode.{rows, statementAt, nameAt, statements}
+
+-- the statement whose place stands in a table, and its name
+unfoldable pub statementIn : List ℕ → List ℕ → ℕ → Statement
+statementIn b t k = statementAt b (getD t k 0)
+
+unfoldable pub nameIn : List ℕ → List ℕ → ℕ → ℕ
+unfolding statementIn
+nameIn b t k = statementIn b t k .name
+
+-- the log of a tick: the logged names, and above them those of a table
+unfoldable pub nameSoFar : List ℕ → List ℕ → ℕ → ℕ
+unfolding nameIn
+nameSoFar b t k = elim (ltb k (countOf logTable b)) [ true ↦ nameAt b k | false ↦ nameIn b t k ]
+
+-- the places from one to another are those of stored statements
+abbrev pub Stored : List ℕ → List ℕ → ℕ → ℕ → Type 0
+Stored b t from to = (k : ℕ) → from ≤ k → k < to → getD t k 0 < countOf statementTable b
+
+-- a chain that lacks so many of its lowest names: whole where it lacks none
+abbrev pub lacking : ℕ → List ℕ → Option (List ℕ)
+lacking zero c = some c
+lacking (suc k) c = none
+
+-- a chain of a height was walked down as far as stored statements go: each block in the table has the chain below it
+pub record Walked (b t : List ℕ) (height left : ℕ) : Type 0 where
+  pub stored : Stored b t left height
+  pub chains : (k : ℕ) → left ≤ k → k < height → chain (statements b) (statementIn b t k) ≡ lacking left (rows (nameIn b t) 0 (k + 1))
+
+-- whether the two logs have the same names up to a height
+abbrev pub Agree : (ℕ → ℕ) → (ℕ → ℕ) → ℕ → Bool → Type 0
+Agree f g n true = (k : ℕ) → k < n → f k ≡ g k
+Agree f g n false = (k : ℕ) × (k < n) × (f k ≡ g k → ⊥)
+
+-- a propose of a view, voted for more than so many ticks before a clock
+unfoldable pub isRipe : ℕ → ℕ → ℕ → Statement → Bool
+isRipe view wait now x =
+    not (x .isNewView) && eqb (x .view) view && elim (x .voted) [ none ↦ false | some c ↦ leb (wait + 1) (now - c) ]
+
+-- a propose of a view that was voted for
+unfoldable pub isVoted : ℕ → Statement → Bool
+isVoted view x = not (x .isNewView) && eqb (x .view) view && elim (x .voted) [ none ↦ false | some c ↦ true ]

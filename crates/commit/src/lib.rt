@@ -1,0 +1,52 @@
+// The commit stage of a tick: chains and the log that they make, as places of statements in small local tables.
+// The store is only read; a caller shows that it has the form.
+ghost use mathlib.Core.Path.{_≡_};
+ghost use Prim.Native.Nat.{_<_};
+ghost use Rattle.rules.specs.Inputs.{isBlock};
+ghost use Rattle.fields.specs.Names.{nameOf};
+ghost use Rattle.wire.specs.Meaning.{statementOf};
+ghost use Rattle.store.specs.Layout.{statementTable, countOf};
+ghost use Rattle.store.specs.Decode.{voteOf, statements, Form};
+ghost use Rattle.commit.specs.Search.{placeFrom};
+ghost use mathlib.Core.Option.{none};
+use fields::Name;
+use store::Found;
+use wire::Statement;
+
+// The log is so long now, or a chain differs from it.
+pub enum Merged {
+    Grown(usize),
+    Differs,
+}
+
+// Whether a statement is a propose of the name at the height.
+fn is_block(x: Statement, height: u32, name: Name) -> bool
+    ensures { λ r. ⌜ r ≡ isBlock height (nameOf name) (statementOf x none) ⌝ }
+{
+    if x.is_new_view {
+        return false;
+    }
+    if height != x.height {
+        return false;
+    }
+    let own = x.name;
+    name.same(own)
+}
+
+// The place of the first stored propose of the name at the height.
+pub fn find_block(store: &[u8], count: usize, height: u32, name: Name) -> Found
+    requires { ⌜ (Form (now store)) × (count ≡ countOf statementTable (now store)) ⌝ }
+    ensures { λ r. ⌜ r ≡ placeFrom (isBlock height (nameOf name)) 0 (statements (now (store .entry))) ⌝ }
+{
+    let mut i: usize = 0;
+    loop {
+        if count <= i {
+            break Found::Nothing;
+        }
+        let x = store::statement_at(store, i);
+        if is_block(x, height, name) {
+            break Found::At(i);
+        }
+        i += 1;
+    }
+}
