@@ -1,2 +1,6 @@
 pub mod Search
 pub mod Readers
+pub mod Order
+pub mod Pigeon
+pub mod Joining
+pub mod Walks

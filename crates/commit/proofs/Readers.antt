@@ -7,6 +7,7 @@ use lib.ListN.{length}
 use Rattle.rules.specs.Limits.{mostStatements}
 use Rattle.rules.specs.Words as words
 use Rattle.rules.specs.Inputs.{isBlock}
+use Rattle.fields.specs.Names.{nameOf}
 use Rattle.wire.specs.Meaning.{statementOf}
 use Rattle.wire.specs.declared.Statement.{Statement}
 use Rattle.store.specs.Layout.{statementTable, logTable, storeLength, countOf}
@@ -23,7 +24,21 @@ module _ {b : List ℕ} (f : Form b) where
   pub form-logged : countOf logTable b ≤ mostStatements
   form-logged = parts b (f .form) .log .used .within
 
--- a block is one whether or not it was voted for
-pub block-of : (x : Statement) (v : Option ℕ) (y : words.Statement) → statementOf x v ≡ y → (h n : ℕ) → isBlock h n (statementOf x none) ≡ isBlock h n y
-unfolding isBlock statementOf
-block-of x v y e h n = ap (isBlock h n) e
+-- the parts of a statement that was read
+module _ (x : Statement) (v : Option ℕ) (y : words.Statement) (e : statementOf x v ≡ y) where
+  pub height-of : x .height ≡ y .height
+  unfolding statementOf
+  height-of = ap (λ (s : words.Statement). s .height) e
+
+  pub name-of : nameOf (x .name) ≡ y .name
+  unfolding statementOf
+  name-of = ap (λ (s : words.Statement). s .name) e
+
+  pub link-of : nameOf (x .link) ≡ y .link
+  unfolding statementOf
+  link-of = ap (λ (s : words.Statement). s .link) e
+
+  -- a block is one whether or not it was voted for
+  pub block-of : (h n : ℕ) → isBlock h n (statementOf x none) ≡ isBlock h n y
+  unfolding isBlock statementOf
+  block-of h n = ap (isBlock h n) e

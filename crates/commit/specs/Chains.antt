@@ -38,6 +38,12 @@ pub record Walked (b t : List ℕ) (height left : ℕ) : Type 0 where
   pub stored : Stored b t left height
   pub chains : (k : ℕ) → left ≤ k → k < height → chain (statements b) (statementIn b t k) ≡ lacking left (rows (nameIn b t) 0 (k + 1))
 
+-- the walk from statement i
+pub record WalkedFrom (b t : List ℕ) (i left : ℕ) : Type 0 where
+  pub walked : Walked b t (statementAt b i .height) left
+  pub below : left < statementAt b i .height
+  pub top : getD t (statementAt b i .height - 1) 0 ≡ i
+
 -- whether the two logs have the same names up to a height
 abbrev pub Agree : (ℕ → ℕ) → (ℕ → ℕ) → ℕ → Bool → Type 0
 Agree f g n true = (k : ℕ) → k < n → f k ≡ g k

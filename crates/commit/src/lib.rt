@@ -1,13 +1,16 @@
 // The commit stage of a tick: chains and the log that they make, as places of statements in small local tables.
 // The store is only read; a caller shows that it has the form.
 ghost use mathlib.Core.Path.{_≡_};
-ghost use Prim.Native.Nat.{_<_};
+ghost use lib.ListN.{length};
+ghost use Prim.Native.Nat.{_<_, _≤_};
+ghost use Rattle.rules.specs.Limits.{mostStatements};
 ghost use Rattle.rules.specs.Inputs.{isBlock};
 ghost use Rattle.fields.specs.Names.{nameOf};
 ghost use Rattle.wire.specs.Meaning.{statementOf};
 ghost use Rattle.store.specs.Layout.{statementTable, countOf};
-ghost use Rattle.store.specs.Decode.{voteOf, statements, Form};
+ghost use Rattle.store.specs.Decode.{statements, statementAt, Form};
 ghost use Rattle.commit.specs.Search.{placeFrom};
+ghost use Rattle.commit.specs.Chains.{WalkedFrom};
 ghost use mathlib.Core.Option.{none};
 use fields::Name;
 use store::Found;
@@ -48,5 +51,29 @@ pub fn find_block(store: &[u8], count: usize, height: u32, name: Name) -> Found
             break Found::At(i);
         }
         i += 1;
+    }
+}
+
+// Puts the places of the chain of statement i into the table, from its height down; answers how many of the lowest are not stored.
+fn walk(store: &[u8], count: usize, i: usize, chain: &mut [u8]) -> usize
+    requires { ⌜ (Form (now store)) × (count ≡ countOf statementTable (now store)) × (i < count) × (length (now chain) ≡ mostStatements) × (1 ≤ statementAt (now store) i .height) × (statementAt (now store) i .height ≤ mostStatements) ⌝ }
+    ensures { λ r. ⌜ WalkedFrom (now (store .entry)) (now (chain .exit)) i r ⌝ }
+{
+    let x = store::statement_at(store, i);
+    let height = x.height as usize;
+    let mut k = height - 1;
+    chain[k] = i as u8;
+    let mut link = x.link;
+    loop {
+        if k == 0 {
+            break k;
+        }
+        let Found::At(p) = find_block(store, count, k as u32, link) else {
+            break k;
+        };
+        k -= 1;
+        chain[k] = p as u8;
+        let parent = store::statement_at(store, p);
+        link = parent.link;
     }
 }
