@@ -4,3 +4,4 @@ pub mod Order
 pub mod Pigeon
 pub mod Joining
 pub mod Walks
+pub mod Voting

@@ -9,7 +9,7 @@ use lib.Dec.{leb, ltb, eqb}
 use Rattle.rules.specs.Words.{Statement}
 use Rattle.rules.specs.Inputs.{chain}
 use Rattle.store.specs.Layout.{statementTable, logTable, countOf}
-use Rattle.store.specs.Decode.{rows, statementAt, nameAt, statements}
+use Rattle.store.specs.Decode.{voteNumber, rows, statementAt, nameAt, statements}
 
 -- the statement whose place stands in a table, and its name
 unfoldable pub statementIn : List ℕ → List ℕ → ℕ → Statement
@@ -49,11 +49,19 @@ abbrev pub Agree : (ℕ → ℕ) → (ℕ → ℕ) → ℕ → Bool → Type 0
 Agree f g n true = (k : ℕ) → k < n → f k ≡ g k
 Agree f g n false = (k : ℕ) × (k < n) × (f k ≡ g k → ⊥)
 
--- a propose of a view, voted for more than so many ticks before a clock
+-- the vote's number of a propose of a view; 0 of any other statement
+abbrev pub voteIf : Bool → Option ℕ → ℕ
+voteIf true v = voteNumber v
+voteIf false v = 0
+
+unfoldable pub voteIn : ℕ → Statement → ℕ
+voteIn view x = voteIf (not (x .isNewView) && eqb (x .view) view) (x .voted)
+
+-- a propose of a view that was voted for, as rules' `votes` counts them
+unfoldable pub isVoted : ℕ → Statement → Bool
+isVoted view x = not (x .isNewView) && eqb (x .view) view && elim (x .voted) [ none ↦ false | some c ↦ true ]
+
+-- a propose of a view that was voted for more than `wait` ticks before `now`, as rules' `isDue` has it in a view
 unfoldable pub isRipe : ℕ → ℕ → ℕ → Statement → Bool
 isRipe view wait now x =
     not (x .isNewView) && eqb (x .view) view && elim (x .voted) [ none ↦ false | some c ↦ leb (wait + 1) (now - c) ]
-
--- a propose of a view that was voted for
-unfoldable pub isVoted : ℕ → Statement → Bool
-isVoted view x = not (x .isNewView) && eqb (x .view) view && elim (x .voted) [ none ↦ false | some c ↦ true ]

@@ -1,3 +1,3 @@
 pub mod Search
 pub mod Chains
-pub mod Commits
+pub mod Outcome

@@ -4,16 +4,18 @@ ghost use mathlib.Core.Path.{_≡_};
 ghost use lib.ListN.{length};
 ghost use Prim.Native.Nat.{_<_, _≤_};
 ghost use Rattle.rules.specs.Limits.{mostStatements};
-ghost use Rattle.rules.specs.Inputs.{isBlock};
+ghost use Rattle.rules.specs.Inputs.{isBlock, votes};
+ghost use Rattle.fields.specs.Records.{fields};
 ghost use Rattle.fields.specs.Names.{nameOf};
 ghost use Rattle.wire.specs.Meaning.{statementOf};
-ghost use Rattle.store.specs.Layout.{statementTable, countOf};
-ghost use Rattle.store.specs.Decode.{statements, statementAt, Form};
+ghost use Rattle.store.specs.Layout.{headerFormat, statementTable, storeLength, countOf};
+ghost use Rattle.store.specs.Decode.{statements, statementAt, stateOf, Form};
+ghost use Rattle.store.specs.Meaning.{headerOf};
 ghost use Rattle.commit.specs.Search.{placeFrom};
-ghost use Rattle.commit.specs.Chains.{WalkedFrom};
+ghost use Rattle.commit.specs.Chains.{voteIn, WalkedFrom};
 ghost use mathlib.Core.Option.{none};
 use fields::Name;
-use store::Found;
+use store::{Found, Station};
 use wire::Statement;
 
 // The log is so long now, or a chain differs from it.
@@ -75,5 +77,40 @@ fn walk(store: &[u8], count: usize, i: usize, chain: &mut [u8]) -> usize
         chain[k] = p as u8;
         let parent = store::statement_at(store, p);
         link = parent.link;
+    }
+}
+
+// The number of the own vote for statement i, if it is a propose of the view; else 0.
+fn vote_in(store: &[u8], i: usize, view: u32) -> u32
+    requires { ⌜ (length (now store) ≡ storeLength) × (i < mostStatements) ⌝ }
+    ensures { λ r. ⌜ r ≡ voteIn view (statementAt (now (store .entry)) i) ⌝ }
+{
+    let x = store::statement_at(store, i);
+    if x.is_new_view {
+        return 0;
+    }
+    if x.view != view {
+        return 0;
+    }
+    store::voted_at(store, i)
+}
+
+// How many proposes of the view were voted for.
+pub fn votes(store: &[u8], station: Station) -> usize
+    requires { ⌜ (Form (now store)) × (headerOf station ≡ fields (now store) 0 headerFormat) ⌝ }
+    ensures { λ r. ⌜ r ≡ votes (stateOf (now (store .entry))) ⌝ }
+{
+    let view = station.view;
+    let mut i = station.statements;
+    let mut n: usize = 0;
+    loop {
+        if i == 0 {
+            break n;
+        }
+        i -= 1;
+        if vote_in(store, i, view) == 0 {
+            continue;
+        }
+        n += 1;
     }
 }
