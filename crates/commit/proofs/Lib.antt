@@ -5,3 +5,4 @@ pub mod Pigeon
 pub mod Joining
 pub mod Walks
 pub mod Voting
+pub mod Places

@@ -4,12 +4,13 @@ use mathlib.Core.Path.{_≡_}
 use mathlib.Core.Bool.{Bool, true, false, not, _&&_}
 use mathlib.Core.List.{List}
 use mathlib.Core.Option.{Option, none, some}
-use lib.ListN.{getD}
+use lib.ListN.{length, getD}
 use lib.Dec.{leb, ltb, eqb}
+use Rattle.rules.specs.Limits.{mostStatements}
 use Rattle.rules.specs.Words.{Statement}
 use Rattle.rules.specs.Inputs.{chain}
 use Rattle.store.specs.Layout.{statementTable, logTable, countOf}
-use Rattle.store.specs.Decode.{voteNumber, rows, statementAt, nameAt, statements}
+use Rattle.store.specs.Decode.{voteNumber, rows, statementAt, nameAt, statements, Form}
 
 -- the statement whose place stands in a table, and its name
 unfoldable pub statementIn : List ℕ → List ℕ → ℕ → Statement
@@ -43,6 +44,28 @@ pub record WalkedFrom (b t : List ℕ) (i left : ℕ) : Type 0 where
   pub walked : Walked b t (statementAt b i .height) left
   pub below : left < statementAt b i .height
   pub top : getD t (statementAt b i .height - 1) 0 ≡ i
+
+-- a place of the table is that of statement i, and its chain goes down as far as the walk did
+abbrev pub Settled : List ℕ → ℕ → ℕ → ℕ → ℕ → Bool → Type 0
+Settled t height left own i true = (left < own) × (own ≤ height) × (getD t (own - 1) 0 ≡ i)
+Settled t height left own i false = Unit {0}
+
+-- the places from one to another are those of another table
+pub record Copied (from to left : List ℕ) (start end : ℕ) : Type 0 where
+  pub below : (k : ℕ) → k < start → getD left k 0 ≡ getD to k 0
+  pub within : (k : ℕ) → start ≤ k → k < end → getD left k 0 ≡ getD from k 0
+
+-- a whole chain of a height, and the log so far
+pub record Ready (b gained chain : List ℕ) (logged len height : ℕ) : Type 0 where
+  pub form : Form b
+  pub old : logged ≡ countOf logTable b
+  pub more : logged ≤ len
+  pub fits : len ≤ mostStatements
+  pub long : length gained ≡ mostStatements
+  pub gains : Stored b gained logged len
+  pub high : height ≤ mostStatements
+  pub whole : length chain ≡ mostStatements
+  pub blocks : Stored b chain 0 height
 
 -- whether the two logs have the same names up to a height
 abbrev pub Agree : (ℕ → ℕ) → (ℕ → ℕ) → ℕ → Bool → Type 0

@@ -1,18 +1,19 @@
 // The commit stage of a tick: chains and the log that they make, as places of statements in small local tables.
 // The store is only read; a caller shows that it has the form.
 ghost use mathlib.Core.Path.{_≡_};
-ghost use lib.ListN.{length};
-ghost use Prim.Native.Nat.{_<_, _≤_};
+ghost use lib.ListN.{length, getD};
+ghost use Prim.Native.Nat.{_<_, _≤_, _^_};
 ghost use Rattle.rules.specs.Limits.{mostStatements};
 ghost use Rattle.rules.specs.Inputs.{isBlock, votes};
 ghost use Rattle.fields.specs.Records.{fields};
 ghost use Rattle.fields.specs.Names.{nameOf};
 ghost use Rattle.wire.specs.Meaning.{statementOf};
-ghost use Rattle.store.specs.Layout.{headerFormat, statementTable, storeLength, countOf};
+ghost use Rattle.store.specs.Layout.{headerFormat, statementTable, logTable, storeLength, countOf};
 ghost use Rattle.store.specs.Decode.{statements, statementAt, stateOf, Form};
 ghost use Rattle.store.specs.Meaning.{headerOf};
 ghost use Rattle.commit.specs.Search.{placeFrom};
-ghost use Rattle.commit.specs.Chains.{voteIn, WalkedFrom};
+ghost use Rattle.commit.specs.Chains.{nameIn, nameSoFar, Stored, voteIn, isRipe, WalkedFrom, Settled, Copied, Ready, Agree};
+ghost use Rattle.commit.specs.Outcome.{JoinedWith};
 ghost use mathlib.Core.Option.{none};
 use fields::Name;
 use store::{Found, Station};
@@ -113,4 +114,100 @@ pub fn votes(store: &[u8], station: Station) -> usize
         }
         n += 1;
     }
+}
+
+// Whether statement i is a propose of the view that was voted for more than `wait` ticks ago.
+fn is_due(store: &[u8], i: usize, view: u32, wait: u64, clock: u64) -> bool
+    requires { ⌜ (length (now store) ≡ storeLength) × (i < mostStatements) × (wait < 2 ^ 32) ⌝ }
+    ensures { λ r. ⌜ r ≡ isRipe view wait clock (statementAt (now (store .entry)) i) ⌝ }
+{
+    let vote = vote_in(store, i, view);
+    if vote == 0 {
+        return false;
+    }
+    vote as u64 + wait <= clock
+}
+
+// The place that stands in a table.
+fn place_in(table: &[u8], k: usize) -> usize
+    requires { ⌜ k < length (now table) ⌝ }
+    ensures { λ r. ⌜ r ≡ getD (now (table .entry)) k 0 ⌝ }
+{
+    table[k] as usize
+}
+
+// The name of the statement whose place stands in a table.
+fn name_in(store: &[u8], table: &[u8], k: usize) -> Name
+    requires { ⌜ (length (now store) ≡ storeLength) × (k < length (now table)) × (getD (now table) k 0 < mostStatements) ⌝ }
+    ensures { λ r. ⌜ nameOf r ≡ nameIn (now (store .entry)) (now (table .entry)) k ⌝ }
+{
+    let x = store::statement_at(store, place_in(table, k));
+    x.name
+}
+
+// The name at height k + 1 of the log so far.
+fn name_so_far(store: &[u8], logged: usize, gained: &[u8], k: usize) -> Name
+    requires { ⌜ (length (now store) ≡ storeLength) × (logged ≡ countOf logTable (now store)) × (k < mostStatements) × (k < length (now gained)) × (logged ≤ k → getD (now gained) k 0 < mostStatements) ⌝ }
+    ensures { λ r. ⌜ nameOf r ≡ nameSoFar (now (store .entry)) (now (gained .entry)) k ⌝ }
+{
+    if k < logged {
+        return store::name_at(store, k);
+    }
+    name_in(store, gained, k)
+}
+
+// Whether the chain and the log so far have the same names up to a height.
+fn agrees(store: &[u8], logged: usize, len: usize, gained: &[u8], chain: &[u8], height: usize, end: usize) -> bool
+    requires { ⌜ (Ready (now store) (now gained) (now chain) logged len height) × (end ≤ len) × (end ≤ height) ⌝ }
+    ensures { λ r. ⌜ Agree (nameIn (now (store .entry)) (now (chain .entry))) (nameSoFar (now (store .entry)) (now (gained .entry))) end r ⌝ }
+{
+    let mut k: usize = 0;
+    loop {
+        if end <= k {
+            break true;
+        }
+        let own = name_in(store, chain, k);
+        let old = name_so_far(store, logged, gained, k);
+        if !own.same(old) {
+            break false;
+        }
+        k += 1;
+    }
+}
+
+// Copies the places from one height up to another.
+fn copy_places(from: &[u8], to: &mut [u8], start: usize, end: usize)
+    requires { ⌜ (end ≤ length (now from)) × (end ≤ length (now to)) ⌝ }
+    ensures { λ _. ⌜ Copied (now (from .entry)) (now (to .entry)) (now (to .exit)) start end ⌝ }
+{
+    let mut k = start;
+    while k < end {
+        to[k] = from[k];
+        k += 1;
+    }
+}
+
+// The smaller of two numbers.
+fn least(a: usize, b: usize) -> usize
+    ensures { λ r. ⌜ (r ≤ a) × (r ≤ b) × (a ≤ b → a ≤ r) × (b ≤ a → b ≤ r) ⌝ }
+{
+    if a < b {
+        return a;
+    }
+    b
+}
+
+// A whole chain joins the log so far.
+fn join(store: &[u8], logged: usize, len: usize, gained: &mut [u8], chain: &[u8], height: usize) -> Merged
+    requires { ⌜ Ready (now store) (now gained) (now chain) logged len height ⌝ }
+    ensures { λ r. ⌜ JoinedWith (now (store .entry)) (now (gained .entry)) (now (gained .exit)) (now (chain .entry)) height len r ⌝ }
+{
+    if !agrees(store, logged, len, gained, chain, height, least(height, len)) {
+        return Merged::Differs;
+    }
+    if height <= len {
+        return Merged::Grown(len);
+    }
+    copy_places(chain, gained, len, height);
+    Merged::Grown(height)
 }
