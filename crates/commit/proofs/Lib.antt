@@ -6,3 +6,4 @@ pub mod Joining
 pub mod Walks
 pub mod Voting
 pub mod Places
+pub mod Course

@@ -74,11 +74,11 @@ swap (x ∷ a) (y ∷ b) (z ∷ l) =
 
 -- ---- the order of the due blocks
 
-module _ (xs : List Statement) where
-  abbrev bind : Option (List ℕ) → (List ℕ → Option (List ℕ)) → Option (List ℕ)
-  bind none f = none
-  bind (some l) f = f l
+abbrev pub bind : Option (List ℕ) → (List ℕ → Option (List ℕ)) → Option (List ℕ)
+bind none f = none
+bind (some l) f = f l
 
+module _ (xs : List Statement) where
   one : (x : Statement) (o c : Option (List ℕ)) → chain xs x ≡ c → bind o (commit xs x) ≡ elim c [ none ↦ o | some k ↦ then o k ]
   unfolding commit
   one x none none e = refl

@@ -1,5 +1,5 @@
 -- Chains and the log of a tick as places of statements in local tables. Assumes nothing.
-use Prim.Native.Nat.{ℕ, zero, suc, _+_, _-_, _<_, _≤_}
+use Prim.Native.Nat.{ℕ, zero, suc, _+_, _-_, _^_, _<_, _≤_}
 use mathlib.Core.Path.{_≡_}
 use mathlib.Core.Bool.{Bool, true, false, not, _&&_}
 use mathlib.Core.List.{List}
@@ -54,6 +54,16 @@ Settled t height left own i false = Unit {0}
 pub record Copied (from to left : List ℕ) (start end : ℕ) : Type 0 where
   pub below : (k : ℕ) → k < start → getD left k 0 ≡ getD to k 0
   pub within : (k : ℕ) → start ≤ k → k < end → getD left k 0 ≡ getD from k 0
+
+-- before any due block: the store, its counts, and two tables to work in
+pub record Begun (b gained chain : List ℕ) (count logged wait : ℕ) : Type 0 where
+  pub form : Form b
+  pub all : count ≡ countOf statementTable b
+  pub old : logged ≡ countOf logTable b
+  pub long : length gained ≡ mostStatements
+  pub whole : length chain ≡ mostStatements
+  pub heights : (i : ℕ) → i < count → statementAt b i .isNewView ≡ false → 1 ≤ statementAt b i .height
+  pub short : wait < 2 ^ 32
 
 -- a whole chain of a height, and the log so far
 pub record Ready (b gained chain : List ℕ) (logged len height : ℕ) : Type 0 where

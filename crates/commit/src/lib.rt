@@ -3,20 +3,24 @@
 ghost use mathlib.Core.Path.{_≡_};
 ghost use lib.ListN.{length, getD};
 ghost use Prim.Native.Nat.{_<_, _≤_, _^_};
+ghost use Rattle.rules.specs.Lists.{keep};
 ghost use Rattle.rules.specs.Limits.{mostStatements};
-ghost use Rattle.rules.specs.Inputs.{isBlock, votes};
+ghost use mathlib.Core.Bool.{true};
+ghost use Rattle.rules.specs.WellFormed.{wellFormed};
+ghost use Rattle.rules.specs.Inputs.{isBlock, commits, votes};
 ghost use Rattle.fields.specs.Records.{fields};
 ghost use Rattle.fields.specs.Names.{nameOf};
 ghost use Rattle.wire.specs.Meaning.{statementOf};
 ghost use Rattle.store.specs.Layout.{headerFormat, statementTable, logTable, storeLength, countOf};
-ghost use Rattle.store.specs.Decode.{statements, statementAt, stateOf, Form};
+ghost use Rattle.store.specs.Decode.{statements, statementAt, names, stateOf, Form};
 ghost use Rattle.store.specs.Meaning.{headerOf};
 ghost use Rattle.commit.specs.Search.{placeFrom};
-ghost use Rattle.commit.specs.Chains.{nameIn, nameSoFar, Stored, voteIn, isRipe, WalkedFrom, Settled, Copied, Ready, Agree};
-ghost use Rattle.commit.specs.Outcome.{JoinedWith};
+ghost use Rattle.commit.specs.Chains.{nameIn, nameSoFar, Stored, voteIn, isRipe, WalkedFrom, Settled, Copied, Begun, Ready, Agree};
+ghost use Rattle.commit.specs.Outcome.{Joined, JoinedWith, Committed};
 ghost use mathlib.Core.Option.{none};
 use fields::Name;
-use store::{Found, Station};
+use settings::Settings;
+use store::{Found, Phase, Station};
 use wire::Statement;
 
 // The log is so long now, or a chain differs from it.
@@ -210,4 +214,75 @@ fn join(store: &[u8], logged: usize, len: usize, gained: &mut [u8], chain: &[u8]
     }
     copy_places(chain, gained, len, height);
     Merged::Grown(height)
+}
+
+// Whether the last walk went through statement i, of the height `own`: its place stands in the table.
+fn is_settled(chain: &[u8], height: usize, left: usize, own: usize, i: usize) -> bool
+    requires { ⌜ height ≤ length (now chain) ⌝ }
+    ensures { λ r. ⌜ Settled (now (chain .entry)) height left own i r ⌝ }
+{
+    if own <= left {
+        return false;
+    }
+    if height < own {
+        return false;
+    }
+    if place_in(chain, own - 1) != i {
+        return false;
+    }
+    true
+}
+
+// The chains of the due statements join the log, from the last place down: a later walk mostly goes through the earlier ones.
+fn commit_due(store: &[u8], count: usize, logged: usize, view: u32, wait: u64, clock: u64, gained: &mut [u8], chain: &mut [u8]) -> Merged
+    requires { ⌜ Begun (now store) (now gained) (now chain) count logged wait ⌝ }
+    ensures { λ r. ⌜ Joined (commits (statements (now (store .entry))) (keep (isRipe view wait clock) (statements (now (store .entry)))) (names (now (store .entry)))) (now (store .entry)) (now (gained .exit)) r ⌝ }
+{
+    let mut i = count;
+    let mut len = logged;
+    let mut height: usize = 0;
+    let mut left: usize = 0;
+    loop {
+        if i == 0 {
+            break Merged::Grown(len);
+        }
+        i -= 1;
+        if !is_due(store, i, view, wait, clock) {
+            continue;
+        }
+        let x = store::statement_at(store, i);
+        let own = x.height as usize;
+        if count < own {
+            continue;
+        }
+        if is_settled(chain, height, left, own, i) {
+            continue;
+        }
+        left = walk(store, count, i, chain);
+        height = own;
+        if left != 0 {
+            continue;
+        }
+        let Merged::Grown(m) = join(store, logged, len, gained, chain, height) else {
+            break Merged::Differs;
+        };
+        len = m;
+    }
+}
+
+// The commit stage of a tick from this store: the new log's length, its new names by place in the table, or refusal 7.
+pub fn commits(store: &[u8], station: Station, gained: &mut [u8]) -> Merged
+    requires { ⌜ (Form (now store)) × (wellFormed (stateOf (now store)) ≡ true) × (headerOf station ≡ fields (now store) 0 headerFormat) × (length (now gained) ≡ mostStatements) ⌝ }
+    ensures { λ r. ⌜ Committed (now (store .entry)) (now (gained .exit)) r ⌝ }
+{
+    let logged = station.logged;
+    let phase = station.phase;
+    let Phase::InView = phase else {
+        return Merged::Grown(logged);
+    };
+    let settings = station.settings;
+    let wait = 2 * settings.delay;
+    let clock = station.clock as u64 + 1;
+    let mut chain = [0u8; Settings::MOST_STATEMENTS];
+    commit_due(store, station.statements, logged, station.view, wait, clock, gained, &mut chain)
 }
