@@ -10,7 +10,8 @@ enum-told c = search needs
 
 -- src/lib.rt:281:9
 returns : tie.Need-returns
-returns c = ?
+returns c =
+    let g : Unit {0} = c .match in ?a
 
 -- src/lib.rt:284:16
 mul-wait : tie.Need-mul-wait
