@@ -7,6 +7,7 @@ use native.Mathlib.Omega.{arith}
 use lib.ListN.{length}
 use lib.Dec.{leb, eqb}
 use borrow.Author.Tests.{eqb-true, leb-true, eq-eqb, le-leb}
+use Rattle.rules.specs.Limits.{mostStatements, mostTallies}
 use Rattle.rules.specs.Lists.{all, within}
 use Rattle.rules.specs.Words.{Statement, Tally, State}
 use Rattle.rules.proofs.Tests.{and-left, and-right}
@@ -96,3 +97,16 @@ left {b} bytes long eh x t em l k = record {
   form = record { bytes = bytes; form = has-form b long (x .used) (t .used) (l .used) k };
   is = λ i. stateFrom (eh i) (x .is i) (t .is i) (em i) (l .is i);
 }
+
+-- the form, by name
+pub form-long : (b : List ℕ) → Form b → length b ≡ storeLength
+form-long b k = parts b (k .form) .long
+
+pub form-statements : (b : List ℕ) → Form b → countOf statementTable b ≤ mostStatements
+form-statements b k = parts b (k .form) .statements .used .within
+
+pub form-tallies : (b : List ℕ) → Form b → countOf tallyTable b ≤ mostTallies
+form-tallies b k = parts b (k .form) .tallies .used .within
+
+pub form-log : (b : List ℕ) → Form b → countOf logTable b ≤ mostStatements
+form-log b k = parts b (k .form) .log .used .within

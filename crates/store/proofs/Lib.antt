@@ -6,3 +6,11 @@ pub mod Tables
 pub mod Forms
 pub mod Pieces
 pub mod Encoded
+pub mod ReadBack
+pub mod Decoded
+pub mod OneForm
+pub mod Writes
+pub mod Changes
+pub mod Searches
+pub mod Joining
+pub mod Sized

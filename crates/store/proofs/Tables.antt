@@ -97,9 +97,8 @@ module _ {A : Type 0} (t : Table) (f : List ℕ → ℕ → A) (local : Local (t
   fills = mul-le-mul-left (t .size) (h .used .within)
 
   -- neither the count nor a record is written
-  pub holds-same : SameIn b b′ (t .countAt) (t .countAt + 2) → SameIn b b′ (t .base) rooms → Holds t f b′ xs
-  holds-same n s =
-      let e = n .same (t .countAt) 2 (omega arith) (omega arith) in
+  pub holds-same : countOf t b′ ≡ c → SameIn b b′ (t .base) rooms → Holds t f b′ xs
+  holds-same e s =
       let m = fills in
       record {
         used = used-same t b b′ (h .used) e (part s (omega arith) (omega arith));
@@ -107,10 +106,9 @@ module _ {A : Type 0} (t : Table) (f : List ℕ → ℕ → A) (local : Local (t
       }
 
   -- record j is written
-  pub holds-set : (j : ℕ) (x : A) → j < c → f b′ j ≡ x → SameIn b b′ (t .countAt) (t .countAt + 2) → SameIn b b′ (t .base) (placeOf t j)
+  pub holds-set : (j : ℕ) (x : A) → j < c → f b′ j ≡ x → countOf t b′ ≡ c → SameIn b b′ (t .base) (placeOf t j)
       → SameIn b b′ (placeOf t j + t .size) rooms → Holds t f b′ (set xs j x)
-  holds-set j x l q n low high =
-      let e = n .same (t .countAt) 2 (omega arith) (omega arith) in
+  holds-set j x l q e low high =
       let m = fills in
       let k = before (t .size) j c l in
       record {

@@ -1,15 +1,22 @@
 // The lent store: one byte slice of one exact length, the bytes of a well-formed state in one way only.
 ghost use mathlib.Core.Path.{_≡_};
-ghost use Prim.Native.Nat.{_+_, _^_, _≤_, _<_};
+ghost use Prim.Native.Nat.{_+_, _*_, _^_, _≤_, _<_};
+ghost use mathlib.Core.Bool.{_&&_};
+ghost use mathlib.Core.Option.{none};
 ghost use lib.ListN.{length};
-ghost use Rattle.rules.specs.Limits.{lastView, mostStatements, mostTallies};
+ghost use lib.Dec.{eqb};
+ghost use Rattle.rules.specs.Limits.{lastView, mostStatements, mostTallies, lastClock, maskBits};
+ghost use Rattle.rules.specs.Sizes.{only};
+ghost use Rattle.rules.specs.Words.{sameStatement, sameBlock, grown, join, joinCertificate};
+ghost use Rattle.rules.specs.Inputs.{withPhase, withClock, blamed};
 ghost use Rattle.fields.specs.Names.{nameOf};
-ghost use Rattle.fields.specs.Places.{number};
-ghost use Rattle.fields.specs.Records.{fields};
+ghost use Rattle.fields.specs.Places.{number, put as written};
+ghost use Rattle.fields.specs.Records.{fields, puts};
 ghost use Rattle.wire.specs.Meaning.{statementOf};
-ghost use Rattle.store.specs.Layout.{headerFormat, tallyFormat, storeLength};
-ghost use Rattle.store.specs.Decode.{phaseOf, tallyFrom, statementAt, tallyAt, blameAt, nameAt, kindAt, voteAt};
+ghost use Rattle.store.specs.Layout.{headerFormat, statementFormat, tallyFormat, statementTable, tallyTable, logTable, storeLength, countOf};
+ghost use Rattle.store.specs.Decode.{phaseOf, phaseNumber, kindNumber, statementValues, tallyFrom, tallyValues, statementAt, tallyAt, blameAt, nameAt, kindAt, voteAt, statements, tallies, stateOf, Form, Left};
 ghost use Rattle.store.specs.Meaning.{courseOf, tallyOf, headerOf};
+ghost use Rattle.store.specs.Changes.{firstFrom, growing, opening, joining, certifying, storing, noting, appending};
 use fields::Name;
 use settings::Settings;
 use wire::Statement;
@@ -233,6 +240,270 @@ pub fn name_at(store: &[u8], i: usize) -> Name
     ensures { λ r. ⌜ nameOf r ≡ nameAt (now (store .entry)) i ⌝ }
 {
     fields::get_name(store, LOG + NAME_SIZE * i)
+}
+
+// The phase's number.
+fn phase_number(phase: Phase) -> u64
+    ensures { λ r. ⌜ r ≡ phaseNumber (courseOf phase) ⌝ }
+{
+    match phase {
+        Phase::InView => 0,
+        Phase::Waiting(quit) => 4 + quit as u64,
+        Phase::Stopped(cause) => match cause {
+            Cause::Full => 1,
+            Cause::Split => 2,
+            Cause::Clock => 3,
+        },
+    }
+}
+
+impl Tally {
+    // The tally with a voter's bit joined.
+    pub fn with_voter(self, station: u64) -> Tally
+        requires { ⌜ station < maskBits ⌝ }
+        ensures { λ r. ⌜ tallyOf r ≡ grown (tallyOf self) (only station) ⌝ }
+    {
+        self.grown(settings::only(station) as u16)
+    }
+
+    // The tally with a mask joined.
+    pub fn grown(self, mask: u16) -> Tally
+        ensures { λ r. ⌜ tallyOf r ≡ grown (tallyOf self) mask ⌝ }
+    {
+        let mut tally = self;
+        tally.mask = tally.mask | mask;
+        tally
+    }
+}
+
+// A block's view and height as one number of eight bytes.
+fn key_of(view: u32, height: u32) -> u64
+    ensures { λ r. ⌜ r ≡ view * 256 ^ 4 + height ⌝ }
+{
+    (view as u64) * 4_294_967_296 + height as u64
+}
+
+// Whether the record at a place is of this block; its name is looked at only where view and height agree.
+fn is_block(store: &[u8], at: usize, key: u64, name: Name) -> bool
+    requires { ⌜ at + 40 ≤ length (now store) ⌝ }
+    ensures { λ r. ⌜ r ≡ (eqb key (number (now (store .entry)) at 8) && eqb (nameOf name) (number (now (store .entry)) (at + 8) 32)) ⌝ }
+{
+    if key != fields::get(store, at, 8) {
+        return false;
+    }
+    name.same(fields::get_name(store, at + NAME))
+}
+
+// Whether tally i is of the same block.
+fn is_tally(store: &[u8], i: usize, tally: Tally) -> bool
+    requires { ⌜ (length (now store) ≡ storeLength) × (i < mostTallies) ⌝ }
+    ensures { λ r. ⌜ r ≡ sameBlock (tallyOf tally) (tallyAt (now (store .entry)) i) ⌝ }
+{
+    is_block(
+        store,
+        TALLIES + TALLY_SIZE * i,
+        key_of(tally.view, tally.height),
+        tally.name,
+    )
+}
+
+// The place of the first tally of the same block.
+pub fn find_tally(store: &[u8], tally: Tally) -> Found
+    requires { ⌜ Form (now store) ⌝ }
+    ensures { λ r. ⌜ r ≡ firstFrom (sameBlock (tallyOf tally)) 0 (tallies (now (store .entry))) ⌝ }
+{
+    let count = get_count(store, TALLY_COUNT);
+    let mut i: usize = 0;
+    loop {
+        if count <= i {
+            break Found::Nothing;
+        }
+        if is_tally(store, i, tally) {
+            break Found::At(i);
+        }
+        i += 1;
+    }
+}
+
+// Whether statement i is the same as this one, but for the mask.
+fn is_statement(store: &[u8], i: usize, statement: Statement) -> bool
+    requires { ⌜ (length (now store) ≡ storeLength) × (i < mostStatements) ⌝ }
+    ensures { λ r. ⌜ r ≡ sameStatement (statementOf statement none) (statementAt (now (store .entry)) i) ⌝ }
+{
+    let key = key_of(statement.view, statement.height);
+    if !is_block(store, STATEMENTS + STATEMENT_SIZE * i, key, statement.name) {
+        return false;
+    }
+    let other = statement_at(store, i);
+    if statement.is_new_view != other.is_new_view {
+        return false;
+    }
+    if statement.author != other.author {
+        return false;
+    }
+    statement.link.same(other.link)
+}
+
+// The place of the first statement that is the same.
+pub fn find_statement(store: &[u8], statement: Statement) -> Found
+    requires { ⌜ Form (now store) ⌝ }
+    ensures { λ r. ⌜ r ≡ firstFrom (sameStatement (statementOf statement none)) 0 (statements (now (store .entry))) ⌝ }
+{
+    let count = get_count(store, STATEMENT_COUNT);
+    let mut i: usize = 0;
+    loop {
+        if count <= i {
+            break Found::Nothing;
+        }
+        if is_statement(store, i, statement) {
+            break Found::At(i);
+        }
+        i += 1;
+    }
+}
+
+// Writes a block's view, height and name to a record.
+fn put_block(store: &mut [u8], at: usize, view: u32, height: u32, name: Name)
+    requires { ⌜ at + 40 ≤ length (now store) ⌝ }
+    ensures { λ _. ⌜ now (store .exit) ≡ written (written (written (now (store .entry)) (at + 0) 4 view) (at + 4) 4 height) (at + 8) 32 (nameOf name) ⌝ }
+{
+    fields::put(store, at + VIEW, 4, view as u64);
+    fields::put(store, at + HEIGHT, 4, height as u64);
+    fields::put_name(store, at + NAME, name);
+}
+
+// Writes a tally's record.
+fn put_tally(store: &mut [u8], at: usize, tally: Tally)
+    requires { ⌜ at + 42 ≤ length (now store) ⌝ }
+    ensures { λ _. ⌜ now (store .exit) ≡ puts (now (store .entry)) at tallyFormat (tallyValues (tallyOf tally)) ⌝ }
+{
+    put_block(store, at, tally.view, tally.height, tally.name);
+    fields::put(store, at + VOTERS, 2, tally.mask as u64);
+}
+
+// A kind's number, as on the wire.
+fn kind_number(is_new_view: bool) -> u64
+    ensures { λ r. ⌜ r ≡ kindNumber «is_new_view» ⌝ }
+{
+    if is_new_view { 1 } else { 2 }
+}
+
+// Writes a statement's record, not voted for.
+fn put_statement(store: &mut [u8], at: usize, statement: Statement)
+    requires { ⌜ at + 80 ≤ length (now store) ⌝ }
+    ensures { λ _. ⌜ now (store .exit) ≡ puts (now (store .entry)) at statementFormat (statementValues (statementOf statement none)) ⌝ }
+{
+    let kind = kind_number(statement.is_new_view);
+    put_block(store, at, statement.view, statement.height, statement.name);
+    fields::put(store, at + KIND, 1, kind);
+    fields::put(store, at + AUTHOR, 1, statement.author as u64);
+    fields::put(store, at + MASK, 2, statement.mask as u64);
+    fields::put_name(store, at + LINK, statement.link);
+    fields::put(store, at + VOTE, 4, 0);
+}
+
+// A statement is stored behind the others.
+pub fn append_statement(store: &mut [u8], statement: Statement)
+    requires { ⌜ (Form (now store)) × (countOf statementTable (now store) < mostStatements) ⌝ }
+    ensures { λ _. ⌜ Left (now (store .exit)) (storing (statementOf statement none) (stateOf (now (store .entry)))) ⌝ }
+{
+    let count = get_count(store, STATEMENT_COUNT);
+    put_statement(store, STATEMENTS + STATEMENT_SIZE * count, statement);
+    fields::put(store, STATEMENT_COUNT, 2, (count + 1) as u64);
+}
+
+// The own vote for statement i notes the clock.
+pub fn note_vote(store: &mut [u8], i: usize, clock: u32)
+    requires { ⌜ (Form (now store)) × (i < countOf statementTable (now store)) × (clock ≤ lastClock) ⌝ }
+    ensures { λ _. ⌜ Left (now (store .exit)) (noting i clock (stateOf (now (store .entry)))) ⌝ }
+{
+    fields::put(
+        store,
+        STATEMENTS + STATEMENT_SIZE * i + VOTE,
+        4,
+        clock as u64 + 1,
+    );
+}
+
+// A tally is opened behind the others.
+pub fn open_tally(store: &mut [u8], tally: Tally)
+    requires { ⌜ (Form (now store)) × (countOf tallyTable (now store) < mostTallies) ⌝ }
+    ensures { λ _. ⌜ Left (now (store .exit)) (opening (tallyOf tally) (stateOf (now (store .entry)))) ⌝ }
+{
+    let count = get_count(store, TALLY_COUNT);
+    put_tally(store, TALLIES + TALLY_SIZE * count, tally);
+    fields::put(store, TALLY_COUNT, 2, (count + 1) as u64);
+}
+
+// A mask joins tally i.
+pub fn join_at(store: &mut [u8], i: usize, mask: u16)
+    requires { ⌜ (Form (now store)) × (i < countOf tallyTable (now store)) ⌝ }
+    ensures { λ _. ⌜ Left (now (store .exit)) (growing i mask (stateOf (now (store .entry)))) ⌝ }
+{
+    let tally = tally_at(store, i).grown(mask);
+    fields::put(
+        store,
+        TALLIES + TALLY_SIZE * i + VOTERS,
+        2,
+        tally.mask as u64,
+    );
+}
+
+// A tally's mask joins the tally of its block, opened if missing.
+pub fn join_tally(store: &mut [u8], tally: Tally)
+    requires { ⌜ (Form (now store)) × (length (join (tallyOf tally) (tallies (now store))) ≤ mostTallies) ⌝ }
+    ensures { λ _. ⌜ Left (now (store .exit)) (joining (tallyOf tally) (stateOf (now (store .entry)))) ⌝ }
+{
+    match find_tally(store, tally) {
+        Found::At(i) => join_at(store, i, tally.mask),
+        Found::Nothing => open_tally(store, tally),
+    }
+}
+
+// The same of a certificate: genesis has no tally in view 0.
+pub fn join_certificate(store: &mut [u8], certificate: Tally)
+    requires { ⌜ (Form (now store)) × (length (joinCertificate (tallyOf certificate) (tallies (now store))) ≤ mostTallies) ⌝ }
+    ensures { λ _. ⌜ Left (now (store .exit)) (certifying (tallyOf certificate) (stateOf (now (store .entry)))) ⌝ }
+{
+    if certificate.view != 0 {
+        join_tally(store, certificate);
+    }
+}
+
+// A mask joins the blame mask of a view.
+pub fn join_blame(store: &mut [u8], view: u32, mask: u16)
+    requires { ⌜ (Form (now store)) × (1 ≤ view) × (view ≤ lastView) ⌝ }
+    ensures { λ _. ⌜ Left (now (store .exit)) (blamed view mask (stateOf (now (store .entry)))) ⌝ }
+{
+    let i = view as usize - 1;
+    let joined = blame_at(store, i) | mask;
+    fields::put(store, BLAMES + BLAME_SIZE * i, 2, joined as u64);
+}
+
+// A name is logged above the others.
+pub fn append_name(store: &mut [u8], name: Name)
+    requires { ⌜ (Form (now store)) × (countOf logTable (now store) < mostStatements) ⌝ }
+    ensures { λ _. ⌜ Left (now (store .exit)) (appending (nameOf name) (stateOf (now (store .entry)))) ⌝ }
+{
+    let count = get_count(store, LOG_COUNT);
+    fields::put_name(store, LOG + NAME_SIZE * count, name);
+    fields::put(store, LOG_COUNT, 2, (count + 1) as u64);
+}
+
+// The phase is set.
+pub fn set_phase(store: &mut [u8], phase: Phase)
+    requires { ⌜ (Form (now store)) × (phaseNumber (courseOf phase) < 256 ^ 4) ⌝ }
+    ensures { λ _. ⌜ Left (now (store .exit)) (withPhase (courseOf phase) (stateOf (now (store .entry)))) ⌝ }
+{
+    fields::put(store, PHASE, 4, phase_number(phase));
+}
+
+// The clock is set.
+pub fn set_clock(store: &mut [u8], clock: u32)
+    requires { ⌜ Form (now store) ⌝ }
+    ensures { λ _. ⌜ Left (now (store .exit)) (withClock clock (stateOf (now (store .entry)))) ⌝ }
+{
+    fields::put(store, CLOCK, 4, clock as u64);
 }
 
 impl Station {

@@ -1,0 +1,193 @@
+-- The place of the first record that matches: the search row by row, and what a find or a miss tells. Assumes nothing.
+use Prim.Native.Nat.{ℕ, zero, suc, _+_, _-_, _*_, _^_, _<_, _≤_}
+use mathlib.Core.Path.{_≡_, refl, sym, ap, _∙_, subst}
+use mathlib.Core.Bool.{Bool, true, false, not, _&&_, Bool·beq}
+use mathlib.Core.List.{List, [], _∷_, _++_}
+use mathlib.Core.Option.{Option, none, some}
+use native.Mathlib.Omega.{arith}
+use native.Mathlib.Numerals.{add-one}
+use native.Mathlib.Nat.{add-zero}
+use lib.Dec.{eqb}
+use lib.ListN.{length}
+use borrow.Author.Tests.{eqb-true, eqb-false, eq-eqb, ne-eqb, not-true, not-false}
+use Rattle.rules.specs.Lists.{iff, first, any, alter}
+use Rattle.rules.specs.Words.{Statement, sameStatement, Tally, sameBlock, grown, join}
+use Rattle.rules.proofs.Tests.{by-bool, no-bool}
+use Rattle.fields.specs.Places.{number, Bytes}
+use Rattle.fields.proofs.Laws.{number-lt, number-split}
+use Rattle.fields.proofs.Differ.{digit-high, digit-low}
+use Rattle.store.specs.Layout.{tallyTable, statementTable, placeOf}
+use Rattle.store.specs.Decode.{rows, tallyAt, statementAt}
+use Rattle.store.specs.Changes.{pick, firstFrom, changeAt}
+use Rattle.store.specs.declared.Found.{Found}
+use Rattle.store.specs.declared.Found.the-variants.{At, Nothing}
+use Rattle.store.proofs.Rows.{rows-from}
+
+-- ---- row by row
+
+module _ {A : Type 0} (f : ℕ → A) (p : A → Bool) (n : ℕ) where
+  pub find-none : (i : ℕ) → n ≤ i → firstFrom p i (rows f i (n - i)) ≡ Nothing
+  unfolding rows firstFrom
+  find-none i h = let e : n - i ≡ 0 = omega arith in rw e
+
+  pub find-here : (i : ℕ) → i < n → p (f i) ≡ true → firstFrom p i (rows f i (n - i)) ≡ At i
+  unfolding firstFrom
+  find-here i h t = rw (rows-from f i n h, t)
+
+  pub find-next : (i : ℕ) → i < n → p (f i) ≡ false → firstFrom p i (rows f i (n - i)) ≡ firstFrom p (i + 1) (rows f (i + 1) (n - (i + 1)))
+  unfolding firstFrom
+  find-next i h t = rw (rows-from f i n h, t, add-one i)
+
+-- ---- what a find tells
+
+module _ {A : Type 0} (p : A → Bool) where
+  -- of a search from place i on: what stands at its place, or that nothing matches
+  abbrev pub Tells : (ℕ → A) → ℕ → ℕ → Found → Type 0
+  Tells f i n Nothing = (any p (rows f i n) ≡ false) × (first p (rows f i n) ≡ none)
+  Tells f i n (At j) = (i ≤ j) × (j < i + n) × (p (f j) ≡ true) × (any p (rows f i n) ≡ true) × (first p (rows f i n) ≡ some (f j))
+
+  tells : (f : ℕ → A) (i n : ℕ) → Tells f i n (firstFrom p i (rows f i n))
+  unfolding firstFrom rows any first
+  tells f i zero = (refl, refl)
+  tells f i (suc n) = go (p (f i)) (firstFrom p (suc i) (rows f (suc i) n)) refl (tells f (suc i) n)
+    where
+      go : (b : Bool) (r : Found) → p (f i) ≡ b → Tells f (suc i) n r → Tells f i (suc n) (pick b (At i) r)
+      go true r e h = (omega arith, omega arith, e, rw (e, any), rw (e, first))
+      go false Nothing e h = (rw (e, any) (h .0), rw (e, first) (h .1))
+      go false (At j) e h = (omega (arith, h .0), omega (arith, h .1), h .2, rw (e, any) (h .3), rw (e, first) (h .4))
+
+  module _ (f : ℕ → A) (n : ℕ) (r : Found) (e : r ≡ firstFrom p 0 (rows f 0 n)) where
+    told : Tells f 0 n r
+    told = subst (Tells f 0 n) (sym e) (tells f 0 n)
+
+    pub found-within : (j : ℕ) → r ≡ At j → j < n
+    found-within j q = omega (arith, subst (Tells f 0 n) q told .1)
+
+    pub found-matches : (j : ℕ) → r ≡ At j → p (f j) ≡ true
+    found-matches j q = subst (Tells f 0 n) q told .2
+
+    pub found-any : (j : ℕ) → r ≡ At j → any p (rows f 0 n) ≡ true
+    found-any j q = subst (Tells f 0 n) q told .3
+
+    pub found-first : (j : ℕ) → r ≡ At j → first p (rows f 0 n) ≡ some (f j)
+    found-first j q = subst (Tells f 0 n) q told .4
+
+    pub missing-any : r ≡ Nothing → any p (rows f 0 n) ≡ false
+    missing-any q = subst (Tells f 0 n) q told .0
+
+    pub missing-first : r ≡ Nothing → first p (rows f 0 n) ≡ none
+    missing-first q = subst (Tells f 0 n) q told .1
+
+-- ---- the rules that search and change, by the place found
+
+module _ {A : Type 0} (p : A → Bool) (g : A → A) where
+  abbrev Alters : ℕ → List A → Found → Type 0
+  Alters i xs Nothing = alter p g xs ≡ xs
+  Alters i xs (At j) = (i ≤ j) × (alter p g xs ≡ changeAt g (j - i) xs)
+
+  alters : (i : ℕ) (xs : List A) → Alters i xs (firstFrom p i xs)
+  unfolding firstFrom alter changeAt
+  alters i [] = refl
+  alters i (x ∷ xs) = go (p x) (firstFrom p (suc i) xs) refl (alters (suc i) xs)
+    where
+      go : (b : Bool) (r : Found) → p x ≡ b → Alters (suc i) xs r → Alters i (x ∷ xs) (pick b (At i) r)
+      go true r e h = (omega arith, let z : i - i ≡ 0 = omega arith in rw (e, alter, z))
+      go false Nothing e h = rw (e, alter) (ap (x ∷_) h)
+      go false (At j) e h = (omega (arith, h .0), let z : j - i ≡ suc (j - suc i) = omega (arith, h .0) in rw (e, alter, z) (ap (x ∷_) (h .1)))
+
+  pub alter-found : (xs : List A) (j : ℕ) → firstFrom p 0 xs ≡ At j → alter p g xs ≡ changeAt g j xs
+  alter-found xs j q = let z : j - 0 ≡ j = omega arith in subst (Alters 0 xs) q (alters 0 xs) .1 ∙ ap (λ (k : ℕ). changeAt g k xs) z
+
+module _ (t : Tally) where
+  abbrev Joins : ℕ → List Tally → Found → Type 0
+  Joins i us Nothing = join t us ≡ us ++ t ∷ []
+  Joins i us (At j) = (i ≤ j) × (join t us ≡ changeAt (λ u. grown u (t .mask)) (j - i) us)
+
+  joins : (i : ℕ) (us : List Tally) → Joins i us (firstFrom (sameBlock t) i us)
+  unfolding firstFrom join changeAt
+  joins i [] = refl
+  joins i (u ∷ us) = go (sameBlock t u) (firstFrom (sameBlock t) (suc i) us) refl (joins (suc i) us)
+    where
+      go : (b : Bool) (r : Found) → sameBlock t u ≡ b → Joins (suc i) us r → Joins i (u ∷ us) (pick b (At i) r)
+      go true r e h = (omega arith, let z : i - i ≡ 0 = omega arith in rw (e, join, z))
+      go false Nothing e h = rw (e, join) (ap (u ∷_) h)
+      go false (At j) e h = (omega (arith, h .0), let z : j - i ≡ suc (j - suc i) = omega (arith, h .0) in rw (e, join, z) (ap (u ∷_) (h .1)))
+
+  pub join-found : (us : List Tally) (j : ℕ) → firstFrom (sameBlock t) 0 us ≡ At j → join t us ≡ changeAt (λ u. grown u (t .mask)) j us
+  join-found us j q = let z : j - 0 ≡ j = omega arith in subst (Joins 0 us) q (joins 0 us) .1 ∙ ap (λ (k : ℕ). changeAt (λ u. grown u (t .mask)) k us) z
+
+  pub join-missing : (us : List Tally) → firstFrom (sameBlock t) 0 us ≡ Nothing → join t us ≡ us ++ t ∷ []
+  join-missing us q = subst (Joins 0 us) q (joins 0 us)
+
+-- ---- view and height as one number
+
+pub same-pair : (v h v′ h′ : ℕ) → h < 256 ^ 4 → h′ < 256 ^ 4 → eqb (v * 256 ^ 4 + h) (v′ * 256 ^ 4 + h′) ≡ (eqb v v′ && eqb h h′)
+same-pair v h v′ h′ l l′ =
+    by-bool (eqb v v′)
+    (λ e. by-bool (eqb h h′) (λ d. rw (eqb-true v v′ e, eqb-true h h′ d, eq-eqb (v′ * 256 ^ 4 + h′) _ refl, eq-eqb v′ v′ refl, eq-eqb h′ h′ refl))
+    (λ d. rw (e, d) (ne-eqb _ _ (λ z. eqb-false h h′ d (digit-low (256 ^ 4) v v′ h h′ l l′ z)))))
+    (λ e. rw e (ne-eqb _ _ (λ z. eqb-false v v′ e (digit-high (256 ^ 4) v v′ h h′ l l′ z))))
+
+key-splits : (b : List ℕ) → Bytes b → (at v h : ℕ) → h < 256 ^ 4 → eqb (v * 256 ^ 4 + h) (number b at 8) ≡ (eqb v (number b (at + 0) 4) && eqb h (number b (at + 4) 4))
+key-splits b k at v h l =
+    ap (eqb (v * 256 ^ 4 + h)) (number-split b at 4 4) ∙ same-pair v h (number b at 4) (number b (at + 4) 4) l (number-lt b k (at + 4) 4)
+    ∙ ap (λ (n : ℕ). eqb v (number b n 4) && eqb h (number b (at + 4) 4)) (sym (add-zero at))
+
+-- a tally is of the same block where key and name agree
+pub block-tally : (b : List ℕ) → Bytes b → (t : Tally) (i : ℕ) → t .height < 256 ^ 4
+    → (eqb (t .view * 256 ^ 4 + t .height) (number b (placeOf tallyTable i) 8) && eqb (t .name) (number b (placeOf tallyTable i + 8) 32)) ≡ sameBlock t (tallyAt b i)
+unfolding sameBlock tallyAt
+block-tally b k t i l = ap (λ (e : Bool). e && eqb (t .name) (number b (placeOf tallyTable i + 8) 32)) (key-splits b k (placeOf tallyTable i) (t .view) (t .height) l)
+
+-- ---- the same statement
+
+and-false : (a : Bool) → (a && false) ≡ false
+and-false true = refl
+and-false false = refl
+
+and-comm : (a b : Bool) → (a && b) ≡ (b && a)
+and-comm true true = refl
+and-comm true false = refl
+and-comm false true = refl
+and-comm false false = refl
+
+regroup : (i v h n l a : Bool) → (i && v && h && n && l && a) ≡ (v && h && n && (i && (a && l)))
+regroup i false h n l a = rw (and-false i)
+regroup i true false n l a = rw (and-false (i && true))
+regroup i true true false l a = rw (and-false (i && true && true))
+regroup true true true true l a = and-comm l a
+regroup false true true true l a = refl
+
+-- tested in the order of the code: the block first, then kind, author and link
+pub statement-tests : (b : List ℕ) → Bytes b → (x : Statement) (i : ℕ) → x .height < 256 ^ 4
+    → sameStatement x (statementAt b i)
+    ≡ (eqb (x .view * 256 ^ 4 + x .height) (number b (placeOf statementTable i) 8) && eqb (x .name) (number b (placeOf statementTable i + 8) 32)
+    && (iff (x .isNewView) (statementAt b i .isNewView) && (eqb (x .author) (statementAt b i .author) && eqb (x .link) (statementAt b i .link))))
+unfolding sameStatement statementAt
+statement-tests b k x i l =
+    let y = statementAt b i in
+    let e = key-splits b k (placeOf statementTable i) (x .view) (x .height) l in
+    regroup (iff (x .isNewView) (y .isNewView)) (eqb (x .view) (y .view)) (eqb (x .height) (y .height)) (eqb (x .name) (y .name)) (eqb (x .link) (y .link)) (eqb (x .author) (y .author))
+    ∙ ap (λ (e : Bool). e && eqb (x .name) (y .name) && (iff (x .isNewView) (y .isNewView) && (eqb (x .author) (y .author) && eqb (x .link) (y .link)))) (sym e)
+
+-- code tests two truths as != does
+pub beq-iff : (a b : Bool) → Bool·beq a b ≡ iff a b
+unfolding iff
+beq-iff true true = refl
+beq-iff true false = refl
+beq-iff false true = refl
+beq-iff false false = refl
+
+-- x held against statement i by the answer r of the block's test
+module _ (b : List ℕ) (k : Bytes b) (x : Statement) (i key : ℕ) (l : x .height < 256 ^ 4) (e : key ≡ x .view * 256 ^ 4 + x .height) (r : Bool)
+    (q : r ≡ (eqb key (number b (placeOf statementTable i) 8) && eqb (x .name) (number b (placeOf statementTable i + 8) 32))) where
+  tests : sameStatement x (statementAt b i)
+      ≡ (r && (iff (x .isNewView) (statementAt b i .isNewView) && (eqb (x .author) (statementAt b i .author) && eqb (x .link) (statementAt b i .link))))
+  tests = statement-tests b k x i l ∙ rw (q, e)
+
+  pub other-block : not r ≡ true → false ≡ sameStatement x (statementAt b i)
+  other-block n = sym (tests ∙ rw (not-true r n))
+
+  pub same-block : not r ≡ false → (y : Statement) → y ≡ statementAt b i
+      → (iff (x .isNewView) (y .isNewView) && (eqb (x .author) (y .author) && eqb (x .link) (y .link))) ≡ sameStatement x (statementAt b i)
+  same-block n y d = rw d (sym (tests ∙ rw (not-false r n)))

@@ -1,0 +1,78 @@
+-- `store::find_statement` meets its contract. Assumes nothing.
+use Rattle.store.proofs.Searches.{find-none, find-here, find-next}
+use Rattle.store.proofs.Forms.{form-long, form-statements}
+use Rattle.store.specs.Changes.{firstFrom}
+use Rattle.store.specs.Decode.{rows, statementAt, statements}
+use Rattle.store.specs.Layout.{countOf, statementTable}
+use Rattle.wire.specs.Meaning.{statementOf}
+use Rattle.rules.specs.Words.{sameStatement}
+use native.Mathlib.Nat.{sub-zero}
+use native.Mathlib.Omega.{arith}
+use mathlib.Core.Option.{none}
+use mathlib.Core.Path.{_≡_, sym, _∙_}
+use Prim.Native.Nat.{_≤_, _-_}
+use Rattle.store.proofs.find_statement.Statement.{statement}
+use Rattle.store.proofs.find_statement.Tie as tie
+
+abbrev Inv-loop : tie.InvT-loop
+Inv-loop store statement count i₀ i =
+    (i ≤ count) × (count ≡ countOf statementTable store)
+    × (firstFrom (sameStatement (statementOf statement none)) 0 (statements store) ≡ firstFrom (sameStatement (statementOf statement none)) i (rows (statementAt store) i (count - i)))
+
+abbrev μ-loop : tie.MeasureT-loop
+μ-loop store statement count i₀ i =
+    count - i
+
+get-count-requires : tie.Need-get-count-requires Inv-loop μ-loop
+get-count-requires c κs =
+    omega (arith, form-long _ (c .before .pre))
+
+loop-holds : tie.Need-loop-holds Inv-loop μ-loop
+unfolding statements
+loop-holds c =
+    (omega arith, c .get-count .ensures .0, rw (c .get-count .ensures .0, sub-zero))
+
+is-statement-requires : tie.Need-is-statement-requires Inv-loop μ-loop
+is-statement-requires c κs =
+    (form-long _ (c .before .before .before .before .pre), omega (arith, form-statements _ (c .before .before .before .before .pre), c .before .loop .inv .1))
+
+add-i : tie.Need-add-i Inv-loop μ-loop
+add-i c =
+    omega arith
+
+loop-less : tie.Need-loop-less Inv-loop μ-loop
+loop-less c =
+    omega arith
+
+loop-again : tie.Need-loop-again Inv-loop μ-loop
+loop-again c =
+    let a = c .before .before .before .before .before .before .args in
+    let l = c .before .before .before .loop in
+    (omega arith, l .inv .1, l .inv .2 ∙ find-next (statementAt (a .store .now)) (sameStatement (statementOf (a .statement) none)) _ (l .i) (omega arith) (sym (c .before .is-statement .ensures) ∙ c .if2 .left))
+
+returns : tie.Need-returns Inv-loop μ-loop
+returns c =
+    let a = c .before .before .before .before .args in
+    let l = c .before .loop in
+    sym (l .inv .2 ∙ find-none (statementAt (a .store .now)) (sameStatement (statementOf (a .statement) none)) _ (l .i) (omega arith))
+
+returns-2 : tie.Need-returns-2 Inv-loop μ-loop
+returns-2 c =
+    let a = c .before .before .before .before .before .before .args in
+    let l = c .before .before .before .loop in
+    sym (l .inv .2 ∙ find-here (statementAt (a .store .now)) (sameStatement (statementOf (a .statement) none)) _ (l .i) (omega arith) (sym (c .before .is-statement .ensures) ∙ c .if2 .taken))
+
+pub find-statement-spec : {M : Type 1} → statement M
+find-statement-spec =
+    tie.close
+    (tie.spec
+    Inv-loop
+    μ-loop
+    get-count-requires
+    loop-holds
+    is-statement-requires
+    add-i
+    loop-less
+    loop-again
+    returns
+    returns-2)

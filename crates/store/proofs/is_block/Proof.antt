@@ -1,0 +1,33 @@
+-- `store::is_block` meets its contract. Assumes nothing.
+use Rattle.fields.specs.Names.{nameOf}
+use lib.Dec.{eqb}
+use borrow.Author.Tests.{eq-eqb, ne-eqb}
+use mathlib.Core.Path.{sym, ap, _∙_}
+use borrow.Author.Needs.{needs}
+use Rattle.store.proofs.is_block.Statement.{statement}
+use Rattle.store.proofs.is_block.Tie as tie
+
+get-requires : tie.Need-get-requires
+get-requires c κs = search needs
+
+returns : tie.Need-returns
+returns c =
+    simp (ne-eqb _ _ (λ e. c .if1 .taken (e ∙ sym (c .before .get .ensures .0))))
+
+add-get-name : tie.Need-add-get-name
+add-get-name c = search needs
+
+get-name-requires : tie.Need-get-name-requires
+get-name-requires c κs = search needs
+
+same-requires : tie.Need-same-requires
+same-requires c κs = search needs
+
+returns-2 : tie.Need-returns-2
+returns-2 c =
+    rw (eq-eqb _ _ (c .before .before .if1 .left ∙ c .before .before .before .get .ensures .0)) (c .same .ensures ∙ ap (eqb (nameOf (c .before .before .before .before .before .args .name))) (c .before .get-name .ensures .0))
+
+pub is-block-spec : {M : Type 1} → statement M
+is-block-spec =
+    tie.close
+    (tie.spec get-requires returns add-get-name get-name-requires same-requires returns-2)

@@ -1,0 +1,36 @@
+-- `store::is_tally` meets its contract. Assumes nothing.
+use Rattle.store.proofs.Searches.{block-tally}
+use Rattle.store.specs.Meaning.{tallyOf}
+use Rattle.fields.specs.Places.{number}
+use Rattle.fields.specs.Names.{nameOf}
+use lib.Dec.{eqb}
+use mathlib.Core.Bool.{_&&_}
+use native.Mathlib.Omega.{arith}
+use Prim.Native.Nat.{_<_, _^_}
+use mathlib.Core.Path.{_≡_, ap, _∙_}
+use borrow.Author.Needs.{needs}
+use Rattle.store.proofs.is_tally.Statement.{statement}
+use Rattle.store.proofs.is_tally.Tie as tie
+
+mul-is-block : tie.Need-mul-is-block
+mul-is-block c = search needs
+
+add-is-block : tie.Need-add-is-block
+add-is-block c = search needs
+
+key-of-requires : tie.Need-key-of-requires
+key-of-requires c κs = search needs
+
+is-block-requires : tie.Need-is-block-requires
+is-block-requires c κs = search needs
+
+returns : tie.Need-returns
+unfolding tallyOf
+returns c =
+    let a = c .before .before .before .args in
+    let h : a .tally .height < 256 ^ 4 = c .before .before .before .good .1 .1 .0 .1 .1 .1 .0 .1 in
+    rw (c .is-block .ensures, c .before .key-of .ensures) (block-tally (a .store .now) (c .before .before .shared-slice-known .given) (tallyOf (a .tally)) (a .i) h)
+
+pub is-tally-spec : {M : Type 1} → statement M
+is-tally-spec =
+    tie.close (tie.spec mul-is-block add-is-block key-of-requires is-block-requires returns)

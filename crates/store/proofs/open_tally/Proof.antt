@@ -1,0 +1,56 @@
+-- `store::open_tally` meets its contract. Assumes nothing.
+use Rattle.store.proofs.Changes.{add-tally}
+use Rattle.store.proofs.Sized.{tally-fits}
+use Rattle.store.specs.Meaning.{tallyOf}
+use Rattle.fields.proofs.Names.{name-lt}
+use Rattle.store.proofs.Forms.{form-long}
+use native.Mathlib.Omega.{arith}
+use borrow.Author.Needs.{needs}
+use Rattle.store.proofs.open_tally.Statement.{statement}
+use Rattle.store.proofs.open_tally.Tie as tie
+
+get-count-requires : tie.Need-get-count-requires
+get-count-requires c κs =
+    omega (arith, form-long _ (c .before .before .pre .0))
+
+mul-put-tally : tie.Need-mul-put-tally
+mul-put-tally c = search needs
+
+add-put-tally : tie.Need-add-put-tally
+add-put-tally c = search needs
+
+put-tally-requires : tie.Need-put-tally-requires
+put-tally-requires c κs =
+    omega (arith, form-long _ (c .before .before .before .before .pre .0), c .before .before .before .before .pre .1)
+
+add-put : tie.Need-add-put
+add-put c = search needs
+
+put-requires : tie.Need-put-requires
+put-requires c κs =
+    omega (arith, form-long _ (c .before .before .before .before .before .before .before .before .pre .0))
+
+same-length : tie.Need-same-length
+same-length c = search needs
+
+returns : tie.Need-returns
+returns c =
+    let a = c .before .before .before .before .before .before .before .before .before .before .before .args in
+    let g = c .before .before .before .before .before .before .before .before .before .before .before .good .1 .0 .1 .1 in
+    let n = g .1 .1 .0 .1 .1 in
+    let name = name-lt (a .tally .name) (n .0 .1) (n .1 .0 .1) (n .1 .1 .0 .1) (n .1 .1 .1 .0 .1) in
+    rw (c .before .before .put .ensures, c .before .before .before .before .before .before .put-tally .ensures, c .before .before .before .before .before .before .before .before .get-count .ensures .0)
+    (add-tally (a .store .now) (c .before .before .before .before .before .before .before .before .before .before .before .pre .0) (tallyOf (a .tally)) (c .before .before .before .before .before .before .before .before .before .before .before .pre .1) (tally-fits (a .tally) (g .0 .1) (g .1 .0 .1) name (g .1 .1 .1 .0 .1)))
+
+pub open-tally-spec : {M : Type 1} → statement M
+open-tally-spec =
+    tie.close
+    (tie.spec
+    get-count-requires
+    mul-put-tally
+    add-put-tally
+    put-tally-requires
+    add-put
+    put-requires
+    same-length
+    returns)

@@ -1,0 +1,29 @@
+-- `store::put_tally` meets its contract. Assumes nothing.
+use Rattle.store.specs.Meaning.{tallyOf}
+use borrow.Author.Needs.{needs}
+use Rattle.store.proofs.put_tally.Statement.{statement}
+use Rattle.store.proofs.put_tally.Tie as tie
+
+put-block-requires : tie.Need-put-block-requires
+put-block-requires c κs = search needs
+
+add-put : tie.Need-add-put
+add-put c = search needs
+
+cast-put : tie.Need-cast-put
+cast-put c = search needs
+
+put-requires : tie.Need-put-requires
+put-requires c κs = search needs
+
+same-length : tie.Need-same-length
+same-length c = search needs
+
+returns : tie.Need-returns
+unfolding tallyOf
+returns c =
+    rw (c .before .before .put .ensures, c .before .before .before .before .before .before .before .put-block .ensures)
+
+pub put-tally-spec : {M : Type 1} → statement M
+put-tally-spec =
+    tie.close (tie.spec put-block-requires add-put cast-put put-requires same-length returns)

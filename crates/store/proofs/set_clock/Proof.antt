@@ -1,0 +1,21 @@
+-- `store::set_clock` meets its contract. Assumes nothing.
+use Rattle.store.proofs.Changes.{put-clock}
+use Rattle.store.proofs.Forms.{form-long}
+use native.Mathlib.Omega.{arith}
+use borrow.Author.Needs.{needs}
+use Rattle.store.proofs.set_clock.Statement.{statement}
+use Rattle.store.proofs.set_clock.Tie as tie
+
+put-requires : tie.Need-put-requires
+put-requires c κs =
+    omega (arith, form-long _ (c .before .before .pre))
+
+same-length : tie.Need-same-length
+same-length c = search needs
+
+returns : tie.Need-returns
+returns c =
+    rw (c .before .before .put .ensures) (put-clock (c .before .before .before .before .before .args .store .now) (c .before .before .before .before .before .pre) (c .before .before .before .before .before .args .clock) (c .before .before .before .before .before .fits .clock .fits))
+
+pub set-clock-spec : {M : Type 1} → statement M
+set-clock-spec = tie.close (tie.spec put-requires same-length returns)

@@ -1,0 +1,25 @@
+-- `store::set_phase` meets its contract. Assumes nothing.
+use Rattle.store.proofs.Changes.{put-phase}
+use Rattle.store.proofs.Forms.{form-long}
+use Rattle.store.specs.Meaning.{courseOf}
+use native.Mathlib.Omega.{arith}
+use borrow.Author.Needs.{needs}
+use Rattle.store.proofs.set_phase.Statement.{statement}
+use Rattle.store.proofs.set_phase.Tie as tie
+
+phase-number-requires : tie.Need-phase-number-requires
+phase-number-requires c κs = search needs
+
+put-requires : tie.Need-put-requires
+put-requires c κs =
+    omega (arith, form-long _ (c .before .before .before .pre .0))
+
+same-length : tie.Need-same-length
+same-length c = search needs
+
+returns : tie.Need-returns
+returns c =
+    rw (c .before .before .put .ensures, c .before .before .before .phase-number .ensures) (put-phase (c .before .before .before .before .before .before .args .store .now) (c .before .before .before .before .before .before .pre .0) (courseOf (c .before .before .before .before .before .before .args .phase)) (c .before .before .before .before .before .before .pre .1))
+
+pub set-phase-spec : {M : Type 1} → statement M
+set-phase-spec = tie.close (tie.spec phase-number-requires put-requires same-length returns)

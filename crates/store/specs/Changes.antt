@@ -1,0 +1,58 @@
+-- The changes of a state that single writes make, and the place of the first record that matches. Assumes nothing.
+use Prim.Native.Nat.{ℕ, zero, suc}
+use mathlib.Core.Bool.{Bool, true, false}
+use mathlib.Core.List.{List, [], _∷_, _++_}
+use Rattle.rules.specs.Words.{Statement, Tally, grown, join, joinCertificate, State}
+use Rattle.rules.specs.Inputs.{withTables, withLog, noted}
+use Rattle.store.specs.declared.Found.{Found}
+use Rattle.store.specs.declared.Found.the-variants.{At, Nothing}
+
+-- "the first record that matches decides the search": its place, from place i on
+abbrev pub pick : Bool → Found → Found → Found
+pick true a b = a
+pick false a b = b
+
+unfoldable pub firstFrom : {A : Type 0} → (A → Bool) → ℕ → List A → Found
+firstFrom p i [] = Nothing
+firstFrom p i (x ∷ xs) = pick (p x) (At i) (firstFrom p (suc i) xs)
+
+-- the record at place i, changed
+unfoldable pub changeAt : {A : Type 0} → (A → A) → ℕ → List A → List A
+changeAt f i [] = []
+changeAt f zero (x ∷ xs) = f x ∷ xs
+changeAt f (suc i) (x ∷ xs) = x ∷ changeAt f i xs
+
+-- a mask joins tally i
+unfoldable pub growing : ℕ → ℕ → State → State
+unfolding withTables changeAt grown
+growing i m s = withTables (s .statements) (changeAt (λ t. grown t m) i (s .tallies)) s
+
+-- a tally is opened
+unfoldable pub opening : Tally → State → State
+unfolding withTables
+opening t s = withTables (s .statements) (s .tallies ++ t ∷ []) s
+
+-- a mask joins its tally, "opened if missing"
+unfoldable pub joining : Tally → State → State
+unfolding withTables join
+joining t s = withTables (s .statements) (join t (s .tallies)) s
+
+-- the same, but that genesis "has no tally" in view 0
+unfoldable pub certifying : Tally → State → State
+unfolding withTables joinCertificate
+certifying t s = withTables (s .statements) (joinCertificate t (s .tallies)) s
+
+-- a statement is stored
+unfoldable pub storing : Statement → State → State
+unfolding withTables
+storing x s = withTables (s .statements ++ x ∷ []) (s .tallies) s
+
+-- the vote for statement i "notes the clock"
+unfoldable pub noting : ℕ → ℕ → State → State
+unfolding withTables changeAt noted
+noting i c s = withTables (changeAt (noted c) i (s .statements)) (s .tallies) s
+
+-- a name is logged
+unfoldable pub appending : ℕ → State → State
+unfolding withLog
+appending n s = withLog (s .log ++ n ∷ []) s
