@@ -22,7 +22,7 @@ use Rattle.commit.specs.Chains.{statementIn, nameIn, nameSoFar, lacking,
 use Rattle.commit.specs.Outcome.{Log, Has, Joined, JoinedWith}
 use Rattle.commit.specs.declared.Merged.{Merged}
 use Rattle.commit.specs.declared.Merged.the-variants.{Grown, Differs}
-use Rattle.commit.proofs.Readers.{form-statements, form-logged}
+use Rattle.store.proofs.Forms.{form-statements, form-log}
 use Rattle.commit.proofs.Order.{bind, first-last}
 use Rattle.commit.proofs.Pigeon.{too-high}
 use Rattle.commit.proofs.Places.{so-far-old}
@@ -80,7 +80,7 @@ module _ (b : List ℕ) (p : Statement → Bool) (count : ℕ) where
         log = record {
           is = ap (λ (ys : List Statement). commits xs ys (names b)) (keep-end p S count) ∙ ap some same;
           more = omega (arith, g .old);
-          fits = omega (arith, g .old, form-logged (g .form));
+          fits = omega (arith, g .old, form-log _ (g .form));
           stored = λ k l m. absurd (omega (arith, g .old));
         };
         long = g .long;

@@ -1,4 +1,3 @@
-pub mod Search
 pub mod Readers
 pub mod Order
 pub mod Pigeon
@@ -7,3 +6,4 @@ pub mod Walks
 pub mod Voting
 pub mod Places
 pub mod Course
+pub mod Ticks

@@ -22,9 +22,9 @@ use Rattle.store.specs.Decode.{rows, statementAt, statements}
 use Rattle.store.specs.declared.Found.{Found}
 use Rattle.store.specs.declared.Found.the-variants.{At, Nothing}
 use Rattle.store.proofs.Rows.{rows-same}
-use Rattle.commit.specs.Search.{placeFrom}
+use Rattle.store.specs.Changes.{firstFrom}
 use Rattle.commit.specs.Chains.{statementIn, nameIn, Stored, lacking, Walked, WalkedFrom}
-use Rattle.commit.proofs.Search.{FirstIs, first-is}
+use Rattle.store.proofs.Searches.{found-within, found-matches, found-first, missing-first}
 
 -- a block that is found has the height and the name
 pub block-height : (h n : ℕ) (x : Statement) → isBlock h n x ≡ true → h ≡ x .height
@@ -89,17 +89,11 @@ module _ (b : List ℕ) where
             (own-chain t (h - 1) i (omega arith) (omega arith));
       }
 
-  module _ (t : List ℕ) (h k link : ℕ) (d : Down b t h k link) (f : Found) (found : f ≡ placeFrom (isBlock k link) 0 (statements b)) (pos : 0 < k) where
-    first-found : FirstIs (isBlock k link) (statementAt b) 0 (countOf statementTable b) f
-    unfolding statements
-    first-found =
-        subst (FirstIs (isBlock k link) (statementAt b) 0 (countOf statementTable b)) (sym found)
-        (first-is (isBlock k link) (statementAt b) 0 (countOf statementTable b))
-
+  module _ (t : List ℕ) (h k link : ℕ) (d : Down b t h k link) (f : Found) (found : f ≡ firstFrom (isBlock k link) 0 (statements b)) (pos : 0 < k) where
     pub down-broken : f ≡ Nothing → Walked b t h k
     unfolding statements
     down-broken e =
-        let q = subst (FirstIs (isBlock k link) (statementAt b) 0 (countOf statementTable b)) e first-found in
+        let q = missing-first (isBlock k link) (statementAt b) (countOf statementTable b) f found e in
         record {
           stored = d .stored;
           chains = λ j l m. d .chains j l m ∙ chain-broken (statements b) k link pos q (rows (nameIn b t) k (j + 1 - k)) ∙ lacks k pos _ _;
@@ -110,19 +104,18 @@ module _ (b : List ℕ) where
         lacks (suc k) l c c′ = refl
 
     module _ (p : ℕ) (at : f ≡ At p) where
-      here : FirstIs (isBlock k link) (statementAt b) 0 (countOf statementTable b) (At p)
-      here = subst (FirstIs (isBlock k link) (statementAt b) 0 (countOf statementTable b)) at first-found
-
       pub found-stored : p < countOf statementTable b
-      found-stored = omega (arith, here .0)
+      unfolding statements
+      found-stored = found-within (isBlock k link) (statementAt b) (countOf statementTable b) f found p at
 
       pub down-next : h ≤ length t → k < h → Down b (set t (k - 1) p) h (k - 1) (statementAt b p .link)
       unfolding nameIn rows statements
       down-next m o =
           let t′ = set t (k - 1) p in
           let x = statementAt b p in
-          let tall = block-height k link x (here .1) in
-          let name : link ≡ nameIn b t′ (k - 1) = block-name k link x (here .1) ∙ ap (λ (y : Statement). y .name) (sym (in-same t (k - 1) p (omega arith))) in
+          let block = found-matches (isBlock k link) (statementAt b) (countOf statementTable b) f found p at in
+          let tall = block-height k link x block in
+          let name : link ≡ nameIn b t′ (k - 1) = block-name k link x block ∙ ap (λ (y : Statement). y .name) (sym (in-same t (k - 1) p (omega arith))) in
           let other : (j : ℕ) → k ≤ j → nameIn b t j ≡ nameIn b t′ j = λ j l. ap (λ (y : Statement). y .name) (sym (in-other t (k - 1) p j (λ q. omega arith))) in
           record {
             stored = λ j l q.
@@ -140,7 +133,7 @@ module _ (b : List ℕ) where
                                ∙ ap (λ (n : ℕ). nameIn b t′ (k - 1) ∷ rows (nameIn b t′) n (j + 1 - k)) (sym y)
                                ∙ ap (rows (nameIn b t′) (k - 1)) (sym z) in
                        ap (chain (statements b)) (in-other t (k - 1) p j (λ q. omega arith)) ∙ d .chains j (omega arith) q
-                       ∙ chain-down (statements b) k link x pos (here .2) (rows (nameIn b t) k (j + 1 - k)) ∙ ap (chainTo (statements b) (k - 1) (x .link)) r)
+                       ∙ chain-down (statements b) k link x pos (found-first (isBlock k link) (statementAt b) (countOf statementTable b) f found p at) (rows (nameIn b t) k (j + 1 - k)) ∙ ap (chainTo (statements b) (k - 1) (x .link)) r)
                   | no u ↦
                       (let z : k - 1 ≡ j = omega arith in
                        subst (λ (j : ℕ). chain (statements b) (statementIn b t′ j) ≡ chainTo (statements b) (k - 1) (x .link) (rows (nameIn b t′) (k - 1) (j + 1 - (k - 1)))) z
@@ -183,7 +176,7 @@ module _ (b t : List ℕ) (i height : ℕ) where
       top = ap (λ (n : ℕ). getD t (n - 1) 0) (sym (w .tall)) ∙ w .top;
     }
 
-    module _ (f : Found) (found : f ≡ placeFrom (isBlock k link) 0 (statements b)) (pos : 0 < k) where
+    module _ (f : Found) (found : f ≡ firstFrom (isBlock k link) 0 (statements b)) (pos : 0 < k) where
       pub walking-broken : f ≡ Nothing → WalkedFrom b t i k
       walking-broken e = record {
         walked = subst (λ (n : ℕ). Walked b t n k) (w .tall) (down-broken b t height k link (w .down) f found pos e);

@@ -14,7 +14,7 @@ ghost use Rattle.wire.specs.Meaning.{statementOf};
 ghost use Rattle.store.specs.Layout.{headerFormat, statementTable, logTable, storeLength, countOf};
 ghost use Rattle.store.specs.Decode.{statements, statementAt, names, stateOf, Form};
 ghost use Rattle.store.specs.Meaning.{headerOf};
-ghost use Rattle.commit.specs.Search.{placeFrom};
+ghost use Rattle.store.specs.Changes.{firstFrom};
 ghost use Rattle.commit.specs.Chains.{nameIn, nameSoFar, Stored, voteIn, isRipe, WalkedFrom, Settled, Copied, Begun, Ready, Agree};
 ghost use Rattle.commit.specs.Outcome.{Joined, JoinedWith, Committed};
 ghost use mathlib.Core.Option.{none};
@@ -46,7 +46,7 @@ fn is_block(x: Statement, height: u32, name: Name) -> bool
 // The place of the first stored propose of the name at the height.
 pub fn find_block(store: &[u8], count: usize, height: u32, name: Name) -> Found
     requires { ⌜ (Form (now store)) × (count ≡ countOf statementTable (now store)) ⌝ }
-    ensures { λ r. ⌜ r ≡ placeFrom (isBlock height (nameOf name)) 0 (statements (now (store .entry))) ⌝ }
+    ensures { λ r. ⌜ r ≡ firstFrom (isBlock height (nameOf name)) 0 (statements (now (store .entry))) ⌝ }
 {
     let mut i: usize = 0;
     loop {

@@ -1,4 +1,4 @@
-use Rattle.commit.proofs.Readers.{form-long, form-statements}
+use Rattle.store.proofs.Forms.{form-long, form-statements}
 use Rattle.commit.specs.Chains.{nameIn, nameSoFar}
 use borrow.Author.Count.{below-more}
 use borrow.Author.Tests.{eqb-true, eqb-false, eq-eqb, not-true, not-false}
@@ -32,14 +32,14 @@ name-in-requires : tie.Need-name-in-requires Inv-loop μ-loop
 name-in-requires c κs =
     let r = c .before .before .before .before .before .pre .0 in
     let low : c .before .loop .k < c .before .before .before .before .before .args .height = omega (arith, c .before .before .before .before .before .pre .2) in
-    (form-long (r .form), omega (arith, r .high, r .whole), omega (arith, r .blocks (c .before .loop .k) (omega arith) low, form-statements (r .form)))
+    (form-long _ (r .form), omega (arith, r .high, r .whole), omega (arith, r .blocks (c .before .loop .k) (omega arith) low, form-statements _ (r .form)))
 
 -- src/lib.rt:170:13
 name-so-far-requires : tie.Need-name-so-far-requires Inv-loop μ-loop
 name-so-far-requires c κs =
     let r = c .before .before .before .before .before .before .pre .0 in
     let low : c .before .before .loop .k < c .before .before .before .before .before .before .args .len = omega (arith, c .before .before .before .before .before .before .pre .1) in
-    (form-long (r .form), r .old, omega (arith, r .fits), omega (arith, r .fits, r .long), λ l. omega (arith, r .gains (c .before .before .loop .k) l low, form-statements (r .form)))
+    (form-long _ (r .form), r .old, omega (arith, r .fits), omega (arith, r .fits, r .long), λ l. omega (arith, r .gains (c .before .before .loop .k) l low, form-statements _ (r .form)))
 
 -- src/lib.rt:171:13
 same-requires : tie.Need-same-requires Inv-loop μ-loop

@@ -1,5 +1,6 @@
 use Rattle.commit.proofs.Course.{Course, ripe-propose, course-start, course-end, course-not, course-high, course-settled, course-broken, course-ready, course-grown, course-differs}
-use Rattle.commit.proofs.Readers.{form-long, form-statements, height-of}
+use Rattle.store.proofs.Forms.{form-long, form-statements}
+use Rattle.commit.proofs.Readers.{height-of}
 use Rattle.commit.specs.Chains.{isRipe}
 use borrow.Author.Tests.{not-true, not-false}
 use mathlib.Core.Path.{_≡_, _∙_, sym}
@@ -37,7 +38,7 @@ sub-i c =
 -- src/lib.rt:247:13
 is-due-requires : tie.Need-is-due-requires Inv-loop μ-loop
 is-due-requires c κs =
-    (form-long (c .before .before .before .before .before .pre .form), omega (arith, c .before .loop .inv .up, c .before .before .before .before .before .pre .all, form-statements (c .before .before .before .before .before .pre .form)), c .before .before .before .before .before .pre .short)
+    (form-long _ (c .before .before .before .before .before .pre .form), omega (arith, c .before .loop .inv .up, c .before .before .before .before .before .pre .all, form-statements _ (c .before .before .before .before .before .pre .form)), c .before .before .before .before .before .pre .short)
 
 -- src/lib.rt:242:5
 loop-less : tie.Need-loop-less Inv-loop μ-loop
@@ -52,7 +53,7 @@ loop-again c =
 -- src/lib.rt:250:13
 statement-at-requires : tie.Need-statement-at-requires Inv-loop μ-loop
 statement-at-requires c κs =
-    (form-long (c .before .before .before .before .before .before .before .pre .form), omega (arith, c .before .before .before .loop .inv .up, c .before .before .before .before .before .before .before .pre .all, form-statements (c .before .before .before .before .before .before .before .pre .form)))
+    (form-long _ (c .before .before .before .before .before .before .before .pre .form), omega (arith, c .before .before .before .loop .inv .up, c .before .before .before .before .before .before .before .pre .all, form-statements _ (c .before .before .before .before .before .before .before .pre .form)))
 
 -- src/lib.rt:251:19
 cast-own : tie.Need-cast-own Inv-loop μ-loop
@@ -89,7 +90,7 @@ walk-requires c κs =
     let g = c .before .before .before .before .before .before .before .before .before .before .before .before .before .before .pre in
     let n = height-of _ _ _ (c .before .before .before .before .before .before .statement-at .ensures) in
     let l : c .before .before .before .before .before .before .before .before .before .before .loop .i - 1 < c .before .before .before .before .before .before .before .before .before .before .before .before .before .before .args .count = omega (arith, c .before .before .before .before .before .before .before .before .before .before .loop .inv .up) in
-    (g .form, g .all, l, c .before .before .before .before .before .before .before .before .before .before .loop .inv .chained .whole, g .heights (c .before .before .before .before .before .before .before .before .before .before .loop .i - 1) l (ripe-propose _ _ _ _ (sym (c .before .before .before .before .before .before .before .before .is-due .ensures) ∙ not-false _ (c .before .before .before .before .before .before .before .if2 .left))), omega (arith, c .before .before .before .before .if3 .left, g .all, form-statements (g .form)))
+    (g .form, g .all, l, c .before .before .before .before .before .before .before .before .before .before .loop .inv .chained .whole, g .heights (c .before .before .before .before .before .before .before .before .before .before .loop .i - 1) l (ripe-propose _ _ _ _ (sym (c .before .before .before .before .before .before .before .before .is-due .ensures) ∙ not-false _ (c .before .before .before .before .before .before .before .if2 .left))), omega (arith, c .before .before .before .before .if3 .left, g .all, form-statements _ (g .form)))
 
 -- src/lib.rt:242:5
 loop-less-4 : tie.Need-loop-less-4 Inv-loop μ-loop
@@ -100,13 +101,13 @@ loop-less-4 c =
 loop-again-4 : tie.Need-loop-again-4 Inv-loop μ-loop
 loop-again-4 c =
     let n = height-of _ _ _ (c .before .before .before .before .before .before .before .before .before .before .statement-at .ensures) in
-    course-broken _ _ _ _ _ _ _ _ _ (c .before .before .before .before .before .before .before .before .before .before .before .before .before .before .loop .inv) (omega arith) (sym (c .before .before .before .before .before .before .before .before .before .before .before .before .is-due .ensures) ∙ not-false _ (c .before .before .before .before .before .before .before .before .before .before .before .if2 .left)) _ _ (c .before .before .before .walk .ensures) (omega (arith, c .before .before .before .walk .kept .1 .1 .1 .0, c .before .before .before .before .before .before .before .before .before .before .before .before .before .before .loop .inv .chained .whole)) (omega (arith, n, c .before .before .before .before .before .before .before .before .if3 .left, c .before .before .before .before .before .before .before .before .before .before .before .before .before .before .before .before .before .before .pre .all, form-statements (c .before .before .before .before .before .before .before .before .before .before .before .before .before .before .before .before .before .before .pre .form))) _ n (c .if5 .taken)
+    course-broken _ _ _ _ _ _ _ _ _ (c .before .before .before .before .before .before .before .before .before .before .before .before .before .before .loop .inv) (omega arith) (sym (c .before .before .before .before .before .before .before .before .before .before .before .before .is-due .ensures) ∙ not-false _ (c .before .before .before .before .before .before .before .before .before .before .before .if2 .left)) _ _ (c .before .before .before .walk .ensures) (omega (arith, c .before .before .before .walk .kept .1 .1 .1 .0, c .before .before .before .before .before .before .before .before .before .before .before .before .before .before .loop .inv .chained .whole)) (omega (arith, n, c .before .before .before .before .before .before .before .before .if3 .left, c .before .before .before .before .before .before .before .before .before .before .before .before .before .before .before .before .before .before .pre .all, form-statements _ (c .before .before .before .before .before .before .before .before .before .before .before .before .before .before .before .before .before .before .pre .form))) _ n (c .if5 .taken)
 
 -- src/lib.rt:263:32
 join-requires : tie.Need-join-requires Inv-loop μ-loop
 join-requires c κs =
     let n = height-of _ _ _ (c .before .before .before .before .before .before .before .before .before .before .before .before .statement-at .ensures) in
-    course-ready _ _ _ _ _ _ _ _ _ (c .before .before .before .before .before .before .before .before .before .before .before .before .before .before .before .before .loop .inv) (omega arith) (sym (c .before .before .before .before .before .before .before .before .before .before .before .before .before .before .is-due .ensures) ∙ not-false _ (c .before .before .before .before .before .before .before .before .before .before .before .before .before .if2 .left)) _ _ (c .before .before .before .before .before .walk .ensures) (omega (arith, c .before .before .before .before .before .walk .kept .1 .1 .1 .0, c .before .before .before .before .before .before .before .before .before .before .before .before .before .before .before .before .loop .inv .chained .whole)) (omega (arith, n, c .before .before .before .before .before .before .before .before .before .before .if3 .left, c .before .before .before .before .before .before .before .before .before .before .before .before .before .before .before .before .before .before .before .before .pre .all, form-statements (c .before .before .before .before .before .before .before .before .before .before .before .before .before .before .before .before .before .before .before .before .pre .form))) (c .before .before .if5 .left) _ (c .before .before .before .before .before .before .before .before .before .before .before .before .before .before .before .before .before .before .before .before .pre .form) (c .before .before .before .before .before .before .before .before .before .before .before .before .before .before .before .before .before .before .before .before .pre .old) _ n
+    course-ready _ _ _ _ _ _ _ _ _ (c .before .before .before .before .before .before .before .before .before .before .before .before .before .before .before .before .loop .inv) (omega arith) (sym (c .before .before .before .before .before .before .before .before .before .before .before .before .before .before .is-due .ensures) ∙ not-false _ (c .before .before .before .before .before .before .before .before .before .before .before .before .before .if2 .left)) _ _ (c .before .before .before .before .before .walk .ensures) (omega (arith, c .before .before .before .before .before .walk .kept .1 .1 .1 .0, c .before .before .before .before .before .before .before .before .before .before .before .before .before .before .before .before .loop .inv .chained .whole)) (omega (arith, n, c .before .before .before .before .before .before .before .before .before .before .if3 .left, c .before .before .before .before .before .before .before .before .before .before .before .before .before .before .before .before .before .before .before .before .pre .all, form-statements _ (c .before .before .before .before .before .before .before .before .before .before .before .before .before .before .before .before .before .before .before .before .pre .form))) (c .before .before .if5 .left) _ (c .before .before .before .before .before .before .before .before .before .before .before .before .before .before .before .before .before .before .before .before .pre .form) (c .before .before .before .before .before .before .before .before .before .before .before .before .before .before .before .before .before .before .before .before .pre .old) _ n
 
 -- src/lib.rt:263:27
 enum-known-m : tie.Need-enum-known-m Inv-loop μ-loop
@@ -125,7 +126,7 @@ loop-less-5 c =
 loop-again-5 : tie.Need-loop-again-5 Inv-loop μ-loop
 loop-again-5 c =
     let n = height-of _ _ _ (c .before .before .before .before .before .before .before .before .before .before .before .before .before .before .before .before .before .before .statement-at .ensures) in
-    course-grown _ _ _ _ _ _ _ _ _ (c .before .before .before .before .before .before .before .before .before .before .before .before .before .before .before .before .before .before .before .before .before .before .loop .inv) (omega arith) (sym (c .before .before .before .before .before .before .before .before .before .before .before .before .before .before .before .before .before .before .before .before .is-due .ensures) ∙ not-false _ (c .before .before .before .before .before .before .before .before .before .before .before .before .before .before .before .before .before .before .before .if2 .left)) _ _ (c .before .before .before .before .before .before .before .before .before .before .before .walk .ensures) (omega (arith, c .before .before .before .before .before .before .before .before .before .before .before .walk .kept .1 .1 .1 .0, c .before .before .before .before .before .before .before .before .before .before .before .before .before .before .before .before .before .before .before .before .before .before .loop .inv .chained .whole)) (omega (arith, n, c .before .before .before .before .before .before .before .before .before .before .before .before .before .before .before .before .if3 .left, c .before .before .before .before .before .before .before .before .before .before .before .before .before .before .before .before .before .before .before .before .before .before .before .before .before .before .pre .all, form-statements (c .before .before .before .before .before .before .before .before .before .before .before .before .before .before .before .before .before .before .before .before .before .before .before .before .before .before .pre .form))) (c .before .before .before .before .before .before .before .before .if5 .left) _ _ n (c .before .before .before .before .before .join .result) (c .before .before .before .before .before .join .ensures) (omega (arith, c .before .before .before .before .before .join .kept .1 .1 .1 .0, c .before .before .before .before .before .before .before .before .before .before .before .before .before .before .before .before .before .before .before .before .before .before .loop .inv .long)) _ (c .before .m .given .1)
+    course-grown _ _ _ _ _ _ _ _ _ (c .before .before .before .before .before .before .before .before .before .before .before .before .before .before .before .before .before .before .before .before .before .before .loop .inv) (omega arith) (sym (c .before .before .before .before .before .before .before .before .before .before .before .before .before .before .before .before .before .before .before .before .is-due .ensures) ∙ not-false _ (c .before .before .before .before .before .before .before .before .before .before .before .before .before .before .before .before .before .before .before .if2 .left)) _ _ (c .before .before .before .before .before .before .before .before .before .before .before .walk .ensures) (omega (arith, c .before .before .before .before .before .before .before .before .before .before .before .walk .kept .1 .1 .1 .0, c .before .before .before .before .before .before .before .before .before .before .before .before .before .before .before .before .before .before .before .before .before .before .loop .inv .chained .whole)) (omega (arith, n, c .before .before .before .before .before .before .before .before .before .before .before .before .before .before .before .before .if3 .left, c .before .before .before .before .before .before .before .before .before .before .before .before .before .before .before .before .before .before .before .before .before .before .before .before .before .before .pre .all, form-statements _ (c .before .before .before .before .before .before .before .before .before .before .before .before .before .before .before .before .before .before .before .before .before .before .before .before .before .before .pre .form))) (c .before .before .before .before .before .before .before .before .if5 .left) _ _ n (c .before .before .before .before .before .join .result) (c .before .before .before .before .before .join .ensures) (omega (arith, c .before .before .before .before .before .join .kept .1 .1 .1 .0, c .before .before .before .before .before .before .before .before .before .before .before .before .before .before .before .before .before .before .before .before .before .before .loop .inv .long)) _ (c .before .m .given .1)
 
 -- src/lib.rt:234:1
 same-length : tie.Need-same-length Inv-loop μ-loop
@@ -156,7 +157,7 @@ same-length-4 c =
 returns-2 : tie.Need-returns-2 Inv-loop μ-loop
 returns-2 c =
     let n = height-of _ _ _ (c .before .before .before .before .before .before .before .before .before .before .before .before .before .before .before .before .before .statement-at .ensures) in
-    course-differs _ _ _ _ _ _ _ _ _ (c .before .before .before .before .before .before .before .before .before .before .before .before .before .before .before .before .before .before .before .before .before .loop .inv) (omega arith) (sym (c .before .before .before .before .before .before .before .before .before .before .before .before .before .before .before .before .before .before .before .is-due .ensures) ∙ not-false _ (c .before .before .before .before .before .before .before .before .before .before .before .before .before .before .before .before .before .before .if2 .left)) _ _ (c .before .before .before .before .before .before .before .before .before .before .walk .ensures) (omega (arith, c .before .before .before .before .before .before .before .before .before .before .walk .kept .1 .1 .1 .0, c .before .before .before .before .before .before .before .before .before .before .before .before .before .before .before .before .before .before .before .before .before .loop .inv .chained .whole)) (omega (arith, n, c .before .before .before .before .before .before .before .before .before .before .before .before .before .before .before .if3 .left, c .before .before .before .before .before .before .before .before .before .before .before .before .before .before .before .before .before .before .before .before .before .before .before .before .before .pre .all, form-statements (c .before .before .before .before .before .before .before .before .before .before .before .before .before .before .before .before .before .before .before .before .before .before .before .before .before .pre .form))) (c .before .before .before .before .before .before .before .if5 .left) _ _ n (c .before .before .before .before .join .result) (c .before .before .before .before .join .ensures) (c .before .before .before .before .before .before .before .before .before .before .before .before .before .before .before .before .before .before .before .before .before .before .before .before .before .pre .all) (c .enum-told .given .1)
+    course-differs _ _ _ _ _ _ _ _ _ (c .before .before .before .before .before .before .before .before .before .before .before .before .before .before .before .before .before .before .before .before .before .loop .inv) (omega arith) (sym (c .before .before .before .before .before .before .before .before .before .before .before .before .before .before .before .before .before .before .before .is-due .ensures) ∙ not-false _ (c .before .before .before .before .before .before .before .before .before .before .before .before .before .before .before .before .before .before .if2 .left)) _ _ (c .before .before .before .before .before .before .before .before .before .before .walk .ensures) (omega (arith, c .before .before .before .before .before .before .before .before .before .before .walk .kept .1 .1 .1 .0, c .before .before .before .before .before .before .before .before .before .before .before .before .before .before .before .before .before .before .before .before .before .loop .inv .chained .whole)) (omega (arith, n, c .before .before .before .before .before .before .before .before .before .before .before .before .before .before .before .if3 .left, c .before .before .before .before .before .before .before .before .before .before .before .before .before .before .before .before .before .before .before .before .before .before .before .before .before .pre .all, form-statements _ (c .before .before .before .before .before .before .before .before .before .before .before .before .before .before .before .before .before .before .before .before .before .before .before .before .before .pre .form))) (c .before .before .before .before .before .before .before .if5 .left) _ _ n (c .before .before .before .before .join .result) (c .before .before .before .before .join .ensures) (c .before .before .before .before .before .before .before .before .before .before .before .before .before .before .before .before .before .before .before .before .before .before .before .before .before .pre .all) (c .enum-told .given .1)
 
 pub commit-due-spec : {M : Type 1} → statement M
 commit-due-spec =

@@ -1,6 +1,7 @@
-use Rattle.commit.proofs.Readers.{form-long, form-statements, block-of}
-use Rattle.commit.proofs.Search.{place-none, place-here, place-next}
-use Rattle.commit.specs.Search.{placeFrom}
+use Rattle.store.proofs.Forms.{form-long, form-statements}
+use Rattle.commit.proofs.Readers.{block-of}
+use Rattle.store.proofs.Searches.{find-none, find-here, find-next}
+use Rattle.store.specs.Changes.{firstFrom}
 use Rattle.store.specs.Decode.{rows, statements, statementAt}
 use Rattle.store.specs.Layout.{statementTable, countOf}
 use Rattle.fields.specs.Names.{nameOf}
@@ -19,7 +20,7 @@ use Rattle.store.proofs.statement_at.Reads as statement-at-reads
 
 abbrev Inv-loop : tie.InvT-loop
 Inv-loop store count height name i₀ i =
-    (i ≤ count) × (placeFrom (isBlock height (nameOf name)) 0 (statements store) ≡ placeFrom (isBlock height (nameOf name)) i (rows (statementAt store) i (count - i)))
+    (i ≤ count) × (firstFrom (isBlock height (nameOf name)) 0 (statements store) ≡ firstFrom (isBlock height (nameOf name)) i (rows (statementAt store) i (count - i)))
 
 abbrev μ-loop : tie.MeasureT-loop
 μ-loop store count height name i₀ i =
@@ -34,7 +35,7 @@ loop-holds c =
 -- src/lib.rt:46:13
 statement-at-requires : tie.Need-statement-at-requires Inv-loop μ-loop
 statement-at-requires c κs =
-    (form-long (c .before .before .before .pre .0), omega (arith, c .before .before .before .pre .1, form-statements (c .before .before .before .pre .0)))
+    (form-long _ (c .before .before .before .pre .0), omega (arith, c .before .before .before .pre .1, form-statements _ (c .before .before .before .pre .0)))
 
 -- src/lib.rt:47:12
 is-block-requires : tie.Need-is-block-requires Inv-loop μ-loop
@@ -43,7 +44,7 @@ is-block-requires c κs = search needs
 -- src/lib.rt:50:9
 add-i : tie.Need-add-i Inv-loop μ-loop
 add-i c =
-    omega (arith, c .before .before .before .before .before .before .pre .1, form-statements (c .before .before .before .before .before .before .pre .0))
+    omega (arith, c .before .before .before .before .before .before .pre .1, form-statements _ (c .before .before .before .before .before .before .pre .0))
 
 -- src/lib.rt:42:5
 loop-less : tie.Need-loop-less Inv-loop μ-loop
@@ -53,17 +54,17 @@ loop-less c =
 -- src/lib.rt:42:5
 loop-again : tie.Need-loop-again Inv-loop μ-loop
 loop-again c =
-    (omega arith, c .before .before .before .before .loop .inv .1 ∙ place-next _ _ (c .before .before .before .before .loop .i) (c .before .before .before .before .before .before .args .count) (omega arith) (sym (block-of _ _ _ (c .before .before .statement-at .ensures) _ _) ∙ sym (c .before .is-block .ensures) ∙ c .if2 .left))
+    (omega arith, c .before .before .before .before .loop .inv .1 ∙ find-next _ _ _ (c .before .before .before .before .loop .i) (omega arith) (sym (block-of _ _ _ (c .before .before .statement-at .ensures) _ _) ∙ sym (c .before .is-block .ensures) ∙ c .if2 .left))
 
 -- src/lib.rt:37:1
 returns : tie.Need-returns Inv-loop μ-loop
 returns c =
-    sym (c .before .loop .inv .1 ∙ place-none _ _ (c .before .loop .i) _ (omega arith))
+    sym (c .before .loop .inv .1 ∙ find-none _ _ _ (c .before .loop .i) (omega arith))
 
 -- src/lib.rt:37:1
 returns-2 : tie.Need-returns-2 Inv-loop μ-loop
 returns-2 c =
-    sym (c .before .before .before .before .loop .inv .1 ∙ place-here _ _ (c .before .before .before .before .loop .i) _ (omega arith) (sym (block-of _ _ _ (c .before .before .statement-at .ensures) _ _) ∙ sym (c .before .is-block .ensures) ∙ c .if2 .taken))
+    sym (c .before .before .before .before .loop .inv .1 ∙ find-here _ _ _ (c .before .before .before .before .loop .i) (omega arith) (sym (block-of _ _ _ (c .before .before .statement-at .ensures) _ _) ∙ sym (c .before .is-block .ensures) ∙ c .if2 .taken))
 
 pub find-block-spec : {M : Type 1} → statement M
 find-block-spec =

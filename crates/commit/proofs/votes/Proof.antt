@@ -1,5 +1,5 @@
 use Rattle.commit.proofs.Voting.{voted-not, voted-so, keep-not, keep-so, keep-end, votes-are}
-use Rattle.commit.proofs.Readers.{form-long, form-statements}
+use Rattle.store.proofs.Forms.{form-long, form-statements}
 use Rattle.commit.specs.Chains.{isVoted}
 use Rattle.store.proofs.Loaded.{loaded-view, loaded-statements}
 use Rattle.store.specs.Decode.{rows, statementAt}
@@ -37,7 +37,7 @@ sub-i c =
 -- src/lib.rt:111:12
 vote-in-requires : tie.Need-vote-in-requires Inv-loop μ-loop
 vote-in-requires c κs =
-    (form-long (c .before .before .before .pre .0), omega (arith, c .before .loop .inv .0, loaded-statements _ _ (c .before .before .before .pre .1), form-statements (c .before .before .before .pre .0)))
+    (form-long _ (c .before .before .before .pre .0), omega (arith, c .before .loop .inv .0, loaded-statements _ _ (c .before .before .before .pre .1), form-statements _ (c .before .before .before .pre .0)))
 
 -- src/lib.rt:106:5
 loop-less : tie.Need-loop-less Inv-loop μ-loop
@@ -52,7 +52,7 @@ loop-again c =
 -- src/lib.rt:114:9
 add-n : tie.Need-add-n Inv-loop μ-loop
 add-n c =
-    omega (arith, c .before .before .before .loop .inv .0, loaded-statements _ _ (c .before .before .before .before .before .pre .1), form-statements (c .before .before .before .before .before .pre .0))
+    omega (arith, c .before .before .before .loop .inv .0, loaded-statements _ _ (c .before .before .before .before .before .pre .1), form-statements _ (c .before .before .before .before .before .pre .0))
 
 -- src/lib.rt:106:5
 loop-less-2 : tie.Need-loop-less-2 Inv-loop μ-loop

@@ -1,5 +1,6 @@
 use Rattle.commit.proofs.Walks.{Walking, walking-start, walking-next, walking-end, walking-broken, found-stored}
-use Rattle.commit.proofs.Readers.{form-long, form-statements, height-of, link-of}
+use Rattle.store.proofs.Forms.{form-long, form-statements}
+use Rattle.commit.proofs.Readers.{height-of, link-of}
 use Rattle.fields.specs.Names.{nameOf}
 use native.Mathlib.Omega.{arith}
 use mathlib.Core.Path.{_≡_, _∙_, sym, subst}
@@ -23,7 +24,7 @@ abbrev μ-loop : tie.MeasureT-loop
 -- src/lib.rt:62:9
 statement-at-requires : tie.Need-statement-at-requires Inv-loop μ-loop
 statement-at-requires c κs =
-    (form-long (c .before .before .pre .0), omega (arith, c .before .before .pre .1, c .before .before .pre .2, form-statements (c .before .before .pre .0)))
+    (form-long _ (c .before .before .pre .0), omega (arith, c .before .before .pre .1, c .before .before .pre .2, form-statements _ (c .before .before .pre .0)))
 
 -- src/lib.rt:63:18
 cast-height : tie.Need-cast-height Inv-loop μ-loop
@@ -38,7 +39,7 @@ sub-k c =
 -- src/lib.rt:65:16
 cast-chain : tie.Need-cast-chain Inv-loop μ-loop
 cast-chain c =
-    omega (arith, c .before .before .before .before .pre .1, c .before .before .before .before .pre .2, form-statements (c .before .before .before .before .pre .0))
+    omega (arith, c .before .before .before .before .pre .1, c .before .before .before .before .pre .2, form-statements _ (c .before .before .before .before .pre .0))
 
 -- src/lib.rt:65:5
 slice-write-chain : tie.Need-slice-write-chain Inv-loop μ-loop
@@ -79,7 +80,7 @@ sub-k-2 c =
 -- src/lib.rt:75:20
 cast-chain-2 : tie.Need-cast-chain-2 Inv-loop μ-loop
 cast-chain-2 c =
-    omega (arith, form-statements (c .before .before .before .before .before .before .before .before .before .before .before .pre .0), found-stored _ _ _ _ _ (c .before .before .before .before .before .loop .inv .down) _ (c .before .before .before .find-block .ensures) (omega arith) _ (c .before .p .given .1))
+    omega (arith, form-statements _ (c .before .before .before .before .before .before .before .before .before .before .before .pre .0), found-stored _ _ _ _ _ (c .before .before .before .before .before .loop .inv .down) _ (c .before .before .before .find-block .ensures) (omega arith) _ (c .before .p .given .1))
 
 -- src/lib.rt:75:9
 slice-write-chain-2 : tie.Need-slice-write-chain-2 Inv-loop μ-loop
@@ -89,7 +90,7 @@ slice-write-chain-2 c =
 -- src/lib.rt:76:13
 statement-at-requires-2 : tie.Need-statement-at-requires-2 Inv-loop μ-loop
 statement-at-requires-2 c κs =
-    (form-long (c .before .before .before .before .before .before .before .before .before .before .before .pre .0), omega (arith, form-statements (c .before .before .before .before .before .before .before .before .before .before .before .pre .0), found-stored _ _ _ _ _ (c .before .before .before .before .before .loop .inv .down) _ (c .before .before .before .find-block .ensures) (omega arith) _ (c .before .p .given .1)))
+    (form-long _ (c .before .before .before .before .before .before .before .before .before .before .before .pre .0), omega (arith, form-statements _ (c .before .before .before .before .before .before .before .before .before .before .before .pre .0), found-stored _ _ _ _ _ (c .before .before .before .before .before .loop .inv .down) _ (c .before .before .before .find-block .ensures) (omega arith) _ (c .before .p .given .1)))
 
 -- src/lib.rt:67:5
 loop-less : tie.Need-loop-less Inv-loop μ-loop
