@@ -1,12 +1,11 @@
 -- The loop over the due statements, from the last place down. Assumes nothing.
 use Prim.Native.Nat.{ℕ, zero, suc, _+_, _-_, _<_, _≤_}
-use mathlib.Core.Path.{_≡_, refl, sym, ap, ap₂, _∙_, subst}
+use mathlib.Core.Path.{_≡_, refl, sym, ap, _∙_, subst}
 use mathlib.Core.Bool.{Bool, true, false, not, _&&_}
-use mathlib.Core.List.{List, [], _∷_}
+use mathlib.Core.List.{List}
 use mathlib.Core.Option.{Option, none, some}
 use native.Mathlib.Omega.{arith}
 use native.Mathlib.Nat.{sub-zero}
-use native.Mathlib.Numerals.{add-one}
 use lib.Dec.{eqb}
 use lib.ListN.{length, getD}
 use borrow.Author.Tests.{not-true}
@@ -18,11 +17,11 @@ use Rattle.rules.proofs.Tests.{by-bool, and-left}
 use Rattle.store.specs.Layout.{statementTable, logTable, countOf}
 use Rattle.store.specs.Decode.{rows, statementAt, statements, nameAt, names, Form}
 use Rattle.store.proofs.Rows.{rows-same}
+use Rattle.store.proofs.Forms.{form-log}
 use Rattle.commit.specs.Chains.{statementIn, nameIn, nameSoFar, lacking, Walked, WalkedFrom, Settled, Begun, Ready, isRipe}
 use Rattle.commit.specs.Outcome.{Log, Has, Joined, JoinedWith}
 use Rattle.commit.specs.declared.Merged.{Merged}
 use Rattle.commit.specs.declared.Merged.the-variants.{Grown, Differs}
-use Rattle.store.proofs.Forms.{form-statements, form-log}
 use Rattle.commit.proofs.Order.{bind, first-last}
 use Rattle.commit.proofs.Pigeon.{too-high}
 use Rattle.commit.proofs.Places.{so-far-old}
@@ -30,18 +29,30 @@ use Rattle.commit.proofs.Voting.{keep-not, keep-so, keep-end}
 use Rattle.commit.proofs.Joining.{merge-short}
 
 -- the last chain walked, if whole, is in the log so far
-pub record Chained (b gained chain : List ℕ) (len height left : ℕ) : Type 0 where
-  pub walked : Walked b chain height left
+pub record Chained (b gained table : List ℕ) (len height left : ℕ) : Type 0 where
+  pub walked : Walked b table height left
   pub high : height ≤ mostStatements
-  pub whole : length chain ≡ mostStatements
-  pub has : left ≡ 0 → Has b gained chain height len
+  pub long : length table ≡ mostStatements
+  pub has : left ≡ 0 → Has b gained table height len
 
 -- the due statements from place i on have joined
-pub record Course (b : List ℕ) (p : Statement → Bool) (count i len : ℕ) (gained chain : List ℕ) (height left : ℕ) : Type 0 where
+pub record Course (b : List ℕ) (p : Statement → Bool) (count i len : ℕ) (gained table : List ℕ) (height left : ℕ) : Type 0 where
   pub up : i ≤ count
   pub log : Log (commits (statements b) (keep p (rows (statementAt b) i (count - i))) (names b)) b gained len
   pub long : length gained ≡ mostStatements
-  pub chained : Chained b gained chain len height left
+  pub chained : Chained b gained table len height left
+
+-- the chain of the due statement before place i was walked
+pub record Turn (b : List ℕ) (p : Statement → Bool) (count i len : ℕ) (gained table : List ℕ) (left own : ℕ) : Type 0 where
+  pub up : i ≤ count
+  pub log : Log (commits (statements b) (keep p (rows (statementAt b) i (count - i))) (names b)) b gained len
+  pub long : length gained ≡ mostStatements
+  pub pos : 0 < i
+  pub due : p (statementAt b (i - 1)) ≡ true
+  pub tall : own ≡ statementAt b (i - 1) .height
+  pub high : own ≤ mostStatements
+  pub walked : WalkedFrom b table (i - 1) left
+  pub whole : length table ≡ mostStatements
 
 -- ---- one block
 
@@ -57,169 +68,194 @@ module _ (xs : List Statement) (x : Statement) (l : List ℕ) where
 -- a propose that is due is no new-view
 pub ripe-propose : (view wait now : ℕ) (x : Statement) → isRipe view wait now x ≡ true → x .isNewView ≡ false
 unfolding isRipe
-ripe-propose view wait now x e = go (x .isNewView) (and-left (not (x .isNewView)) _ (and-left (not (x .isNewView) && eqb (x .view) view) _ e))
-  where
-    go : (k : Bool) → not k ≡ true → k ≡ false
-    go k q = not-true k q
+ripe-propose view wait now x e = not-true (x .isNewView) (and-left (not (x .isNewView)) _ (and-left (not (x .isNewView) && eqb (x .view) view) _ e))
 
-module _ (b : List ℕ) (p : Statement → Bool) (count : ℕ) where
-  abbrev xs : List Statement
-  xs = statements b
+module _ (b : List ℕ) (p : Statement → Bool) (count : ℕ) (l : List ℕ) where
+  -- the due statements from place i on
+  abbrev from : ℕ → Option (List ℕ)
+  from i = commits (statements b) (keep p (rows (statementAt b) i (count - i))) l
 
-  abbrev S : ℕ → Statement
-  S = statementAt b
+  abbrev at : ℕ → Statement
+  at i = statementAt b (i - 1)
 
-  pub course-start : (gained chain : List ℕ) (logged wait : ℕ) → Begun b gained chain count logged wait → Course b p count count logged gained chain 0 0
-  unfolding commits names
-  course-start gained chain logged wait g =
-      let same : rows (nameAt b) 0 (countOf logTable b) ≡ rows (nameSoFar b gained) 0 logged =
-              rows-same (nameAt b) (nameSoFar b gained) 0 (countOf logTable b) (λ k l m. sym (so-far-old b gained k (omega arith)))
-              ∙ ap (rows (nameSoFar b gained) 0) (sym (g .old)) in
-      record {
-        up = omega arith;
-        log = record {
-          is = ap (λ (ys : List Statement). commits xs ys (names b)) (keep-end p S count) ∙ ap some same;
-          more = omega (arith, g .old);
-          fits = omega (arith, g .old, form-log _ (g .form));
-          stored = λ k l m. absurd (omega (arith, g .old));
-        };
-        long = g .long;
-        chained = record {
-          walked = record { stored = λ k l m. absurd (omega arith); chains = λ k l m. absurd (omega arith) };
-          high = omega arith;
-          whole = g .whole;
-          has = λ z. record { up = omega arith; same = λ k l. absurd (omega arith) };
-        };
-      }
+  from-not : (i : ℕ) → 0 < i → i ≤ count → p (at i) ≡ false → from (i - 1) ≡ from i
+  from-not i pos up e = ap (λ (ys : List Statement). commits (statements b) ys l) (keep-not p (statementAt b) count i pos up e)
+
+  from-so : (i : ℕ) → 0 < i → i ≤ count → p (at i) ≡ true → from (i - 1) ≡ bind (from i) (commit (statements b) (at i))
+  from-so i pos up e =
+      ap (λ (ys : List Statement). commits (statements b) ys l) (keep-so p (statementAt b) count i pos up e)
+      ∙ first-last (statements b) (at i) (keep p (rows (statementAt b) i (count - i))) l
 
   -- what is none stays none
-  none-below : (l : List ℕ) (i : ℕ) → i ≤ count → commits xs (keep p (rows S i (count - i))) l ≡ none → commits xs (keep p (rows S 0 count)) l ≡ none
-  none-below l zero h e = ap (λ (n : ℕ). commits xs (keep p (rows S 0 n)) l) (sym (sub-zero count)) ∙ e
-  none-below l (suc i) h e =
+  none-below : (i : ℕ) → i ≤ count → from i ≡ none → commits (statements b) (keep p (rows (statementAt b) 0 count)) l ≡ none
+  none-below zero h e = ap (λ (n : ℕ). commits (statements b) (keep p (rows (statementAt b) 0 n)) l) (sym (sub-zero count)) ∙ e
+  none-below (suc i) h e =
       let z : suc i - 1 ≡ i = omega arith in
-      none-below l i (omega arith)
-      (ap (λ (k : ℕ). commits xs (keep p (rows S k (count - k))) l) (sym z)
-      ∙ by-bool (p (S (suc i - 1)))
-        (λ t. ap (λ (ys : List Statement). commits xs ys l) (keep-so p S count (suc i) (omega arith) h t) ∙ first-last xs (S (suc i - 1)) _ l
-          ∙ ap (λ (o : Option (List ℕ)). bind o (commit xs (S (suc i - 1)))) e)
-        (λ t. ap (λ (ys : List Statement). commits xs ys l) (keep-not p S count (suc i) (omega arith) h t) ∙ e))
+      none-below i (omega arith)
+      (ap from (sym z)
+      ∙ by-bool (p (at (suc i)))
+      (λ t. from-so (suc i) (omega arith) h t ∙ ap (λ (o : Option (List ℕ)). bind o (commit (statements b) (at (suc i)))) e)
+      (λ t. from-not (suc i) (omega arith) h t ∙ e))
 
-  module _ (i len : ℕ) (gained table : List ℕ) (height left : ℕ) (c : Course b p count i len gained table height left) where
+-- ---- the course's begin and end, and the turns that walk no chain
+
+pub course-start : {b : List ℕ} {gained table : List ℕ} {count logged wait : ℕ} (p : Statement → Bool) → Begun b gained table count logged wait
+    → Course b p count count logged gained table 0 0
+unfolding commits names
+course-start {b} {gained} {table} {count} {logged} p g =
+    let same : rows (nameAt b) 0 (countOf logTable b) ≡ rows (nameSoFar b gained) 0 logged =
+    rows-same (nameAt b) (nameSoFar b gained) 0 (countOf logTable b) (λ k l m. sym (so-far-old b gained k (omega arith)))
+    ∙ ap (rows (nameSoFar b gained) 0) (sym (g .old)) in
+    record {
+      up = omega arith;
+      log =
+          record {
+            is = ap (λ (ys : List Statement). commits (statements b) ys (names b)) (keep-end p (statementAt b) count) ∙ ap some same;
+            more = omega (arith, g .old);
+            fits = omega (arith, g .old, form-log b (g .form));
+            stored = λ k l m. absurd (omega (arith, g .old));
+          };
+      long = g .long;
+      chained =
+          record {
+            walked = record { stored = λ k l m. absurd (omega arith); chains = λ k l m. absurd (omega arith) };
+            high = omega arith;
+            long = g .whole;
+            has = λ z. record { up = omega arith; same = λ k l. absurd (omega arith) };
+          };
+    }
+
+module _ {b : List ℕ} {p : Statement → Bool} {count i len : ℕ} {gained table : List ℕ} {height left : ℕ} (c : Course b p count i len gained table height left) where
+  pub course-end : count ≡ countOf statementTable b → i ≡ 0 → Joined (commits (statements b) (keep p (statements b)) (names b)) b gained (Grown len)
+  unfolding statements
+  course-end e z =
+      let all : rows (statementAt b) i (count - i) ≡ statements b =
+      ap (λ (k : ℕ). rows (statementAt b) k (count - k)) z ∙ ap (rows (statementAt b) 0) (sub-zero count ∙ e) in
+      subst (λ (ys : List Statement). Log (commits (statements b) (keep p ys) (names b)) b gained len) all (c .log)
+
+  module _ (pos : 0 < i) where
+    abbrev x : Statement
+    x = statementAt b (i - 1)
+
     abbrev soFar : List ℕ
     soFar = rows (nameSoFar b gained) 0 len
 
-    pub course-end : count ≡ countOf statementTable b → i ≡ 0 → Joined (commits xs (keep p xs) (names b)) b gained (Grown len)
-    unfolding statements
-    course-end e z =
-        let whole : rows S i (count - i) ≡ statements b = ap (λ (k : ℕ). rows S k (count - k)) z ∙ ap (rows S 0) (sub-zero count ∙ e) in
-        subst (λ (ys : List Statement). Log (commits xs (keep p ys) (names b)) b gained len) whole (c .log)
+    on : from b p count (names b) (i - 1) ≡ some soFar → Course b p count (i - 1) len gained table height left
+    on e = record {
+      up = omega (arith, c .up);
+      log = record { is = e; more = c .log .more; fits = c .log .fits; stored = c .log .stored };
+      long = c .long;
+      chained = c .chained;
+    }
 
-    module _ (pos : 0 < i) where
-      abbrev x : Statement
-      x = S (i - 1)
+    -- it is not due
+    pub course-not : p x ≡ false → Course b p count (i - 1) len gained table height left
+    course-not e = on (from-not b p count (names b) i pos (c .up) e ∙ c .log .is)
 
-      -- it is not due
-      pub course-not : p x ≡ false → Course b p count (i - 1) len gained table height left
-      course-not e = record {
-        up = omega (arith, c .up);
-        log = subst (λ (ys : List Statement). Log (commits xs ys (names b)) b gained len) (sym (keep-not p S count i pos (c .up) e)) (c .log);
-        long = c .long;
-        chained = c .chained;
+    module _ (due : p x ≡ true) where
+      passed : commit (statements b) x soFar ≡ some soFar → Course b p count (i - 1) len gained table height left
+      passed e = on (from-so b p count (names b) i pos (c .up) due ∙ ap (λ (o : Option (List ℕ)). bind o (commit (statements b) x)) (c .log .is) ∙ e)
+
+      -- it is higher than a whole chain can be
+      pub course-high : count ≡ countOf statementTable b → count < x .height → Course b p count (i - 1) len gained table height left
+      unfolding statements
+      course-high e l =
+          let broken : chain (rows (statementAt b) 0 count) x ≡ none = too-high (statementAt b) count (i - 1) (omega (arith, c .up)) l in
+          passed (commit-none (statements b) x soFar (ap (λ (n : ℕ). chain (rows (statementAt b) 0 n) x) (sym e) ∙ broken))
+
+      -- the last walk went through it
+      pub course-settled : (own : ℕ) (r : Bool) → Settled table height left own (i - 1) r → r ≡ true → Course b p count (i - 1) len gained table height left
+      unfolding statementIn
+      course-settled own r s e =
+          let q = subst (Settled table height left own (i - 1)) e s in
+          let z : own - 1 + 1 ≡ own = omega (arith, q .0) in
+          let k : chain (statements b) x ≡ lacking left (rows (nameIn b table) 0 own) =
+          ap (λ (j : ℕ). chain (statements b) (statementAt b j)) (sym (q .2))
+          ∙ c .chained .walked .chains (own - 1) (omega (arith, q .0)) (omega (arith, q .0, q .1))
+          ∙ ap (λ (n : ℕ). lacking left (rows (nameIn b table) 0 n)) z in
+          passed (go left k (c .chained .has) (q .1))
+        where
+          go : (left : ℕ) → chain (statements b) x ≡ lacking left (rows (nameIn b table) 0 own) → (left ≡ 0 → Has b gained table height len) → own ≤ height
+              → commit (statements b) x soFar ≡ some soFar
+          go zero k has l =
+              commit-some (statements b) x soFar _ k
+              ∙ merge-short (nameIn b table) (nameSoFar b gained) 0 own len (omega (arith, has refl .up)) (λ j u v. has refl .same j (omega arith))
+          go (suc n) k has l = commit-none (statements b) x soFar k
+
+-- ---- a turn that walked a chain
+
+module _ {b : List ℕ} {p : Statement → Bool} {count i len : ℕ} {gained table : List ℕ} {left own : ℕ} (t : Turn b p count i len gained table left own) where
+  abbrev y : Statement
+  y = statementAt b (i - 1)
+
+  abbrev log : List ℕ
+  log = rows (nameSoFar b gained) 0 len
+
+  joins : from b p count (names b) (i - 1) ≡ commit (statements b) y log
+  joins = from-so b p count (names b) i (t .pos) (t .up) (t .due) ∙ ap (λ (o : Option (List ℕ)). bind o (commit (statements b) y)) (t .log .is)
+
+  its-walk : Walked b table own left
+  its-walk = subst (λ (h : ℕ). Walked b table h left) (sym (t .tall)) (t .walked .walked)
+
+  its-chain : chain (statements b) y ≡ lacking left (rows (nameIn b table) 0 own)
+  unfolding statementIn
+  its-chain =
+      let below : left < own = omega (arith, t .walked .below, t .tall) in
+      let z : own - 1 + 1 ≡ own = omega arith in
+      let top : getD table (own - 1) 0 ≡ i - 1 = ap (λ (h : ℕ). getD table (h - 1) 0) (t .tall) ∙ t .walked .top in
+      ap (λ (j : ℕ). chain (statements b) (statementAt b j)) (sym top) ∙ its-walk .chains (own - 1) (omega arith) (omega arith)
+      ∙ ap (λ (n : ℕ). lacking left (rows (nameIn b table) 0 n)) z
+
+  -- an ancestor is not stored
+  pub turn-broken : (left ≡ 0 → ⊥) → Course b p count (i - 1) len gained table own left
+  turn-broken d =
+      record {
+        up = omega (arith, t .up);
+        log =
+            record {
+              is = joins ∙ commit-none (statements b) y log (its-chain ∙ lacks left d _);
+              more = t .log .more;
+              fits = t .log .fits;
+              stored = t .log .stored;
+            };
+        long = t .long;
+        chained = record { walked = its-walk; high = t .high; long = t .whole; has = λ z. absurd (d z) };
       }
+    where
+      lacks : (k : ℕ) → (k ≡ 0 → ⊥) → (l : List ℕ) → lacking k l ≡ none
+      lacks zero d l = absurd (d refl)
+      lacks (suc k) d l = refl
 
-      module _ (due : p x ≡ true) where
-        joins : commits xs (keep p (rows S (i - 1) (count - (i - 1)))) (names b) ≡ commit xs x soFar
-        joins =
-            ap (λ (ys : List Statement). commits xs ys (names b)) (keep-so p S count i pos (c .up) due) ∙ first-last xs x (keep p (rows S i (count - i))) (names b)
-            ∙ ap (λ (o : Option (List ℕ)). bind o (commit xs x)) (c .log .is)
+  module _ (whole : left ≡ 0) where
+    merges : from b p count (names b) (i - 1) ≡ merge (rows (nameIn b table) 0 own) log
+    merges = joins ∙ commit-some (statements b) y log _ (its-chain ∙ ap (λ (n : ℕ). lacking n (rows (nameIn b table) 0 own)) whole)
 
-        passed : commit xs x soFar ≡ some soFar → (table′ : List ℕ) (height′ left′ : ℕ) → Chained b gained table′ len height′ left′
-            → Course b p count (i - 1) len gained table′ height′ left′
-        passed e table′ height′ left′ h = record {
-          up = omega (arith, c .up);
-          log = record { is = joins ∙ e; more = c .log .more; fits = c .log .fits; stored = c .log .stored };
-          long = c .long;
-          chained = h;
-        }
+    pub turn-ready : {logged : ℕ} → Form b → logged ≡ countOf logTable b → Ready b gained table logged len own
+    turn-ready f old = record {
+      form = f;
+      old = old;
+      more = omega (arith, t .log .more);
+      fits = t .log .fits;
+      long = t .long;
+      gains = λ k l m. t .log .stored k (omega arith) m;
+      high = t .high;
+      whole = t .whole;
+      blocks = λ k l m. its-walk .stored k (omega arith) m;
+    }
 
-        -- it is higher than a whole chain can be
-        pub course-high : count ≡ countOf statementTable b → count < x .height → Course b p count (i - 1) len gained table height left
-        unfolding statements
-        course-high e l =
-            let broken : chain (rows S 0 count) x ≡ none = too-high S count (i - 1) (omega (arith, c .up)) l in
-            passed (commit-none xs x soFar (ap (λ (n : ℕ). chain (rows S 0 n) x) (sym e) ∙ broken)) table height left (c .chained)
+    module _ (gained′ : List ℕ) (r : Merged) (j : JoinedWith b gained gained′ table own len r) where
+      pub turn-grown : length gained′ ≡ mostStatements → (m : ℕ) → r ≡ Grown m → Course b p count (i - 1) m gained′ table own left
+      turn-grown n m q =
+          let g = subst (JoinedWith b gained gained′ table own len) q j in
+          record {
+            up = omega (arith, t .up);
+            log = record { is = merges ∙ g .0 .is; more = g .0 .more; fits = g .0 .fits; stored = g .0 .stored };
+            long = n;
+            chained = record { walked = its-walk; high = t .high; long = t .whole; has = λ z. g .1 };
+          }
 
-        -- the last walk went through it
-        pub course-settled : (own : ℕ) (r : Bool) → Settled table height left own (i - 1) r → r ≡ true → Course b p count (i - 1) len gained table height left
-        unfolding statementIn
-        course-settled own r s e =
-            let q = subst (Settled table height left own (i - 1)) e s in
-            let z : own - 1 + 1 ≡ own = omega (arith, q .0) in
-            let k : chain xs x ≡ lacking left (rows (nameIn b table) 0 own) =
-                    ap (λ (j : ℕ). chain xs (S j)) (sym (q .2)) ∙ c .chained .walked .chains (own - 1) (omega (arith, q .0)) (omega (arith, q .0, q .1))
-                    ∙ ap (λ (n : ℕ). lacking left (rows (nameIn b table) 0 n)) z in
-            passed (go left k (c .chained .has) (q .1)) table height left (c .chained)
-          where
-            go : (left : ℕ) → chain xs x ≡ lacking left (rows (nameIn b table) 0 own) → (left ≡ 0 → Has b gained table height len) → own ≤ height → commit xs x soFar ≡ some soFar
-            go zero k has l =
-                commit-some xs x soFar _ k
-                ∙ merge-short (nameIn b table) (nameSoFar b gained) 0 own len (omega (arith, has refl .up)) (λ j u v. has refl .same j (omega arith))
-            go (suc n) k has l = commit-none xs x soFar k
-
-        -- its chain was walked
-        module _ (table′ : List ℕ) (left′ : ℕ) (w : WalkedFrom b table′ (i - 1) left′) (long : length table′ ≡ mostStatements) (high : x .height ≤ mostStatements) where
-          its-chain : chain xs x ≡ lacking left′ (rows (nameIn b table′) 0 (x .height))
-          unfolding statementIn
-          its-chain =
-              let z : x .height - 1 + 1 ≡ x .height = omega (arith, w .below) in
-              ap (λ (j : ℕ). chain xs (S j)) (sym (w .top)) ∙ w .walked .chains (x .height - 1) (omega (arith, w .below)) (omega (arith, w .below))
-              ∙ ap (λ (n : ℕ). lacking left′ (rows (nameIn b table′) 0 n)) z
-
-          pub course-broken : (own : ℕ) → own ≡ x .height → (left′ ≡ 0 → ⊥) → Course b p count (i - 1) len gained table′ own left′
-          course-broken own e d =
-              passed (commit-none xs x soFar (its-chain ∙ lacks left′ d _)) table′ own left′
-              (subst (λ (h : ℕ). Chained b gained table′ len h left′) (sym e) (record { walked = w .walked; high = high; whole = long; has = λ z. absurd (d z) }))
-            where
-              lacks : (k : ℕ) → (k ≡ 0 → ⊥) → (l : List ℕ) → lacking k l ≡ none
-              lacks zero d l = absurd (d refl)
-              lacks (suc k) d l = refl
-
-          module _ (whole : left′ ≡ 0) where
-            merges : commit xs x soFar ≡ merge (rows (nameIn b table′) 0 (x .height)) soFar
-            merges = commit-some xs x soFar _ (its-chain ∙ ap (λ (n : ℕ). lacking n (rows (nameIn b table′) 0 (x .height))) whole)
-
-            pub course-ready : (logged : ℕ) → Form b → logged ≡ countOf logTable b → (own : ℕ) → own ≡ x .height → Ready b gained table′ logged len own
-            course-ready logged f old own e = record {
-              form = f;
-              old = old;
-              more = omega (arith, c .log .more);
-              fits = c .log .fits;
-              long = c .long;
-              gains = λ k l m. c .log .stored k (omega arith) m;
-              high = omega arith;
-              whole = long;
-              blocks = λ k l m. w .walked .stored k (omega arith) (omega arith);
-            }
-
-            module _ (gained′ : List ℕ) (own : ℕ) (e : own ≡ x .height) (r : Merged) (j : JoinedWith b gained gained′ table′ own len r) where
-              here : JoinedWith b gained gained′ table′ (x .height) len r
-              here = subst (λ (h : ℕ). JoinedWith b gained gained′ table′ h len r) e j
-
-              pub course-grown : length gained′ ≡ mostStatements → (m : ℕ) → r ≡ Grown m → Course b p count (i - 1) m gained′ table′ own left′
-              course-grown n m q =
-                  let g = subst (JoinedWith b gained gained′ table′ (x .height) len) q here in
-                  record {
-                    up = omega (arith, c .up);
-                    log = record { is = joins ∙ merges ∙ g .0 .is; more = g .0 .more; fits = g .0 .fits; stored = g .0 .stored };
-                    long = n;
-                    chained =
-                        subst (λ (h : ℕ). Chained b gained′ table′ m h left′) (sym e)
-                        (record { walked = w .walked; high = high; whole = long; has = λ z. g .1 });
-                  }
-
-              pub course-differs : count ≡ countOf statementTable b → r ≡ Differs → commits xs (keep p xs) (names b) ≡ none
-              unfolding statements
-              course-differs a q =
-                  let g = subst (JoinedWith b gained gained′ table′ (x .height) len) q here in
-                  ap (λ (n : ℕ). commits xs (keep p (rows S 0 n)) (names b)) (sym a)
-                  ∙ none-below (names b) (i - 1) (omega (arith, c .up)) (joins ∙ merges ∙ g)
+      pub turn-differs : count ≡ countOf statementTable b → r ≡ Differs → commits (statements b) (keep p (statements b)) (names b) ≡ none
+      unfolding statements
+      turn-differs a q =
+          ap (λ (n : ℕ). commits (statements b) (keep p (rows (statementAt b) 0 n)) (names b)) (sym a)
+          ∙ none-below b p count (names b) (i - 1) (omega (arith, t .up)) (merges ∙ subst (JoinedWith b gained gained′ table own len) q j)

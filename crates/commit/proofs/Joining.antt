@@ -2,8 +2,8 @@
 use Prim.Native.Nat.{ℕ, zero, suc, _+_, _-_, _<_, _≤_}
 use mathlib.Core.Path.{_≡_, refl, sym, ap, _∙_, subst}
 use mathlib.Core.Bool.{Bool, true, false}
-use mathlib.Core.List.{List, [], _∷_}
-use mathlib.Core.Option.{Option, none, some, Option·map}
+use mathlib.Core.List.{List, _∷_}
+use mathlib.Core.Option.{none, some, Option·map}
 use native.Mathlib.Omega.{arith}
 use lib.Dec.{eqb}
 use borrow.Author.Tests.{eq-eqb, ne-eqb}
@@ -13,7 +13,6 @@ use Rattle.store.specs.Decode.{rows}
 use Rattle.store.proofs.Rows.{rows-same}
 use Rattle.commit.specs.Chains.{nameIn, nameSoFar, Copied, Ready, Agree}
 use Rattle.commit.specs.Outcome.{JoinedWith}
-use Rattle.commit.specs.declared.Merged.{Merged}
 use Rattle.commit.specs.declared.Merged.the-variants.{Grown, Differs}
 use Rattle.commit.proofs.Places.{name-same, so-far-new, so-far-same}
 
@@ -79,7 +78,8 @@ module _ (b gained chain : List ℕ) (logged len height : ℕ) (r : Ready b gain
       fits = r .fits;
       stored = λ k l m. r .gains k (omega (arith, r .old)) m;
     },
-    record { up = p; same = λ k l. alike e k (omega arith) })
+    record { up = p; same = λ k l. alike e k (omega arith) },
+  )
 
   pub join-grows : len ≤ height → len ≤ end → a ≡ true → (left : List ℕ) → Copied chain gained left len height → JoinedWith b gained left chain height len (Grown height)
   join-grows p q e left c = (
@@ -93,7 +93,8 @@ module _ (b gained chain : List ℕ) (logged len height : ℕ) (r : Ready b gain
             | no u ↦ omega (arith, c .within k (omega arith) m, r .blocks k (omega arith) m)
           ];
     },
-    record { up = omega arith; same = same })
+    record { up = omega arith; same = same },
+  )
     where
       same : (k : ℕ) → k < height → F k ≡ nameSoFar b left k
       same k l =

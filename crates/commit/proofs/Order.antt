@@ -62,15 +62,15 @@ swap (x ∷ a) (y ∷ b) [] = merge-sym (y ∷ b) (x ∷ a)
 swap (x ∷ a) (y ∷ b) (z ∷ l) =
     by-bool (eqb x z)
     (λ e. by-bool (eqb y z)
-      (λ f. ap (λ (o : Option (List ℕ)). then o (y ∷ b)) (merge-eq x z a l e) ∙ then-eq y z b (merge a l) f ∙ ap (Option·map (z ∷_)) (swap a b l)
-        ∙ sym (ap (λ (o : Option (List ℕ)). then o (x ∷ a)) (merge-eq y z b l f) ∙ then-eq x z a (merge b l) e))
-      (λ f. ap (λ (o : Option (List ℕ)). then o (y ∷ b)) (merge-eq x z a l e) ∙ then-ne y z b (merge a l) f
-        ∙ sym (ap (λ (o : Option (List ℕ)). then o (x ∷ a)) (merge-ne y z b l f))))
+    (λ f. ap (λ (o : Option (List ℕ)). then o (y ∷ b)) (merge-eq x z a l e) ∙ then-eq y z b (merge a l) f ∙ ap (Option·map (z ∷_)) (swap a b l)
+    ∙ sym (ap (λ (o : Option (List ℕ)). then o (x ∷ a)) (merge-eq y z b l f) ∙ then-eq x z a (merge b l) e))
+    (λ f. ap (λ (o : Option (List ℕ)). then o (y ∷ b)) (merge-eq x z a l e) ∙ then-ne y z b (merge a l) f
+    ∙ sym (ap (λ (o : Option (List ℕ)). then o (x ∷ a)) (merge-ne y z b l f))))
     (λ e. by-bool (eqb y z)
-      (λ f. ap (λ (o : Option (List ℕ)). then o (y ∷ b)) (merge-ne x z a l e)
-        ∙ sym (ap (λ (o : Option (List ℕ)). then o (x ∷ a)) (merge-eq y z b l f) ∙ then-ne x z a (merge b l) e))
-      (λ f. ap (λ (o : Option (List ℕ)). then o (y ∷ b)) (merge-ne x z a l e)
-        ∙ sym (ap (λ (o : Option (List ℕ)). then o (x ∷ a)) (merge-ne y z b l f))))
+    (λ f. ap (λ (o : Option (List ℕ)). then o (y ∷ b)) (merge-ne x z a l e)
+    ∙ sym (ap (λ (o : Option (List ℕ)). then o (x ∷ a)) (merge-eq y z b l f) ∙ then-ne x z a (merge b l) e))
+    (λ f. ap (λ (o : Option (List ℕ)). then o (y ∷ b)) (merge-ne x z a l e)
+    ∙ sym (ap (λ (o : Option (List ℕ)). then o (x ∷ a)) (merge-ne y z b l f))))
 
 -- ---- the order of the due blocks
 

@@ -89,8 +89,8 @@ not-counted f k i j (suc n) a b h =
       | yes l ↦ omega (arith, one-le (leb (f j .height) k), not-counted f k i (suc j) n l (omega arith) h)
       | no l ↦
           (let e : j ≡ i = omega arith in
-           let z : one (leb (f j .height) k) ≡ 0 = ap (λ (x : ℕ). one (leb (f x .height) k)) e ∙ ap one (lt-leb _ _ h) in
-           omega (arith, z, upTo-all k (rows f (suc j) n), rows-length f (suc j) n))
+          let z : one (leb (f j .height) k) ≡ 0 = ap (λ (x : ℕ). one (leb (f x .height) k)) e ∙ ap one (lt-leb _ _ h) in
+          omega (arith, z, upTo-all k (rows f (suc j) n), rows-length f (suc j) n))
     ]
 
 -- so a block higher than all of them are many has no whole chain
@@ -99,4 +99,4 @@ unfolding chain
 too-high f n i l h =
     by-option (chain (rows f 0 n) (f i)) (λ e. e)
     (λ c e.
-      absurd (omega (arith, chain-up (rows f 0 n) (f i .height - 1) (f i .link) _ c e, not-counted f (f i .height - 1) i 0 n (omega arith) (omega arith) (omega arith))))
+    absurd (omega (arith, chain-up (rows f 0 n) (f i .height - 1) (f i .link) _ c e, not-counted f (f i .height - 1) i 0 n (omega arith) (omega arith) (omega arith))))

@@ -1,15 +1,12 @@
 -- Tables of places: the names that they stand for, and how one is copied. Assumes nothing.
 use Prim.Native.Nat.{ℕ, _+_, _-_, _<_, _≤_}
 use mathlib.Core.Path.{_≡_, refl, sym, ap, _∙_, subst}
-use mathlib.Core.Bool.{Bool, true, false}
 use mathlib.Core.List.{List}
 use native.Mathlib.Omega.{arith}
 use native.Mathlib.Decide.{decLt}
-use lib.Dec.{ltb}
-use lib.ListN.{length, getD, set, length-set}
+use lib.ListN.{length, getD, set}
 use lib.Seq.{getD-set-same, getD-set-other}
 use borrow.Author.Tests.{lt-ltb, le-ltb}
-use Rattle.rules.specs.Words.{Statement}
 use Rattle.store.specs.Layout.{logTable, countOf}
 use Rattle.store.specs.Decode.{statementAt, nameAt}
 use Rattle.commit.specs.Chains.{statementIn, nameIn, nameSoFar, Copied}

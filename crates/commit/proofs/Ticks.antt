@@ -1,24 +1,23 @@
 -- The due statements of a tick from a store, and the log that the tick leaves. Assumes nothing.
-use Prim.Native.Nat.{ℕ, zero, suc, _+_, _-_, _*_, _^_, _<_, _≤_}
-use mathlib.Core.Path.{_≡_, refl, sym, ap, ap₂, _∙_, subst}
+use Prim.Native.Nat.{ℕ, _+_, _-_, _*_, _^_, _<_, _≤_}
+use mathlib.Core.Path.{_≡_, refl, sym, ap, ap₂, _∙_}
 use mathlib.Core.Bool.{Bool, true, false, not, _&&_}
 use mathlib.Core.List.{List, [], _∷_, _++_, append-nil}
 use mathlib.Core.Option.{Option, none, some}
 use native.Mathlib.Omega.{arith}
 use native.Mathlib.Nat.{zero-add}
-use native.Mathlib.Decide.{decLt}
-use lib.Dec.{leb, eqb}
+use lib.Dec.{leb}
 use lib.ListN.{length}
 use borrow.Author.Tests.{leb-true}
-use Rattle.rules.specs.Limits.{lastHeight, mostStatements, mostTallies}
-use Rattle.rules.specs.Lists.{keep, sorted, all, within, distinct}
+use Rattle.rules.specs.Limits.{mostStatements, mostTallies}
+use Rattle.rules.specs.Lists.{keep, sorted, all, distinct}
 use Rattle.rules.specs.Sizes.{Settings, goodSettings}
 use Rattle.rules.specs.Messages.{propose, viewAllowed, blockAllowed, maskAllowed, allowed}
 use Rattle.rules.specs.Words.{Statement, message, Phase, inView, waiting, stopped, State, sameStatement, sameBlock}
 use Rattle.rules.specs.Inputs.{withClock, isIn, isDue, due, commits}
 use Rattle.rules.specs.WellFormed.{isName, wellFormed, clocksInOrder, lockGood, statementGood, tallyGood, talliesThere, blamesGood, linked}
 use Rattle.rules.proofs.Tests.{by-bool, and-left, and-right}
-use Rattle.fields.specs.Places.{number, Bytes}
+use Rattle.fields.specs.Places.{Bytes}
 use Rattle.fields.specs.Records.{fields}
 use Rattle.fields.proofs.Laws.{number-lt}
 use Rattle.store.specs.Layout.{headerFormat, statementTable, logTable, countOf}
@@ -28,7 +27,7 @@ use Rattle.store.proofs.Loaded.{loaded-settings}
 use Rattle.store.specs.Decode.{nth, rows, statementAt, statements, nameAt, names, stateFrom, stateOf}
 use Rattle.store.proofs.Rows.{rows-same, rows-append, rows-all}
 use Rattle.commit.specs.Chains.{nameIn, nameSoFar, isRipe}
-use Rattle.commit.specs.Outcome.{tickLog, Log, Gained, Joined, Committed}
+use Rattle.commit.specs.Outcome.{tickLog, Joined, Committed}
 use Rattle.commit.specs.declared.Merged.{Merged}
 use Rattle.commit.specs.declared.Merged.the-variants.{Grown, Differs}
 use Rattle.commit.proofs.Order.{any-order}
@@ -68,7 +67,7 @@ module _ (s : State) where
   due-in e =
       any-order (s .statements) (λ x. x .height) (keep (isDue s) (s .statements)) (s .log)
       ∙ ap (λ (ys : List Statement). commits (s .statements) ys (s .log))
-        (keep-same (isDue s) (isRipe (s .view) (2 * s .settings .D) (s .clock)) (λ x. rw (e, isIn)) (s .statements))
+      (keep-same (isDue s) (isRipe (s .view) (2 * s .settings .D) (s .clock)) (λ x. rw (e, isIn)) (s .statements))
 
   -- else none
   pub due-out : (s .phase ≡ inView → ⊥) → commits (s .statements) (due s) (s .log) ≡ some (s .log)
@@ -110,8 +109,8 @@ module _ (b : List ℕ) where
       let z : n ≡ old + (n - old) = omega arith in
       ap (rows (nameSoFar b t) 0) z ∙ rows-append (nameSoFar b t) 0 old (n - old)
       ∙ ap₂ _++_ (rows-same (nameSoFar b t) (nameAt b) 0 old (λ k u v. so-far-old b t k (omega arith)))
-        (ap (λ (k : ℕ). rows (nameSoFar b t) k (n - old)) (zero-add old)
-        ∙ rows-same (nameSoFar b t) (nameIn b t) old (n - old) (λ k u v. so-far-new b t k u))
+      (ap (λ (k : ℕ). rows (nameSoFar b t) k (n - old)) (zero-add old)
+      ∙ rows-same (nameSoFar b t) (nameIn b t) old (n - old) (λ k u v. so-far-new b t k u))
 
   pub gained : (o : Option (List ℕ)) → o ≡ tickLog b → (t : List ℕ) (r : Merged) → Joined o b t r → Committed b t r
   gained o e t (Grown n) g =

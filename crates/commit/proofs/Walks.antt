@@ -1,9 +1,9 @@
 -- The walk down a chain: where it begins, goes on and ends. Assumes nothing.
 use Prim.Native.Nat.{ℕ, zero, suc, _+_, _-_, _<_, _≤_}
 use mathlib.Core.Path.{_≡_, refl, sym, ap, ap₂, _∙_, subst}
-use mathlib.Core.Bool.{Bool, true, false, not, _&&_}
+use mathlib.Core.Bool.{true, not, _&&_}
 use mathlib.Core.List.{List, [], _∷_}
-use mathlib.Core.Option.{Option, none, some}
+use mathlib.Core.Option.{none, some}
 use native.Mathlib.Omega.{arith}
 use native.Mathlib.Numerals.{sub-one}
 use native.Mathlib.Decide.{decLt}
@@ -75,7 +75,7 @@ module _ (b : List ℕ) where
       ∙ ap₂ (λ (n : ℕ) (m : ℕ). chainTo (statements b) n (x .link) (m ∷ [])) low (ap (λ (y : Statement). y .name) (sym here))
       ∙ ap (λ (n : ℕ). chainTo (statements b) k (x .link) (rows (nameIn b (set t k p)) k n)) (sym one)
 
-  pub down-start : (t : List ℕ) (i h : ℕ) → i < countOf statementTable b → h ≡ statementAt b i .height → 1 ≤ h → h ≤ length t
+  down-start : (t : List ℕ) (i h : ℕ) → i < countOf statementTable b → h ≡ statementAt b i .height → 1 ≤ h → h ≤ length t
       → Down b (set t (h - 1) i) h (h - 1) (statementAt b i .link)
   down-start t i h s e l m =
       let t′ = set t (h - 1) i in
@@ -90,7 +90,7 @@ module _ (b : List ℕ) where
       }
 
   module _ (t : List ℕ) (h k link : ℕ) (d : Down b t h k link) (f : Found) (found : f ≡ firstFrom (isBlock k link) 0 (statements b)) (pos : 0 < k) where
-    pub down-broken : f ≡ Nothing → Walked b t h k
+    down-broken : f ≡ Nothing → Walked b t h k
     unfolding statements
     down-broken e =
         let q = missing-first (isBlock k link) (statementAt b) (countOf statementTable b) f found e in
@@ -104,11 +104,11 @@ module _ (b : List ℕ) where
         lacks (suc k) l c c′ = refl
 
     module _ (p : ℕ) (at : f ≡ At p) where
-      pub found-stored : p < countOf statementTable b
+      found-stored : p < countOf statementTable b
       unfolding statements
       found-stored = found-within (isBlock k link) (statementAt b) (countOf statementTable b) f found p at
 
-      pub down-next : h ≤ length t → k < h → Down b (set t (k - 1) p) h (k - 1) (statementAt b p .link)
+      down-next : h ≤ length t → k < h → Down b (set t (k - 1) p) h (k - 1) (statementAt b p .link)
       unfolding nameIn rows statements
       down-next m o =
           let t′ = set t (k - 1) p in
@@ -127,21 +127,21 @@ module _ (b : List ℕ) where
                 elim (decLt (k - 1) j) [
                   | yes u ↦
                       (let z : j + 1 - (k - 1) ≡ suc (j + 1 - k) = omega arith in
-                       let y : suc (k - 1) ≡ k = omega arith in
-                       let r : link ∷ rows (nameIn b t) k (j + 1 - k) ≡ rows (nameIn b t′) (k - 1) (j + 1 - (k - 1)) =
-                               ap₂ _∷_ name (rows-same (nameIn b t) (nameIn b t′) k (j + 1 - k) (λ i a c. other i a))
-                               ∙ ap (λ (n : ℕ). nameIn b t′ (k - 1) ∷ rows (nameIn b t′) n (j + 1 - k)) (sym y)
-                               ∙ ap (rows (nameIn b t′) (k - 1)) (sym z) in
-                       ap (chain (statements b)) (in-other t (k - 1) p j (λ q. omega arith)) ∙ d .chains j (omega arith) q
-                       ∙ chain-down (statements b) k link x pos (found-first (isBlock k link) (statementAt b) (countOf statementTable b) f found p at) (rows (nameIn b t) k (j + 1 - k)) ∙ ap (chainTo (statements b) (k - 1) (x .link)) r)
+                      let y : suc (k - 1) ≡ k = omega arith in
+                      let r : link ∷ rows (nameIn b t) k (j + 1 - k) ≡ rows (nameIn b t′) (k - 1) (j + 1 - (k - 1)) =
+                      ap₂ _∷_ name (rows-same (nameIn b t) (nameIn b t′) k (j + 1 - k) (λ i a c. other i a))
+                      ∙ ap (λ (n : ℕ). nameIn b t′ (k - 1) ∷ rows (nameIn b t′) n (j + 1 - k)) (sym y)
+                      ∙ ap (rows (nameIn b t′) (k - 1)) (sym z) in
+                      ap (chain (statements b)) (in-other t (k - 1) p j (λ q. omega arith)) ∙ d .chains j (omega arith) q
+                      ∙ chain-down (statements b) k link x pos (found-first (isBlock k link) (statementAt b) (countOf statementTable b) f found p at) (rows (nameIn b t) k (j + 1 - k)) ∙ ap (chainTo (statements b) (k - 1) (x .link)) r)
                   | no u ↦
                       (let z : k - 1 ≡ j = omega arith in
-                       subst (λ (j : ℕ). chain (statements b) (statementIn b t′ j) ≡ chainTo (statements b) (k - 1) (x .link) (rows (nameIn b t′) (k - 1) (j + 1 - (k - 1)))) z
-                       (own-chain t (k - 1) p (omega arith) (omega arith)))
+                      subst (λ (j : ℕ). chain (statements b) (statementIn b t′ j) ≡ chainTo (statements b) (k - 1) (x .link) (rows (nameIn b t′) (k - 1) (j + 1 - (k - 1)))) z
+                      (own-chain t (k - 1) p (omega arith) (omega arith)))
                 ];
           }
 
-  pub down-end : (t : List ℕ) (h k link : ℕ) → k ≡ 0 → Down b t h k link → Walked b t h k
+  down-end : (t : List ℕ) (h k link : ℕ) → k ≡ 0 → Down b t h k link → Walked b t h k
   unfolding chainTo
   down-end t h k link z d = subst (λ (n : ℕ). Down b t h n link → Walked b t h n) (sym z)
       (λ (d : Down b t h 0 link). record { stored = d .stored; chains = λ j l m. d .chains j l m ∙ ap (λ (n : ℕ). some (rows (nameIn b t) 0 n)) (sub-zero (j + 1)) }) d
@@ -156,36 +156,38 @@ pub record Walking (b t : List ℕ) (i height k link : ℕ) : Type 0 where
   pub top : getD t (height - 1) 0 ≡ i
   pub down : Down b t height k link
 
-module _ (b t : List ℕ) (i height : ℕ) where
-  pub walking-start : (link : ℕ) → i < countOf statementTable b → height ≡ statementAt b i .height → 1 ≤ height → height ≤ mostStatements → length t ≡ mostStatements
-      → link ≡ statementAt b i .link → Walking b (set t (height - 1) i) i height (height - 1) link
-  walking-start link s e l m n q = record {
-    below = omega arith;
-    tall = e;
-    most = m;
-    long = length-set t (height - 1) i ∙ n;
-    top = getD-set-same t (height - 1) i 0 (omega arith);
-    down = subst (Down b (set t (height - 1) i) height (height - 1)) (sym q) (down-start b t i height s e l (omega arith));
+pub walking-start : {b : List ℕ} {i height link : ℕ} (t : List ℕ) → i < countOf statementTable b → height ≡ statementAt b i .height → 1 ≤ height → height ≤ mostStatements
+    → length t ≡ mostStatements → link ≡ statementAt b i .link → Walking b (set t (height - 1) i) i height (height - 1) link
+walking-start {b} {i} {height} t s e l m n q = record {
+  below = omega arith;
+  tall = e;
+  most = m;
+  long = length-set t (height - 1) i ∙ n;
+  top = getD-set-same t (height - 1) i 0 (omega arith);
+  down = subst (Down b (set t (height - 1) i) height (height - 1)) (sym q) (down-start b t i height s e l (omega arith));
+}
+
+module _ {b t : List ℕ} {i height k link : ℕ} (w : Walking b t i height k link) where
+  from : Walked b t height k → WalkedFrom b t i k
+  from d = record {
+    walked = subst (λ (n : ℕ). Walked b t n k) (w .tall) d;
+    below = omega (arith, w .below, w .tall);
+    top = ap (λ (n : ℕ). getD t (n - 1) 0) (sym (w .tall)) ∙ w .top;
   }
 
-  module _ (k link : ℕ) (w : Walking b t i height k link) where
-    pub walking-end : k ≡ 0 → WalkedFrom b t i k
-    walking-end z = record {
-      walked = subst (λ (n : ℕ). Walked b t n k) (w .tall) (down-end b t height k link z (w .down));
-      below = omega (arith, w .below, w .tall);
-      top = ap (λ (n : ℕ). getD t (n - 1) 0) (sym (w .tall)) ∙ w .top;
-    }
+  pub walking-end : k ≡ 0 → WalkedFrom b t i k
+  walking-end z = from (down-end b t height k link z (w .down))
 
-    module _ (f : Found) (found : f ≡ firstFrom (isBlock k link) 0 (statements b)) (pos : 0 < k) where
-      pub walking-broken : f ≡ Nothing → WalkedFrom b t i k
-      walking-broken e = record {
-        walked = subst (λ (n : ℕ). Walked b t n k) (w .tall) (down-broken b t height k link (w .down) f found pos e);
-        below = omega (arith, w .below, w .tall);
-        top = ap (λ (n : ℕ). getD t (n - 1) 0) (sym (w .tall)) ∙ w .top;
-      }
+  module _ {f : Found} (found : f ≡ firstFrom (isBlock k link) 0 (statements b)) (pos : 0 < k) where
+    pub walking-broken : f ≡ Nothing → WalkedFrom b t i k
+    walking-broken e = from (down-broken b t height k link (w .down) f found pos e)
 
-      pub walking-next : (p : ℕ) → f ≡ At p → (link′ : ℕ) → link′ ≡ statementAt b p .link → Walking b (set t (k - 1) p) i height (k - 1) link′
-      walking-next p e link′ q = record {
+    module _ {p : ℕ} (e : f ≡ At p) where
+      pub walking-stored : p < countOf statementTable b
+      walking-stored = found-stored b t height k link (w .down) f found pos p e
+
+      pub walking-next : {link′ : ℕ} → link′ ≡ statementAt b p .link → Walking b (set t (k - 1) p) i height (k - 1) link′
+      walking-next q = record {
         below = omega (arith, w .below);
         tall = w .tall;
         most = w .most;

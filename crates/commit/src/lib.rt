@@ -20,7 +20,9 @@ ghost use Rattle.commit.specs.Outcome.{Joined, JoinedWith, Committed};
 ghost use mathlib.Core.Option.{none};
 use fields::Name;
 use settings::Settings;
-use store::{Found, Phase, Station};
+use store::Found;
+use store::Phase;
+use store::Station;
 use wire::Statement;
 
 // The log is so long now, or a chain differs from it.
@@ -161,7 +163,15 @@ fn name_so_far(store: &[u8], logged: usize, gained: &[u8], k: usize) -> Name
 }
 
 // Whether the chain and the log so far have the same names up to a height.
-fn agrees(store: &[u8], logged: usize, len: usize, gained: &[u8], chain: &[u8], height: usize, end: usize) -> bool
+fn agrees(
+    store: &[u8],
+    logged: usize,
+    len: usize,
+    gained: &[u8],
+    chain: &[u8],
+    height: usize,
+    end: usize,
+) -> bool
     requires { ⌜ (Ready (now store) (now gained) (now chain) logged len height) × (end ≤ len) × (end ≤ height) ⌝ }
     ensures { λ r. ⌜ Agree (nameIn (now (store .entry)) (now (chain .entry))) (nameSoFar (now (store .entry)) (now (gained .entry))) end r ⌝ }
 {
@@ -202,11 +212,26 @@ fn least(a: usize, b: usize) -> usize
 }
 
 // A whole chain joins the log so far.
-fn join(store: &[u8], logged: usize, len: usize, gained: &mut [u8], chain: &[u8], height: usize) -> Merged
+fn join(
+    store: &[u8],
+    logged: usize,
+    len: usize,
+    gained: &mut [u8],
+    chain: &[u8],
+    height: usize,
+) -> Merged
     requires { ⌜ Ready (now store) (now gained) (now chain) logged len height ⌝ }
     ensures { λ r. ⌜ JoinedWith (now (store .entry)) (now (gained .entry)) (now (gained .exit)) (now (chain .entry)) height len r ⌝ }
 {
-    if !agrees(store, logged, len, gained, chain, height, least(height, len)) {
+    if !agrees(
+        store,
+        logged,
+        len,
+        gained,
+        chain,
+        height,
+        least(height, len),
+    ) {
         return Merged::Differs;
     }
     if height <= len {
@@ -234,7 +259,16 @@ fn is_settled(chain: &[u8], height: usize, left: usize, own: usize, i: usize) ->
 }
 
 // The chains of the due statements join the log, from the last place down: a later walk mostly goes through the earlier ones.
-fn commit_due(store: &[u8], count: usize, logged: usize, view: u32, wait: u64, clock: u64, gained: &mut [u8], chain: &mut [u8]) -> Merged
+fn commit_due(
+    store: &[u8],
+    count: usize,
+    logged: usize,
+    view: u32,
+    wait: u64,
+    clock: u64,
+    gained: &mut [u8],
+    chain: &mut [u8],
+) -> Merged
     requires { ⌜ Begun (now store) (now gained) (now chain) count logged wait ⌝ }
     ensures { λ r. ⌜ Joined (commits (statements (now (store .entry))) (keep (isRipe view wait clock) (statements (now (store .entry)))) (names (now (store .entry)))) (now (store .entry)) (now (gained .exit)) r ⌝ }
 {
@@ -284,5 +318,14 @@ pub fn commits(store: &[u8], station: Station, gained: &mut [u8]) -> Merged
     let wait = 2 * settings.delay;
     let clock = station.clock as u64 + 1;
     let mut chain = [0u8; Settings::MOST_STATEMENTS];
-    commit_due(store, station.statements, logged, station.view, wait, clock, gained, &mut chain)
+    commit_due(
+        store,
+        station.statements,
+        logged,
+        station.view,
+        wait,
+        clock,
+        gained,
+        &mut chain,
+    )
 }

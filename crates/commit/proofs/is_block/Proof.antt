@@ -1,31 +1,25 @@
+-- `commit::is_block` meets its contract. Assumes nothing.
 use borrow.Author.Tests.{eq-eqb, ne-eqb}
-use mathlib.Core.Path.{_∙_, sym}
+use mathlib.Core.Path.{_∙_}
 use Rattle.wire.specs.Meaning.{statementOf}
 use Rattle.rules.specs.Inputs.{isBlock}
 use borrow.Author.Needs.{needs}
 use Rattle.commit.proofs.is_block.Statement.{statement}
 use Rattle.commit.proofs.is_block.Tie as tie
-use Rattle.commit.proofs.is_block.Reads as reads
-use Rattle.commit.proofs.is_block.Lts as lts
-use Rattle.fields.proofs.Name.same.Reads as same-reads
 
--- src/lib.rt:27:9
 returns : tie.Need-returns
 unfolding isBlock statementOf
 returns c =
     simp (c .if1 .taken)
 
--- src/lib.rt:30:9
 returns-2 : tie.Need-returns-2
 unfolding isBlock statementOf
 returns-2 c =
     simp (c .before .before .if1 .left, ne-eqb _ _ (c .if2 .taken))
 
--- src/lib.rt:33:5
 same-requires : tie.Need-same-requires
 same-requires c κs = search needs
 
--- src/lib.rt:23:1
 returns-3 : tie.Need-returns-3
 unfolding isBlock statementOf
 returns-3 c =

@@ -1,31 +1,23 @@
+-- `commit::is_due` meets its contract. Assumes nothing.
 use Rattle.commit.proofs.Voting.{ripe-not, ripe-by}
-use native.Mathlib.Omega.{arith}
-use mathlib.Core.Path.{_≡_, _∙_, sym}
+use mathlib.Core.Path.{_∙_, sym}
 use borrow.Author.Needs.{needs}
 use Rattle.commit.proofs.is_due.Statement.{statement}
 use Rattle.commit.proofs.is_due.Tie as tie
-use Rattle.commit.proofs.is_due.Reads as reads
-use Rattle.commit.proofs.is_due.Lts as lts
-use Rattle.commit.proofs.vote_in.Reads as vote-in-reads
 
--- src/lib.rt:124:9
 vote-in-requires : tie.Need-vote-in-requires
 vote-in-requires c κs = search needs
 
--- src/lib.rt:126:9
 returns : tie.Need-returns
 returns c =
     ripe-not _ _ _ _ (sym (c .before .vote-in .ensures) ∙ c .if1 .taken)
 
--- src/lib.rt:128:5
 cast-result : tie.Need-cast-result
 cast-result c = search needs
 
--- src/lib.rt:128:5
 add-result : tie.Need-add-result
 add-result c = search needs
 
--- src/lib.rt:120:1
 returns-2 : tie.Need-returns-2
 returns-2 c =
     ripe-by _ _ _ _ _ (c .before .vote-in .ensures) (c .if1 .left)

@@ -1,20 +1,16 @@
+-- `commit::place_in` meets its contract. Assumes nothing.
 use native.Mathlib.Omega.{arith}
 use borrow.Author.Needs.{needs}
 use Rattle.commit.proofs.place_in.Statement.{statement}
 use Rattle.commit.proofs.place_in.Tie as tie
-use Rattle.commit.proofs.place_in.Reads as reads
-use Rattle.commit.proofs.place_in.Lts as lts
 
--- src/lib.rt:136:5
 shared-slice-read-result : tie.Need-shared-slice-read-result
 shared-slice-read-result c = search needs
 
--- src/lib.rt:136:5
 cast-result : tie.Need-cast-result
 cast-result c =
     omega (arith, c .shared-slice-known .given (c .before .args .k))
 
--- src/lib.rt:132:1
 returns : tie.Need-returns
 returns c = search needs
 

@@ -1,32 +1,24 @@
+-- `commit::vote_in` meets its contract. Assumes nothing.
 use Rattle.commit.proofs.Voting.{vote-new-view, vote-other, vote-own, vote-read}
-use mathlib.Core.Path.{_≡_, _∙_, sym}
+use mathlib.Core.Path.{_∙_}
 use borrow.Author.Needs.{needs}
 use Rattle.commit.proofs.vote_in.Statement.{statement}
 use Rattle.commit.proofs.vote_in.Tie as tie
-use Rattle.commit.proofs.vote_in.Reads as reads
-use Rattle.commit.proofs.vote_in.Lts as lts
-use Rattle.store.proofs.statement_at.Reads as statement-at-reads
-use Rattle.store.proofs.voted_at.Reads as voted-at-reads
 
--- src/lib.rt:88:9
 statement-at-requires : tie.Need-statement-at-requires
 statement-at-requires c κs = search needs
 
--- src/lib.rt:90:9
 returns : tie.Need-returns
 returns c =
     vote-new-view _ _ _ (c .before .statement-at .ensures) _ (c .if1 .taken)
 
--- src/lib.rt:93:9
 returns-2 : tie.Need-returns-2
 returns-2 c =
     vote-other _ _ _ (c .before .before .before .statement-at .ensures) _ (c .before .before .if1 .left) (c .if2 .taken)
 
--- src/lib.rt:95:5
 voted-at-requires : tie.Need-voted-at-requires
 voted-at-requires c κs = search needs
 
--- src/lib.rt:84:1
 returns-3 : tie.Need-returns-3
 returns-3 c =
     c .voted-at .ensures ∙ vote-read _ _ ∙ vote-own _ _ _ (c .before .before .before .before .statement-at .ensures) _ (c .before .before .before .if1 .left) (c .before .if2 .left)
