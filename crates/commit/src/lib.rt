@@ -258,7 +258,7 @@ fn is_settled(chain: &[u8], height: usize, left: usize, own: usize, i: usize) ->
     true
 }
 
-// The chains of the due statements join the log, from the last place down: a later walk mostly goes through the earlier ones.
+// The chains of the due statements join the log, from the last place down: the walk from the highest mostly goes through the others.
 fn commit_due(
     store: &[u8],
     count: usize,
