@@ -1,4 +1,4 @@
-//! Prints the tables of docs/SPEED.md: `bench [ROUNDS]`.
+//! Prints the measured part of docs/SPEED.md: `bench [ROUNDS]`.
 
 mod measure;
 mod script;
@@ -8,9 +8,22 @@ use script::{Input, Kind};
 
 const D: u32 = 2;
 
+/// What the tables are of.
+const METHOD: &str = "\
+The proved station and the second program (plain Rust, host/second) take the same script in one run, each input through
+the call that a host makes: four views, 31 blocks in each, every statement handed on and voted for by every other
+station, a vote for a made-up name with each, until all 128 statements and 256 tallies are in use and 124 blocks are
+logged. Both are compiled at the highest level, without optimisation across the two. The times are the least of five
+runs for each 24 inputs, since others who use the machine can only make them longer; a round is five runs of each
+program in turn. Given are the middle of the rounds and, with ratios, the quarters around it.
+
+Every call of the proved station first looks at its whole store. That check is measured by a message which is refused
+right after it; the second program has no store to check. `ratio` is the proved station's time over the second
+program's, the last column the same without the check.";
+
 fn main() {
     let rounds = std::env::args().nth(1).and_then(|word| word.parse().ok()).unwrap_or(15);
-    println!("Machine: {}. {rounds} rounds.", machine());
+    println!("{METHOD}\n\nMachine: {}. {rounds} rounds, D = {D}.", machine());
     for (n, own) in [(3, 1), (15, 4)] {
         let script = script::script(n, D, own);
         let settings = (n.into(), D.into(), own.into());
