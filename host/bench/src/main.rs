@@ -1,0 +1,115 @@
+//! Prints the measured part of docs/SPEED.md: `bench [ROUNDS]`.
+
+mod measure;
+mod script;
+
+use measure::{PARTS, Round, Settings};
+use script::{Input, Kind};
+
+const D: u32 = 2;
+
+/// What the tables are of.
+const METHOD: &str = "\
+The proved station and the second program (plain Rust, host/second) take the same script in one run, each input through
+the call that a host makes: four views, 31 blocks in each, every statement handed on and voted for by every other
+station, a vote for a made-up name with each, until all 128 statements and 256 tallies are in use and 124 blocks are
+logged. Both are compiled at the highest level, without optimisation across the two. The times are the least of five
+runs for each 24 inputs, since others who use the machine can only make them longer; a round is five runs of each
+program in turn. Given are the middle of the rounds and, with ratios, the quarters around it.
+
+Every call of the proved station first looks at its whole store. That check is measured by a message which is refused
+right after it; the second program has no store to check. `ratio` is the proved station's time over the second
+program's, the last column the same without the check.";
+
+fn main() {
+    let rounds = std::env::args().nth(1).and_then(|word| word.parse().ok()).unwrap_or(15);
+    println!("{METHOD}\n\nMachine: {}. {rounds} rounds, D = {D}.", machine());
+    for (n, own) in [(3, 1), (15, 4)] {
+        let script = script::script(n, D, own);
+        let settings = (n.into(), D.into(), own.into());
+        measure::round(&script, settings);
+        let measured: Vec<Round> = (0..rounds).map(|_| measure::round(&script, settings)).collect();
+        by_filling(n, &script, &measured);
+        by_kind(n, &script, settings, rounds);
+    }
+}
+
+/// The processor's name.
+fn machine() -> String {
+    let about = std::fs::read_to_string("/proc/cpuinfo").unwrap_or_default();
+    let name = about.lines().find_map(|line| line.strip_prefix("model name"));
+    let name = name.map_or("unknown", |name| name.trim_start_matches([' ', '\t', ':']));
+    format!("{name}, {}", std::env::consts::ARCH)
+}
+
+/// The middle value, and the quarters around it.
+fn spread(mut values: Vec<f64>) -> (f64, f64, f64) {
+    values.sort_by(f64::total_cmp);
+    let at = |share: f64| values[((values.len() - 1) as f64 * share).round() as usize];
+    (at(0.5), at(0.25), at(0.75))
+}
+
+fn middle(values: Vec<f64>) -> f64 {
+    spread(values).0
+}
+
+/// A ratio with its spread.
+fn ratio(values: Vec<f64>) -> String {
+    let (middle, low, high) = spread(values);
+    format!("{middle:.2} ({low:.2}–{high:.2})")
+}
+
+/// A table over the filling of the tables, with a last line for the whole script.
+fn by_filling(n: u8, script: &[Input], rounds: &[Round]) {
+    println!("\n### n = {n}: {} inputs, by how full the tables are\n", script.len());
+    println!(
+        "| statements held | proved, ns | of it the check | second, ns | ratio | without the check |"
+    );
+    println!("|---|---|---|---|---|---|");
+    let room = station::STATEMENTS / PARTS;
+    for part in 0..PARTS {
+        let title = format!("{} to {}", part * room, (part + 1) * room - 1);
+        let weights = std::array::from_fn(|other| f64::from(u8::from(other == part)));
+        line(&title, weights, rounds);
+    }
+    let mut weights = [0.0; PARTS];
+    for input in script {
+        weights[measure::part(input)] += 1.0;
+    }
+    line("whole script", weights.map(|weight| weight / script.len() as f64), rounds);
+}
+
+/// A line for parts of the script, weighted.
+fn line(title: &str, weights: [f64; PARTS], rounds: &[Round]) {
+    let of = |times: fn(&Round) -> &[f64; PARTS]| -> Vec<f64> {
+        let total = |round| times(round).iter().zip(weights).map(|(time, weight)| time * weight);
+        rounds.iter().map(|round| total(round).sum()).collect()
+    };
+    let (proved, check, second) = (of(|r| &r.proved), of(|r| &r.check), of(|r| &r.second));
+    let whole = proved.iter().zip(&second).map(|(proved, second)| proved / second).collect();
+    let bare = proved.iter().zip(&check).map(|(proved, check)| proved - check);
+    let bare = bare.zip(&second).map(|(bare, second)| bare / second).collect();
+    println!(
+        "| {title} | {:.0} | {:.0} | {:.0} | {} | {} |",
+        middle(proved.clone()),
+        middle(check.clone()),
+        middle(second.clone()),
+        ratio(whole),
+        ratio(bare)
+    );
+}
+
+/// A table by kind of input.
+fn by_kind(n: u8, script: &[Input], settings: Settings, rounds: usize) {
+    println!("\n### n = {n}: by kind of input\n");
+    println!(
+        "| input | how many | proved, ns | of it the check | second, ns | without the check |"
+    );
+    println!("|---|---|---|---|---|---|");
+    let measured = measure::kinds(script, settings, 3 * rounds);
+    for ((kind, title), [proved, check, second]) in Kind::ALL.into_iter().zip(measured) {
+        let count = script.iter().filter(|input| input.kind == kind).count();
+        let bare = (proved - check) / second;
+        println!("| {title} | {count} | {proved:.0} | {check:.0} | {second:.0} | {bare:.2} |");
+    }
+}

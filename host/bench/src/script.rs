@@ -1,0 +1,210 @@
+//! A long script for one station: four views, in each a new-view and 31 blocks, every statement
+//! handed on and voted for by every other station, and a vote for a made-up name with each. It ends
+//! with every record of both tables in use.
+
+use second::Station;
+use station::{GENESIS, Message, Name};
+
+pub const VIEWS: u32 = 4;
+const BLOCKS: u32 = 31;
+
+/// What sort of input it is.
+#[derive(Clone, Copy, Debug, PartialEq, Eq)]
+pub enum Kind {
+    Tick,
+    Statement,
+    Repeat,
+    Vote,
+    Other,
+}
+
+impl Kind {
+    pub const ALL: [(Kind, &'static str); 5] = [
+        (Kind::Tick, "tick"),
+        (Kind::Statement, "new statement, or offer"),
+        (Kind::Repeat, "statement held already"),
+        (Kind::Vote, "vote"),
+        (Kind::Other, "blame, status"),
+    ];
+}
+
+#[derive(Clone, Debug)]
+pub enum Call {
+    Tick,
+    Step(Vec<u8>),
+    Offer(Name),
+}
+
+/// An input, and how many statements the station held before it.
+#[derive(Clone, Debug)]
+pub struct Input {
+    pub kind: Kind,
+    pub call: Call,
+    pub statements: usize,
+}
+
+/// The script for a station of a group.
+pub fn script(n: u8, d: u32, own: u8) -> Vec<Input> {
+    let station = Station::fresh(n.into(), d.into(), own.into()).expect("good settings");
+    let top = Top { view: 0, height: 0, name: GENESIS };
+    let mut writer = Writer { n, d, own, station, top, names: 0, inputs: Vec::new() };
+    for _ in 0..VIEWS {
+        writer.view();
+    }
+    let (statements, tallies) = (writer.station.statements().len(), writer.station.tallies().len());
+    assert_eq!((statements, tallies), (station::STATEMENTS, station::TALLIES));
+    assert_eq!(writer.station.log().len(), (VIEWS * BLOCKS) as usize);
+    writer.inputs
+}
+
+/// The last block that everyone voted for.
+#[derive(Clone, Copy)]
+struct Top {
+    view: u32,
+    height: u32,
+    name: Name,
+}
+
+/// A script under way, and the station that it is for.
+struct Writer {
+    n: u8,
+    d: u32,
+    own: u8,
+    station: Station,
+    top: Top,
+    names: u32,
+    inputs: Vec<Input>,
+}
+
+impl Writer {
+    fn view(&mut self) {
+        self.new_view();
+        for _ in 0..BLOCKS {
+            self.block();
+        }
+        self.ticks(2 * self.d + 1);
+        for author in self.others().into_iter().take(usize::from(self.n / 2 + 1)) {
+            self.step(Kind::Other, Message::Blame { view: self.station.view(), author });
+        }
+        if self.station.view() < VIEWS {
+            self.ticks(self.d + 1);
+            self.statuses();
+        }
+    }
+
+    /// The view's new-view, of its leader or of the station itself.
+    fn new_view(&mut self) {
+        let (view, Top { height, name, .. }) = (self.station.view(), self.top);
+        let (certificate_view, author) = (self.top.view, (view % u32::from(self.n)) as u8);
+        let mask = if certificate_view == 0 { 0 } else { self.everyone() };
+        let made = Message::NewView { view, height, name, certificate_view, mask, author };
+        if author == self.own {
+            self.ticks(2 * self.d + 1);
+        } else {
+            self.step(Kind::Statement, made);
+        }
+        self.spread(made, Top { view, height, name });
+    }
+
+    /// One block above the last.
+    fn block(&mut self) {
+        let Top { view, height, name: parent } = self.top;
+        let (height, name) = (height + 1, self.name());
+        let (mask, author) = (self.everyone(), (view % u32::from(self.n)) as u8);
+        let propose = Message::Propose { view, height, name, parent, mask, author };
+        if author == self.own {
+            self.give(Kind::Statement, Call::Offer(name));
+        } else {
+            self.step(Kind::Statement, propose);
+        }
+        self.spread(propose, Top { view, height, name });
+        self.ticks(2 * self.d);
+    }
+
+    /// Every other station hands the statement on and votes for it; one votes for something else.
+    fn spread(&mut self, statement: Message, top: Top) {
+        self.top = top;
+        let Top { view, height, name } = top;
+        for author in self.others() {
+            if statement.author() != Some(author) {
+                self.step(Kind::Repeat, statement);
+            }
+            self.step(Kind::Vote, Message::Vote { view, height, name, author });
+        }
+        let (author, name) = (self.others()[0], self.name());
+        self.step(Kind::Vote, Message::Vote { view, height: 1, name, author });
+    }
+
+    /// What the others send to the leader of the view, if that is this station.
+    fn statuses(&mut self) {
+        let Top { view: certificate_view, height, name } = self.top;
+        if self.station.is_leader() {
+            for _ in self.others() {
+                let mask = self.everyone();
+                self.step(Kind::Other, Message::Status { height, name, certificate_view, mask });
+            }
+        }
+    }
+
+    fn others(&self) -> Vec<u8> {
+        (0..self.n).filter(|&author| author != self.own).collect()
+    }
+
+    fn everyone(&self) -> u16 {
+        ((1u32 << self.n) - 1) as u16
+    }
+
+    fn name(&mut self) -> Name {
+        self.names += 1;
+        // As the names of blocks do, these differ from their first bytes on.
+        let mixed = self.names.wrapping_mul(0x9e37_79b9).to_be_bytes();
+        std::array::from_fn(|place| mixed[place % 4] ^ place as u8)
+    }
+
+    fn ticks(&mut self, count: u32) {
+        for _ in 0..count {
+            self.give(Kind::Tick, Call::Tick);
+        }
+    }
+
+    fn step(&mut self, kind: Kind, message: Message) {
+        self.give(kind, Call::Step(message.encode()));
+    }
+
+    fn give(&mut self, kind: Kind, call: Call) {
+        let statements = self.station.statements().len();
+        let mut out = Vec::new();
+        let number = match &call {
+            Call::Tick => self.station.tick(&mut out),
+            Call::Step(message) => self.station.step(message, &mut out),
+            Call::Offer(name) => self.station.offer(name, &mut out),
+        };
+        assert_eq!(number, 0, "{kind:?}");
+        self.inputs.push(Input { kind, call, statements });
+    }
+}
+
+#[cfg(test)]
+mod tests {
+    use super::*;
+
+    /// The script fills both tables and the log, as `script` itself looks; both programs take it.
+    #[test]
+    fn both_programs_take_it() {
+        use programs::{Program, Proved, Second};
+        for (n, own) in [(3, 1), (15, 4)] {
+            let fresh = (n.into(), 2, own.into());
+            let mut proved = Proved::fresh(fresh.0, fresh.1, fresh.2).unwrap();
+            let mut second = Second::fresh(fresh.0, fresh.1, fresh.2).unwrap();
+            for input in script(n, 2, own) {
+                let answers = match &input.call {
+                    Call::Tick => (proved.tick(), second.tick()),
+                    Call::Step(message) => (proved.step(message), second.step(message)),
+                    Call::Offer(name) => (proved.offer(name), second.offer(name)),
+                };
+                assert_eq!(answers.0, answers.1);
+            }
+            assert_eq!(proved.shown(), second.shown());
+        }
+    }
+}

@@ -1,0 +1,55 @@
+//! The proved station and the second program in lockstep: after each input they must have answered
+//! alike, written the same bytes, and hold the same log and tables.
+//!
+//! `pair` takes one input to both, `sources` has the inputs, `shrink` cuts a failing run down, `text`
+//! reads and writes runs as scripts.
+
+#![forbid(unsafe_code)]
+
+pub mod pair;
+pub mod shrink;
+pub mod sources;
+pub mod text;
+
+use programs::Program;
+use second::replay::Input;
+use sources::Source;
+
+/// Where two programs went apart: at which input of a run, and how.
+#[derive(Clone, Debug, PartialEq, Eq)]
+pub struct Difference {
+    pub at: usize,
+    pub how: String,
+}
+
+/// What was met on the way.
+#[derive(Clone, Debug, Default)]
+pub struct Met {
+    pub inputs: u64,
+    pub runs: u64,
+    /// How often each number was answered.
+    pub numbers: [u64; 11],
+    /// How many messages to all, messages to one, and commits there were.
+    pub effects: [u64; 3],
+}
+
+/// Runs a source of inputs to its end: the inputs, and the difference if there is one.
+pub fn run<P: Program>(mut source: impl Source, met: &mut Met) -> (Vec<Input>, Option<Difference>) {
+    let mut pair = pair::Pair::<P>::default();
+    let mut inputs = Vec::new();
+    met.runs += 1;
+    while let Some(input) = source.next(pair.second()) {
+        let taken = pair.take(&input, met);
+        inputs.push(input);
+        if let Err(how) = taken {
+            let at = inputs.len() - 1;
+            return (inputs, Some(Difference { at, how }));
+        }
+    }
+    (inputs, None)
+}
+
+/// Runs these inputs alone.
+pub fn replay<P: Program>(inputs: &[Input]) -> Option<Difference> {
+    run::<P>(sources::Fixed::new(inputs), &mut Met::default()).1
+}

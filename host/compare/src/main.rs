@@ -1,0 +1,133 @@
+//! Compares the proved station with the second program:
+//!
+//!     compare [--inputs N] [--seconds S] [--seed SEED]    random scripts, after 01's bench
+//!     compare SCRIPT..                                    scripts of yours
+//!
+//! It ends after N inputs (a million, if nothing is said), or after S seconds, or at the first
+//! difference, which it prints as a short script. The exit is 0 exactly when there was none.
+
+use compare::{Difference, Met, replay, run, shrink, sources, text};
+use programs::Proved;
+use second::random::Random;
+use second::replay::Input;
+use std::process::ExitCode;
+use std::time::{Duration, Instant, SystemTime};
+
+/// What was asked for.
+struct Asked {
+    inputs: u64,
+    time: Option<Duration>,
+    seed: u64,
+    scripts: Vec<String>,
+}
+
+fn main() -> ExitCode {
+    let asked = match asked() {
+        Ok(asked) => asked,
+        Err(why) => {
+            eprintln!(
+                "{why}\ncompare [--inputs N] [--seconds S] [--seed SEED], or compare SCRIPT.."
+            );
+            return ExitCode::from(2);
+        }
+    };
+    let mut met = Met::default();
+    let start = Instant::now();
+    let compared = match asked.scripts.is_empty() {
+        true => bench(&mut met).and_then(|()| random(&asked, &mut met)),
+        false => asked.scripts.iter().try_for_each(|path| given(path, &mut met)),
+    };
+    if let Err(report) = compared {
+        print!("{report}");
+        return ExitCode::FAILURE;
+    }
+    summary(&met, start.elapsed());
+    ExitCode::SUCCESS
+}
+
+fn asked() -> Result<Asked, String> {
+    let seed = SystemTime::UNIX_EPOCH.elapsed().map_or(1, |time| time.as_secs());
+    let mut asked = Asked { inputs: 1_000_000, time: None, seed, scripts: Vec::new() };
+    let mut words = std::env::args().skip(1);
+    while let Some(word) = words.next() {
+        let mut number = || {
+            let value = words.next().and_then(|value| value.parse().ok());
+            value.ok_or(format!("{word} needs a number"))
+        };
+        match word.as_str() {
+            "--inputs" => asked.inputs = number()?,
+            "--seconds" => {
+                asked.time = Some(Duration::from_secs(number()?));
+                asked.inputs = u64::MAX;
+            }
+            "--seed" => asked.seed = number()?,
+            _ if word.starts_with('-') => return Err(format!("{word} is not known")),
+            _ => asked.scripts.push(word),
+        }
+    }
+    Ok(asked)
+}
+
+/// 01's examples.
+fn bench(met: &mut Met) -> Result<(), String> {
+    for (title, inputs) in sources::bench() {
+        let (inputs, found) = run::<Proved>(sources::Fixed::new(&inputs), met);
+        if let Some(found) = found {
+            return Err(report(&format!("01's bench: {title}"), inputs, &found));
+        }
+    }
+    Ok(())
+}
+
+/// Random scripts, until there were enough of them.
+fn random(asked: &Asked, met: &mut Met) -> Result<(), String> {
+    println!("seed {}", asked.seed);
+    let mut seeds = Random::new(asked.seed);
+    let start = Instant::now();
+    while met.inputs < asked.inputs && asked.time.is_none_or(|time| start.elapsed() < time) {
+        let (inputs, found) = run::<Proved>(sources::Scripted::new(seeds.number()), met);
+        if let Some(found) = found {
+            return Err(report(&format!("seed {}, run {}", asked.seed, met.runs), inputs, &found));
+        }
+    }
+    Ok(())
+}
+
+/// A script in a file.
+fn given(path: &str, met: &mut Met) -> Result<(), String> {
+    let script = std::fs::read_to_string(path).map_err(|error| format!("{path}: {error}\n"))?;
+    let inputs = text::read(&script).map_err(|error| format!("{path}: {error}\n"))?;
+    match run::<Proved>(sources::Fixed::new(&inputs), met) {
+        (_, None) => Ok(()),
+        (inputs, Some(found)) => Err(report(path, inputs, &found)),
+    }
+}
+
+/// The failing run, shrunk, as a script with remarks.
+fn report(title: &str, inputs: Vec<Input>, found: &Difference) -> String {
+    let count = inputs.len();
+    let shrunk = shrink::shrink(inputs, |inputs| replay::<Proved>(inputs).map(|found| found.at));
+    let how = replay::<Proved>(&shrunk).map_or(found.how.clone(), |found| found.how);
+    format!(
+        "# {title}: the programs differ at input {} of {count}: {}\n\
+         # shrunk to {} inputs, of which the last differs: {how}\n{}",
+        found.at + 1,
+        found.how,
+        shrunk.len(),
+        text::write(&shrunk)
+    )
+}
+
+fn summary(met: &Met, time: Duration) {
+    let numbers: Vec<String> = met
+        .numbers
+        .iter()
+        .enumerate()
+        .filter(|(_, count)| **count > 0)
+        .map(|(number, count)| format!("{number}: {count}"))
+        .collect();
+    let [all, one, commits] = met.effects;
+    println!("answers {}", numbers.join(", "));
+    println!("messages to all {all}, to one {one}; commits {commits}");
+    println!("{} inputs in {} runs, 0 differ, {:.1} s", met.inputs, met.runs, time.as_secs_f64());
+}

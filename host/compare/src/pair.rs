@@ -1,0 +1,108 @@
+//! The two programs side by side.
+
+use crate::Met;
+use programs::{Answer, Program, Second, shown};
+use second::replay::Input;
+use station::{Effect, Effects};
+
+/// A program under test beside the second one. Before the first good `fresh` there is neither.
+pub struct Pair<P> {
+    tested: Option<P>,
+    second: Option<Second>,
+}
+
+impl<P> Default for Pair<P> {
+    fn default() -> Pair<P> {
+        Pair { tested: None, second: None }
+    }
+}
+
+impl<P: Program> Pair<P> {
+    pub fn second(&self) -> Option<&second::Station> {
+        self.second.as_ref().map(Second::station)
+    }
+
+    /// Takes an input to both; or how they differ.
+    pub fn take(&mut self, input: &Input, met: &mut Met) -> Result<(), String> {
+        met.inputs += 1;
+        if let Input::Fresh { n, d, own } = *input {
+            return self.fresh(n, d, own, met);
+        }
+        let (Some(tested), Some(second)) = (&mut self.tested, &mut self.second) else {
+            return Ok(());
+        };
+        let (got, wanted) = (answer(tested, input), answer(second, input));
+        if got != wanted {
+            let (got, wanted) = (words(got), words(wanted));
+            return Err(format!("{} answers {got}, second {wanted}", P::TITLE));
+        }
+        met.count(wanted);
+        same_state(tested, second)
+    }
+
+    fn fresh(&mut self, n: u64, d: u64, own: u64, met: &mut Met) -> Result<(), String> {
+        match (P::fresh(n, d, own), Second::fresh(n, d, own)) {
+            (Ok(tested), Ok(second)) => {
+                met.numbers[0] += 1;
+                same_state(&tested, &second)?;
+                (self.tested, self.second) = (Some(tested), Some(second));
+                Ok(())
+            }
+            (Err(got), Err(wanted)) if got == wanted => {
+                met.numbers[wanted as usize] += 1;
+                Ok(())
+            }
+            (got, wanted) => {
+                let number = |fresh: Option<u32>| fresh.unwrap_or(0);
+                let (got, wanted) = (number(got.err()), number(wanted.err()));
+                Err(format!("{} answers {got}, second {wanted}", P::TITLE))
+            }
+        }
+    }
+}
+
+fn answer<'a, P: Program>(program: &'a mut P, input: &Input) -> Answer<'a> {
+    match input {
+        Input::Fresh { .. } => unreachable!("a fresh start is no call on a station"),
+        Input::Tick => program.tick(),
+        Input::Step(message) => program.step(message),
+        Input::Offer(name) => program.offer(name),
+    }
+}
+
+fn same_state<P: Program>(tested: &P, second: &Second) -> Result<(), String> {
+    let (got, wanted) = (tested.shown(), second.shown());
+    if got != wanted {
+        let at = got.iter().zip(&wanted).position(|(got, wanted)| got != wanted);
+        let place = at.map_or("their lengths".into(), shown::place);
+        return Err(format!("the stores differ: {place}"));
+    }
+    if tested.log() != second.log() {
+        return Err("the logs differ".into());
+    }
+    Ok(())
+}
+
+/// An answer, short enough for a line.
+fn words(answer: Answer) -> String {
+    let hex: String = answer.out.iter().map(|byte| format!("{byte:02x}")).collect();
+    match answer.number {
+        0 if hex.is_empty() => "0, nothing".into(),
+        0 => format!("0, {hex}"),
+        number => number.to_string(),
+    }
+}
+
+impl Met {
+    fn count(&mut self, answer: Answer) {
+        self.numbers[answer.number as usize] += 1;
+        for effect in Effects::new(answer.out) {
+            let kind = match effect {
+                Effect::ToAll(_) => 0,
+                Effect::ToOne { .. } => 1,
+                Effect::Committed { .. } => 2,
+            };
+            self.effects[kind] += 1;
+        }
+    }
+}

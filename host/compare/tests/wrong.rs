@@ -1,0 +1,116 @@
+//! Wrong stations are found, and what is printed of them is short.
+
+use compare::{Met, replay, run, shrink, sources::Scripted, text};
+use programs::{Answer, Program, Second};
+use station::{Effect, Effects, Lock, Name, Phase};
+
+/// The second program with one thing wrong.
+struct Wrong<const HOW: u32> {
+    station: Second,
+}
+
+/// It says nothing of what it commits.
+const MUTE: u32 = 1;
+/// It takes blames for unreadable.
+const DEAF: u32 = 2;
+/// It forgets the last name of its log.
+const FORGETFUL: u32 = 3;
+
+impl<const HOW: u32> Program for Wrong<HOW> {
+    const TITLE: &'static str = "wrong";
+
+    fn fresh(n: u64, d: u64, own: u64) -> Result<Self, u32> {
+        Second::fresh(n, d, own).map(|station| Wrong { station })
+    }
+
+    fn step(&mut self, message: &[u8]) -> Answer<'_> {
+        match HOW == DEAF && message.get(3) == Some(&4) {
+            true => Answer { number: 4, out: &[] },
+            false => self.station.step(message),
+        }
+    }
+
+    fn tick(&mut self) -> Answer<'_> {
+        let answer = self.station.tick();
+        let commits = |effect| matches!(effect, Effect::Committed { .. });
+        match HOW == MUTE && Effects::new(answer.out).any(commits) {
+            true => Answer { out: &[], ..answer },
+            false => answer,
+        }
+    }
+
+    fn offer(&mut self, name: &[u8]) -> Answer<'_> {
+        self.station.offer(name)
+    }
+
+    fn phase(&self) -> Phase {
+        self.station.phase()
+    }
+
+    fn view(&self) -> u32 {
+        self.station.view()
+    }
+
+    fn lock(&self) -> Lock {
+        self.station.lock()
+    }
+
+    fn log(&self) -> Vec<Name> {
+        let mut log = self.station.log();
+        if HOW == FORGETFUL {
+            log.pop();
+        }
+        log
+    }
+
+    fn shown(&self) -> Vec<u8> {
+        self.station.shown()
+    }
+}
+
+/// Runs scripts until one differs, and shrinks it.
+fn found<P: Program>() -> String {
+    for seed in 0..1000 {
+        let (inputs, difference) = run::<P>(Scripted::new(seed), &mut Met::default());
+        if difference.is_some() {
+            let shrunk = shrink::shrink(inputs, |inputs| replay::<P>(inputs).map(|found| found.at));
+            return text::write(&shrunk);
+        }
+    }
+    panic!("no script shows it");
+}
+
+/// A commit needs a propose and 2D+1 ticks after it, and nothing else is left.
+#[test]
+fn a_mute_station_is_found() {
+    let script = found::<Wrong<MUTE>>();
+    assert_eq!(script.lines().filter(|line| line.starts_with("message 010001020200")).count(), 1);
+    assert!(!script.contains("offer"), "{script}");
+    assert_eq!(text::read(&script).map(|inputs| text::write(&inputs)), Ok(script));
+}
+
+#[test]
+fn a_deaf_station_is_found() {
+    let script = found::<Wrong<DEAF>>();
+    let lines: Vec<&str> = script.lines().collect();
+    assert_eq!(lines.len(), 2);
+    assert!(lines[0].starts_with("fresh ") && lines[1].starts_with("message 01000104"));
+}
+
+#[test]
+fn a_forgetful_station_is_found() {
+    let script = found::<Wrong<FORGETFUL>>();
+    assert!(script.lines().count() <= 13, "{script}");
+}
+
+#[test]
+fn the_second_program_is_like_itself() {
+    let mut met = Met::default();
+    for seed in 0..200 {
+        assert_eq!(run::<Second>(Scripted::new(seed), &mut met).1, None);
+    }
+    let never = [1, 2, 8];
+    for (number, count) in met.numbers.iter().enumerate() {
+        assert!(*count > 0 || never.contains(&number), "{number} is never answered: {met:?}");
+    }
+}

@@ -1,0 +1,37 @@
+//! The proved station and the second program behind one trait, so that one test, one simulation and
+//! one benchmark runs either.
+
+#![forbid(unsafe_code)]
+
+mod proved;
+mod second_program;
+pub mod shown;
+
+pub use proved::Proved;
+pub use second_program::Second;
+use station::{Lock, Name, Phase};
+
+/// What a call answers: 01's number, and the bytes written.
+#[derive(Clone, Copy, Debug, PartialEq, Eq)]
+pub struct Answer<'a> {
+    pub number: u32,
+    pub out: &'a [u8],
+}
+
+/// A station, as a host sees it.
+pub trait Program: Sized {
+    const TITLE: &'static str;
+
+    fn fresh(n: u64, d: u64, own: u64) -> Result<Self, u32>;
+    fn step(&mut self, message: &[u8]) -> Answer<'_>;
+    fn tick(&mut self) -> Answer<'_>;
+    fn offer(&mut self, name: &[u8]) -> Answer<'_>;
+
+    fn phase(&self) -> Phase;
+    fn view(&self) -> u32;
+    fn lock(&self) -> Lock;
+    fn log(&self) -> Vec<Name>;
+
+    /// Its state as the bytes of a store, but for what only one of the programs shows.
+    fn shown(&self) -> Vec<u8>;
+}

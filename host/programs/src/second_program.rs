@@ -1,0 +1,78 @@
+//! The second program.
+
+use crate::{Answer, Program, shown};
+use second::Station;
+use station::{Cause, Lock, Name, Phase};
+
+#[derive(Clone, Debug)]
+pub struct Second {
+    station: Station,
+    /// What the last call wrote.
+    out: Vec<u8>,
+}
+
+impl Second {
+    pub fn station(&self) -> &Station {
+        &self.station
+    }
+}
+
+impl Program for Second {
+    const TITLE: &'static str = "second";
+
+    fn fresh(n: u64, d: u64, own: u64) -> Result<Second, u32> {
+        let out = Vec::with_capacity(second::Settings::OUT);
+        Ok(Second { station: Station::fresh(n, d, own)?, out })
+    }
+
+    fn step(&mut self, message: &[u8]) -> Answer<'_> {
+        self.out.clear();
+        let number = self.station.step(message, &mut self.out);
+        Answer { number, out: &self.out }
+    }
+
+    fn tick(&mut self) -> Answer<'_> {
+        self.out.clear();
+        let number = self.station.tick(&mut self.out);
+        Answer { number, out: &self.out }
+    }
+
+    fn offer(&mut self, name: &[u8]) -> Answer<'_> {
+        self.out.clear();
+        let number = self.station.offer(name, &mut self.out);
+        Answer { number, out: &self.out }
+    }
+
+    fn phase(&self) -> Phase {
+        phase(self.station.phase())
+    }
+
+    fn view(&self) -> u32 {
+        self.station.view()
+    }
+
+    fn lock(&self) -> Lock {
+        let block = self.station.lock();
+        Lock { view: block.view, height: block.height, name: block.name.to_bytes() }
+    }
+
+    fn log(&self) -> Vec<Name> {
+        self.station.log().map(|name| name.to_bytes()).collect()
+    }
+
+    fn shown(&self) -> Vec<u8> {
+        shown::store_of(&self.station)
+    }
+}
+
+pub(crate) fn phase(phase: second::Phase) -> Phase {
+    match phase {
+        second::Phase::InView => Phase::InView,
+        second::Phase::Waiting { quit } => Phase::Waiting { quit },
+        second::Phase::Stopped(cause) => Phase::Stopped(match cause {
+            second::Cause::Full => Cause::Full,
+            second::Cause::Split => Cause::Split,
+            second::Cause::Clock => Cause::Clock,
+        }),
+    }
+}

@@ -1,0 +1,146 @@
+//! Runs a group of stations and draws what happened, or runs many groups and only checks:
+//!
+//!     simulate [--n N] [--d D] [--leaders KIND,KIND..] [--ticks T] [--seed SEED] [--program NAME] [--svg FILE]
+//!     simulate --many RUNS [--seed SEED] [--program NAME]
+//!
+//! The kinds are those of stations 1, 2, ..: sound, silent, equivocating, late, splitting, wild. The
+//! program is `proved` or `second`. The exit is 0 exactly when demand 3 held.
+
+use programs::{Program, Proved, Second};
+use second::random::Random;
+use simulate::watch::Breach;
+use simulate::{Delays, Fault, Group, Plan, picture};
+use std::process::ExitCode;
+use std::time::SystemTime;
+
+/// What was asked for.
+struct Asked {
+    n: u8,
+    d: u32,
+    leaders: String,
+    ticks: u32,
+    seed: u64,
+    program: String,
+    svg: Option<String>,
+    many: Option<u64>,
+}
+
+fn main() -> ExitCode {
+    match asked().and_then(|asked| match asked.program.as_str() {
+        "proved" => run::<Proved>(&asked),
+        "second" => run::<Second>(&asked),
+        other => Err(format!("{other} is no program")),
+    }) {
+        Ok(()) => ExitCode::SUCCESS,
+        Err(why) => {
+            eprintln!("{why}");
+            ExitCode::FAILURE
+        }
+    }
+}
+
+fn asked() -> Result<Asked, String> {
+    let seed = SystemTime::UNIX_EPOCH.elapsed().map_or(1, |time| time.as_secs());
+    let (leaders, program) = ("late,splitting,silent".into(), "proved".into());
+    let mut asked = Asked { n: 7, d: 2, leaders, ticks: 88, seed, program, svg: None, many: None };
+    let mut words = std::env::args().skip(1);
+    while let Some(word) = words.next() {
+        let value = words.next().ok_or(format!("{word} needs a value"))?;
+        let number = || value.parse::<u64>().map_err(|_| format!("{value} is no number"));
+        match word.as_str() {
+            "--n" => asked.n = number()? as u8,
+            "--d" => asked.d = number()? as u32,
+            "--ticks" => asked.ticks = number()? as u32,
+            "--seed" => asked.seed = number()?,
+            "--many" => asked.many = Some(number()?),
+            "--leaders" => asked.leaders = value,
+            "--program" => asked.program = value,
+            "--svg" => asked.svg = Some(value),
+            _ => return Err(format!("{word} is not known")),
+        }
+    }
+    Ok(asked)
+}
+
+fn run<P: Program>(asked: &Asked) -> Result<(), String> {
+    match asked.many {
+        Some(runs) => many::<P>(runs, asked.seed),
+        None => one::<P>(asked),
+    }
+}
+
+/// One group, drawn if a file is named.
+fn one<P: Program>(asked: &Asked) -> Result<(), String> {
+    let mut faults = vec![None; asked.n.into()];
+    for (station, word) in
+        (1..asked.n).zip(asked.leaders.split(',').filter(|word| !word.is_empty()))
+    {
+        faults[usize::from(station)] = match word {
+            "sound" => None,
+            _ => Some(word.parse()?),
+        };
+    }
+    if 2 * faults.iter().flatten().count() >= faults.len() {
+        return Err("at most f of n = 2f+1 stations may be faulty".into());
+    }
+    let (n, d, seed) = (asked.n, asked.d, asked.seed);
+    let plan = Plan { n, d, faults, delays: Delays::Longest, lateness: 3, names: u32::MAX, seed };
+    let mut group = Group::<P>::new(plan);
+    let outcome = group.run_to(asked.ticks);
+    if let Some(path) = &asked.svg {
+        std::fs::write(path, picture::draw(&group.trace)).map_err(|e| format!("{path}: {e}"))?;
+        println!("drawn in {path}");
+    }
+    outcome.map_err(|breach| breach.to_string())?;
+    println!(
+        "{} program, n = {}, D = {}, {} ticks: {} blocks in the longest log, {} commits in all, demand 3 held",
+        P::TITLE,
+        asked.n,
+        asked.d,
+        asked.ticks,
+        group.watch.log().len(),
+        group.watch.commits
+    );
+    Ok(())
+}
+
+/// Many groups with settings, faults and delays of a seed.
+fn many<P: Program>(runs: u64, seed: u64) -> Result<(), String> {
+    println!("seed {seed}");
+    let mut random = Random::new(seed);
+    let (mut commits, mut quits, mut calls, mut full) = (0, 0, 0, 0);
+    for run in 1..=runs {
+        let (plan, ticks) = random_plan(&mut random);
+        let shown = format!("{plan:?}");
+        let mut group = Group::<P>::new(plan);
+        match group.run_to(ticks) {
+            Ok(()) => {}
+            Err(Breach::Full) => full += 1,
+            Err(breach) => return Err(format!("run {run} of seed {seed}, {shown}: {breach}")),
+        }
+        commits += group.watch.commits;
+        quits += group.watch.quits;
+        calls += group.watch.calls;
+    }
+    println!(
+        "{} program, {runs} groups ({full} until a store was full): {calls} calls, {quits} quits, {commits} commits by sound stations, demand 3 held",
+        P::TITLE
+    );
+    Ok(())
+}
+
+/// A plan with at most f faults, and for how many ticks it is run.
+fn random_plan(random: &mut Random) -> (Plan, u32) {
+    let n = random.pick(&[3, 3, 5, 5, 7]);
+    let d = random.pick(&[1, 1, 2, 3]);
+    let mut faults = vec![None; n.into()];
+    for _ in 0..n / 2 {
+        // A leader of the first views, and wild ones above all.
+        let station = (1 + random.place(usize::from(n / 2) + 1)) % usize::from(n);
+        let fault = random.pick(&Fault::ALL);
+        faults[station] = Some(if random.one_in(2) { Fault::Wild } else { fault });
+    }
+    let delays = random.pick(&[Delays::Longest, Delays::Bounds, Delays::Bounds, Delays::Any]);
+    let (names, lateness) = (random.pick(&[1, 2, 3, 40]), 1 + random.below(3) as u32);
+    (Plan { n, d, faults, delays, lateness, names, seed: random.number() }, 120 * d)
+}

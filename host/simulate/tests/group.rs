@@ -1,0 +1,113 @@
+//! Groups keep demand 3, with both programs alike; and wrong stations are found.
+
+use programs::{Answer, Program, Proved, Second};
+use simulate::watch::Breach;
+use simulate::{Delays, Fault, Group, Plan};
+use station::{Lock, Name, Phase};
+
+fn plan(n: u8, d: u32, faulty: &[Fault], delays: Delays, seed: u64) -> Plan {
+    let mut faults = vec![None; n.into()];
+    for (station, fault) in (1..).zip(faulty) {
+        faults[station] = Some(*fault);
+    }
+    Plan { n, d, faults, delays, lateness: 3, names: 3, seed }
+}
+
+/// Every kind of faulty leader, with delays at their bounds: logs agree, and blocks are committed.
+#[test]
+fn groups_agree_with_any_leader() {
+    for fault in Fault::ALL {
+        for seed in 0..6 {
+            let mut group = Group::<Proved>::new(plan(3, 2, &[fault], Delays::Bounds, seed));
+            assert_eq!(group.run_to(100), Ok(()), "{fault}, seed {seed}");
+            assert!(group.watch.log().len() >= 2, "{fault}, seed {seed}");
+        }
+    }
+}
+
+/// The late leader's block is committed by one station alone in view 1, and by all after that.
+#[test]
+fn a_block_that_one_station_committed_stays() {
+    let mut group = Group::<Proved>::new(plan(5, 2, &[Fault::Late], Delays::Longest, 1));
+    assert_eq!(group.run_to(15), Ok(()));
+    assert_eq!((group.watch.log().len(), group.watch.commits), (1, 1));
+    let first = group.watch.log()[0];
+    assert_eq!(group.run_to(60), Ok(()));
+    assert_eq!(group.watch.log()[0], first);
+    assert!(group.watch.commits >= 8);
+}
+
+/// Both programs, in the same schedule, do the same.
+#[test]
+fn both_programs_run_alike() {
+    for seed in 0..10 {
+        let plan = plan(5, 2, &[Fault::Wild, Fault::Splitting], Delays::Any, seed);
+        let mut proved = Group::<Proved>::new(plan.clone());
+        let mut second = Group::<Second>::new(plan);
+        assert_eq!((proved.run_to(150), second.run_to(150)), (Ok(()), Ok(())));
+        assert_eq!(proved.trace.marks, second.trace.marks);
+    }
+}
+
+/// The second program, told another D, or saying nothing of what it commits.
+struct Wrong<const HASTY: bool>(Second);
+
+impl<const HASTY: bool> Program for Wrong<HASTY> {
+    const TITLE: &'static str = "wrong";
+
+    fn fresh(n: u64, d: u64, own: u64) -> Result<Self, u32> {
+        Second::fresh(n, if HASTY { d / 2 } else { d }, own).map(Wrong)
+    }
+
+    fn step(&mut self, message: &[u8]) -> Answer<'_> {
+        self.0.step(message)
+    }
+
+    fn tick(&mut self) -> Answer<'_> {
+        self.0.tick()
+    }
+
+    fn offer(&mut self, name: &[u8]) -> Answer<'_> {
+        self.0.offer(name)
+    }
+
+    fn phase(&self) -> Phase {
+        self.0.phase()
+    }
+
+    fn view(&self) -> u32 {
+        self.0.view()
+    }
+
+    fn lock(&self) -> Lock {
+        self.0.lock()
+    }
+
+    fn log(&self) -> Vec<Name> {
+        if HASTY { self.0.log() } else { Vec::new() }
+    }
+
+    fn shown(&self) -> Vec<u8> {
+        self.0.shown()
+    }
+}
+
+fn breach<P: Program>(plan: impl Fn(u64) -> Plan) -> Option<String> {
+    (0..300).find_map(|seed| match Group::<P>::new(plan(seed)).run_to(200) {
+        Err(Breach::Demand(how)) => Some(how),
+        _ => None,
+    })
+}
+
+/// A group whose D is too small splits: the premise is needed, and the check sees it.
+#[test]
+fn a_delay_bound_that_is_too_small_splits_the_logs() {
+    let how = breach::<Wrong<true>>(|seed| plan(3, 4, &[Fault::Wild], Delays::Bounds, seed));
+    assert!(how.is_some());
+}
+
+#[test]
+fn a_station_that_never_commits_is_found() {
+    let how = breach::<Wrong<false>>(|seed| plan(3, 2, &[], Delays::Longest, seed));
+    assert!(how.is_some_and(|how| how.contains("not")), "the vote lasts, the log lacks it");
+}

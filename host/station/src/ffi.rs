@@ -1,0 +1,72 @@
+//! The four calls of `include/station.h` on slices: here is the crate's only `unsafe`.
+//!
+//! The calls answer every length and every content, and write to nothing but the store and the out
+//! buffer. A result is the refusal's number times 2^32, plus the count of bytes written: see
+//! [`answer`](crate::answer). For hosts that keep their own buffers; others use
+//! [`Station`](crate::Station).
+
+#![allow(unsafe_code)]
+
+mod declared {
+    unsafe extern "C" {
+        pub fn station_fresh(store: *mut u8, store_len: usize, n: u64, d: u64, own: u64) -> u64;
+        pub fn station_step(
+            store: *mut u8,
+            store_len: usize,
+            message: *const u8,
+            message_len: usize,
+            out: *mut u8,
+            out_len: usize,
+        ) -> u64;
+        pub fn station_tick(store: *mut u8, store_len: usize, out: *mut u8, out_len: usize) -> u64;
+        pub fn station_offer(
+            store: *mut u8,
+            store_len: usize,
+            name: *const u8,
+            name_len: usize,
+            out: *mut u8,
+            out_len: usize,
+        ) -> u64;
+    }
+}
+
+// SAFETY, of all four: each pointer comes with the length of the slice it was taken from, the slices
+// are borrowed for the whole call, and those that are written can't overlap another.
+
+/// A fresh store.
+pub fn fresh(store: &mut [u8], n: u64, d: u64, own: u64) -> u64 {
+    unsafe { declared::station_fresh(store.as_mut_ptr(), store.len(), n, d, own) }
+}
+
+/// One message from another station.
+pub fn step(store: &mut [u8], message: &[u8], out: &mut [u8]) -> u64 {
+    unsafe {
+        declared::station_step(
+            store.as_mut_ptr(),
+            store.len(),
+            message.as_ptr(),
+            message.len(),
+            out.as_mut_ptr(),
+            out.len(),
+        )
+    }
+}
+
+/// One tick of the clock.
+pub fn tick(store: &mut [u8], out: &mut [u8]) -> u64 {
+    unsafe { declared::station_tick(store.as_mut_ptr(), store.len(), out.as_mut_ptr(), out.len()) }
+}
+
+/// The offer of a block name.
+pub fn offer(store: &mut [u8], name: &[u8], out: &mut [u8]) -> u64 {
+    unsafe {
+        declared::station_offer(
+            store.as_mut_ptr(),
+            store.len(),
+            name.as_ptr(),
+            name.len(),
+            out.as_mut_ptr(),
+            out.len(),
+        )
+    }
+}

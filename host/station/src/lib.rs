@@ -1,0 +1,37 @@
+//! One proved station of a Sync HotStuff group, for hosts written in Rust.
+//!
+//! A [`Station`] takes messages, ticks and offers, and gives back [`Effects`]: what to send, and what
+//! it committed. It does no input or output of its own. The station itself is the proved archive
+//! behind the four calls in [`ffi`]; this crate owns the buffers and gives bytes their types.
+//! docs/HOST.md says what a host must do, and what it may rely on.
+//!
+//! ```
+//! use station::{Effect, Station};
+//!
+//! let mut station = Station::fresh(3, 2, 1)?; // station 1 of 3, messages take at most 2 ticks
+//! for _ in 1..=5 {
+//!     for effect in station.tick()? {
+//!         match effect {
+//!             Effect::ToAll(message) => println!("to all: {message:?}"),
+//!             Effect::ToOne { station, message } => println!("to {station}: {message:?}"),
+//!             Effect::Committed { height, name } => println!("at {height}: {name:02x?}"),
+//!         }
+//!     }
+//! }
+//! # Ok::<(), station::Refusal>(())
+//! ```
+
+#![deny(unsafe_code)]
+
+mod effect;
+pub mod ffi;
+mod message;
+mod refusal;
+mod station;
+mod store;
+
+pub use effect::{Effect, Effects};
+pub use message::{GENESIS, Message, Name};
+pub use refusal::{Refusal, answer};
+pub use station::{OUT_LENGTH, Station};
+pub use store::{Cause, Lock, Phase, STATEMENTS, STORE_LENGTH, TALLIES};

@@ -1,0 +1,152 @@
+//! "When the desk says no": the refusals with 01's numbers, each with what to do about it.
+
+use std::fmt;
+
+/// Why a call was refused. Nothing has changed but, for `Full`, `Split` and `Clock`, that the
+/// station is now stopped.
+///
+/// ```
+/// use station::{Refusal, Station};
+///
+/// let refused = Station::fresh(4, 2, 0).unwrap_err();
+/// assert_eq!(refused, Refusal::Settings);
+/// assert_eq!(refused.number(), 10);
+/// println!("{refused}");
+/// ```
+#[derive(Clone, Copy, Debug, PartialEq, Eq, Hash)]
+#[repr(u32)]
+pub enum Refusal {
+    /// Store not of its exact length, offered name not 32 bytes, or out buffer too short.
+    Length = 1,
+    /// Store not well formed.
+    Store = 2,
+    /// Already stopped.
+    Stopped = 3,
+    /// Unreadable message.
+    Unreadable = 4,
+    /// Message not allowed.
+    NotAllowed = 5,
+    /// No record free for what this input must add.
+    Full = 6,
+    /// A due commit differs from the log at a height.
+    Split = 7,
+    /// Tick at the clock's end.
+    Clock = 8,
+    /// Offer not to be taken.
+    NotTaken = 9,
+    /// Bad settings for a fresh store.
+    Settings = 10,
+}
+
+impl Refusal {
+    /// Every refusal, in the order of the numbers.
+    pub const ALL: [Refusal; 10] = [
+        Refusal::Length,
+        Refusal::Store,
+        Refusal::Stopped,
+        Refusal::Unreadable,
+        Refusal::NotAllowed,
+        Refusal::Full,
+        Refusal::Split,
+        Refusal::Clock,
+        Refusal::NotTaken,
+        Refusal::Settings,
+    ];
+
+    /// 01's number.
+    pub fn number(self) -> u32 {
+        self as u32
+    }
+
+    /// The refusal of a number, if there is one.
+    pub fn from_number(number: u32) -> Option<Refusal> {
+        Self::ALL.into_iter().find(|refusal| refusal.number() == number)
+    }
+
+    /// Whether the call stopped the station for good, or found it stopped.
+    pub fn is_stop(self) -> bool {
+        matches!(self, Refusal::Stopped | Refusal::Full | Refusal::Split | Refusal::Clock)
+    }
+
+    /// What has happened.
+    fn reason(self) -> &'static str {
+        match self {
+            Refusal::Length => "a buffer or a name is not of its length",
+            Refusal::Store => "the store is not well formed",
+            Refusal::Stopped => "the station is stopped for good",
+            Refusal::Unreadable => "the message can't be read",
+            Refusal::NotAllowed => "the message is not allowed in this group",
+            Refusal::Full => "no record is free, and the station is now stopped",
+            Refusal::Split => "a due commit differs from the log, and the station is now stopped",
+            Refusal::Clock => "the clock is at its end, and the station is now stopped",
+            Refusal::NotTaken => "the offer is not to be taken now",
+            Refusal::Settings => "the settings are bad",
+        }
+    }
+
+    /// What a host does about it.
+    pub fn advice(self) -> &'static str {
+        match self {
+            Refusal::Length => {
+                "lend a store of 25,220 bytes, an out buffer of at least 32,768, a name of 32"
+            }
+            Refusal::Store => {
+                "go back to the last store kept whole; the station counts among the f faulty"
+            }
+            Refusal::Stopped => "read its log; it counts among the f faulty and takes no input",
+            Refusal::Unreadable => "drop it; its sender is faulty, or the link damages bytes",
+            Refusal::NotAllowed => "drop it; its sender is faulty, or has other settings",
+            Refusal::Full => "keep its log, and begin a new group when f stations have stopped so",
+            Refusal::Split => {
+                "trust no log further: more than f stations are faulty, or a host broke a rule"
+            }
+            Refusal::Clock => "keep its log, and begin a new group",
+            Refusal::NotTaken => {
+                "offer it again after the next input while this station leads, else to the leader"
+            }
+            Refusal::Settings => "take an odd n of 3 to 15, D of 1 to 10,000, and own below n",
+        }
+    }
+}
+
+impl fmt::Display for Refusal {
+    fn fmt(&self, f: &mut fmt::Formatter<'_>) -> fmt::Result {
+        write!(f, "refusal {}: {}; {}", self.number(), self.reason(), self.advice())
+    }
+}
+
+impl std::error::Error for Refusal {}
+
+/// A call's result taken apart: the count of bytes written, or the refusal.
+///
+/// # Panics
+/// If the number is none of 01's, as no station answers it.
+pub fn answer(result: u64) -> Result<usize, Refusal> {
+    let number = (result >> 32) as u32;
+    if number == 0 {
+        return Ok(result as usize);
+    }
+    Err(Refusal::from_number(number).expect("a refusal of 1 to 10"))
+}
+
+#[cfg(test)]
+mod tests {
+    use super::*;
+
+    #[test]
+    fn numbers_are_those_of_01() {
+        for (place, refusal) in Refusal::ALL.into_iter().enumerate() {
+            assert_eq!(refusal.number() as usize, place + 1);
+            assert_eq!(Refusal::from_number(refusal.number()), Some(refusal));
+            assert!(refusal.to_string().starts_with(&format!("refusal {}: ", place + 1)));
+        }
+        assert_eq!(Refusal::from_number(0), None);
+        assert_eq!(Refusal::from_number(11), None);
+    }
+
+    #[test]
+    fn results_come_apart() {
+        assert_eq!(answer(132), Ok(132));
+        assert_eq!(answer(7 << 32), Err(Refusal::Split));
+    }
+}

@@ -1,0 +1,132 @@
+//! The typed face over the archive: 01's bench where it shows in types, refusals, and kept stores.
+
+use station::{Cause, Effect, GENESIS, Message, Name, Phase, Refusal, Station};
+
+const FIRST: Name = [1; 32];
+
+fn propose(height: u32, name: Name, parent: Name) -> Message {
+    Message::Propose { view: 1, height, name, parent, mask: 0b110, author: 1 }
+}
+
+/// Ticks to a clock; gives back what the last tick did.
+fn run_to(station: &mut Station, clock: u32) -> Vec<Effect> {
+    let mut last = Vec::new();
+    while station.clock() < clock {
+        last = station.tick().unwrap().collect();
+    }
+    last
+}
+
+#[test]
+fn the_leader_makes_a_new_view() {
+    let mut station = Station::fresh(3, 2, 1).unwrap();
+    assert!(station.is_leader());
+    let made = Message::NewView {
+        view: 1,
+        height: 0,
+        name: GENESIS,
+        certificate_view: 0,
+        mask: 0,
+        author: 1,
+    };
+    let vote = Message::Vote { view: 1, height: 0, name: GENESIS, author: 1 };
+    assert_eq!(run_to(&mut station, 5), [Effect::ToAll(made), Effect::ToAll(vote)]);
+    assert_eq!((station.statements(), station.tallies()), (1, 1));
+}
+
+#[test]
+fn a_propose_at_7_commits_at_12() {
+    let mut station = Station::fresh(3, 2, 2).unwrap();
+    run_to(&mut station, 7);
+    let first = propose(1, FIRST, GENESIS);
+    let vote = Message::Vote { view: 1, height: 1, name: FIRST, author: 2 };
+    let effects: Vec<Effect> = station.step(&first.encode()).unwrap().collect();
+    assert_eq!(effects, [Effect::ToAll(first), Effect::ToAll(vote)]);
+    assert_eq!(run_to(&mut station, 11), []);
+    assert_eq!(run_to(&mut station, 12), [Effect::Committed { height: 1, name: FIRST }]);
+    assert_eq!(station.log(), [FIRST]);
+}
+
+#[test]
+fn a_quit_at_20_enters_at_23() {
+    let mut station = Station::fresh(3, 2, 0).unwrap();
+    run_to(&mut station, 20);
+    station.step(&Message::BlameSet { view: 1, mask: 0b110 }.encode()).unwrap();
+    assert_eq!(station.phase(), Phase::Waiting { quit: 20 });
+    let message = Message::Status { height: 0, name: GENESIS, certificate_view: 0, mask: 0 };
+    assert_eq!(run_to(&mut station, 23), [Effect::ToOne { station: 2, message }]);
+    assert_eq!((station.phase(), station.view(), station.entry()), (Phase::InView, 2, 23));
+    assert_eq!(station.lock().name, GENESIS);
+}
+
+#[test]
+fn refusals_have_their_types() {
+    assert_eq!(Station::fresh(3, 2, 3).err(), Some(Refusal::Settings));
+    let mut station = Station::fresh(3, 2, 2).unwrap();
+    assert_eq!(station.step(&[1, 2, 3]).err(), Some(Refusal::Unreadable));
+    let blame = Message::Blame { view: 33, author: 1 };
+    assert_eq!(station.step(&blame.encode()).err(), Some(Refusal::NotAllowed));
+    assert_eq!(station.offer(&FIRST).err(), Some(Refusal::NotTaken));
+    assert_eq!((station.stations(), station.delay(), station.own()), (3, 2, 2));
+}
+
+/// The 129th statement stops the station; its store is kept and taken up as well as any.
+#[test]
+fn a_full_store_is_stopped_and_kept() {
+    let mut station = Station::fresh(3, 2, 2).unwrap();
+    let name = |height: u32| if height == 0 { GENESIS } else { [height as u8; 32] };
+    for height in 1..=128 {
+        let link = propose(height, name(height), name(height - 1));
+        assert_eq!(station.step(&link.encode()).unwrap().count(), 2);
+    }
+    assert_eq!(station.statements(), station::STATEMENTS);
+    let over = propose(129, name(129), name(128)).encode();
+    assert_eq!(station.step(&over).err(), Some(Refusal::Full));
+    assert_eq!(station.phase(), Phase::Stopped(Cause::Full));
+    let mut again = Station::from_store(station.store()).unwrap();
+    assert_eq!(again.phase(), Phase::Stopped(Cause::Full));
+    assert_eq!(again.tick().err(), Some(Refusal::Stopped));
+}
+
+#[test]
+fn kept_stores_go_on_where_they_were() {
+    let mut station = Station::fresh(5, 3, 4).unwrap();
+    run_to(&mut station, 9);
+    let first = Message::Propose {
+        view: 1,
+        height: 1,
+        name: FIRST,
+        parent: GENESIS,
+        mask: 0b111,
+        author: 1,
+    };
+    station.step(&first.encode()).unwrap();
+    let mut again = Station::from_store(station.store()).unwrap();
+    assert_eq!(run_to(&mut again, 16), run_to(&mut station, 16));
+    assert_eq!(again.store(), station.store());
+    assert_eq!(again.log(), [FIRST]);
+}
+
+#[test]
+fn other_bytes_are_no_store() {
+    let station = Station::fresh(3, 2, 2).unwrap();
+    let bytes = station.store();
+    assert_eq!(Station::from_store(&bytes[1..]).err(), Some(Refusal::Length));
+    let mut damaged = bytes.to_vec();
+    damaged[4] = 4;
+    assert_eq!(Station::from_store(&damaged).err(), Some(Refusal::Store));
+    assert_eq!(Station::from_store(&[0; station::STORE_LENGTH]).err(), Some(Refusal::Store));
+}
+
+/// The calls on slices answer wrong lengths, and leave all as it was.
+#[test]
+fn lengths_are_looked_at_first() {
+    let mut out = [0xa5; station::OUT_LENGTH];
+    let mut store = vec![0x5a; station::STORE_LENGTH];
+    let one = 1 << 32;
+    assert_eq!(station::ffi::fresh(&mut store[1..], 3, 2, 0), one);
+    assert_eq!(station::ffi::tick(&mut store, &mut out[1..]), one);
+    assert_eq!(station::ffi::step(&mut [], &[], &mut out), one);
+    assert_eq!(station::ffi::offer(&mut store, &[7; 31], &mut out), one);
+    assert!(store.iter().all(|&byte| byte == 0x5a) && out.iter().all(|&byte| byte == 0xa5));
+}

@@ -1,0 +1,29 @@
+#!/bin/bash
+# The host side: the Rust crates' tests, both examples of docs/HOST.md, both programs in lockstep, and groups with faulty
+# leaders. Everything goes into target/.
+set -euo pipefail
+cd "$(dirname "$0")/.."
+tools/archive station >/dev/null
+export CARGO_NET_OFFLINE=true
+(cd host && cargo test --release -j1 --quiet && cargo build --release -j1 --quiet --bins --examples)
+built=$PWD/target/host/release
+place=$PWD/target/tests/host
+rm -rf "$place"
+mkdir -p "$place/c" "$place/rust"
+
+# both examples print what docs/HOST.md says, and keep the same stores
+cc -std=c11 -O2 -Wall -Wextra -Werror -o "$place/example" examples/host.c target/archive/libstation.a
+"$place/example" "$place/c" >"$place/c.txt"
+"$built/examples/host" "$place/rust" >"$place/rust.txt"
+sed -n '/^Both print the same/,$s/^    //p' docs/HOST.md >"$place/said.txt"
+diff "$place/said.txt" "$place/c.txt"
+diff "$place/said.txt" "$place/rust.txt"
+for own in 0 1 2; do
+    cmp "$place/c/station-$own.store" "$place/rust/station-$own.store"
+done
+echo "both examples do as docs/HOST.md says"
+
+"$built/compare"
+"$built/simulate" --many 300
+"$built/simulate" --svg "$place/group.svg"
+cmp "$place/group.svg" docs/group.svg
