@@ -10,22 +10,32 @@ ghost use Rattle.rules.specs.Messages.{viewAllowed};
 ghost use Rattle.rules.specs.Words.{full, message as said};
 ghost use Rattle.rules.specs.Inputs as inputs;
 ghost use Rattle.rules.specs.Refusals.{stopping, ifRoom, running};
+ghost use Rattle.fields.specs.Names.{nameOf};
 ghost use Rattle.wire.specs.Meaning.{statementOf, messageOf};
 ghost use Rattle.store.specs.Decode.{stateOf, Form};
 ghost use Rattle.store.specs.Fresh.{answer, freshly};
 ghost use Rattle.store.specs.Meaning.{tallyOf};
 ghost use Rattle.kept.specs.Said.{Sendable};
-ghost use Rattle.calls.specs.Calls.{stepCalled, Gives};
+ghost use Rattle.calls.specs.Calls.{stepCalled, offerCalled, Gives};
 ghost use Rattle.acts.specs.Works.{Formed};
 ghost use Rattle.station.specs.Answers.{barred, Answers, Mutely};
+ghost use Rattle.station.specs.Offers.{offerOf, mayOffer, extension};
+use fields::Name;
 use settings::Settings;
 use store::Cause;
+use store::Found;
 use store::Phase;
 use store::Station;
 use store::Tally;
 use wire::Message;
 use wire::Read;
 use wire::Statement;
+
+// What an offer makes.
+enum Offer {
+    Taken(Statement),
+    NotTaken,
+}
 
 // Makes a fresh store of whatever was in it.
 #[no_mangle]
@@ -52,6 +62,24 @@ pub extern "C" fn station_step(store: &mut [u8], message: &[u8], out: &mut [u8])
         return refuse(5);
     }
     handled(store, out, m)
+}
+
+// A name is offered: it is proposed above the top of the view, or the offer is refused.
+#[no_mangle]
+pub extern "C" fn station_offer(store: &mut [u8], name: &[u8], out: &mut [u8]) -> u64
+    ensures { λ r. ⌜ Gives (offerCalled (now (name .entry)) (now (store .entry)) (now (out .entry))) r (now (store .exit)) (now (out .exit)) ⌝ }
+{
+    if name.len() != 32 {
+        return refuse(1);
+    }
+    let number = barred(store, out);
+    if number != 0 {
+        return refuse(number);
+    }
+    let Offer::Taken(x) = offered(store, fields::get_name(name, 0)) else {
+        return refuse(9);
+    };
+    stated(store, out, x)
 }
 
 // What a host is told of a refusal: its number times 2^32, and no bytes.
@@ -186,4 +214,59 @@ fn handled(store: &mut [u8], out: &mut [u8], message: Message) -> u64
             },
         ),
     }
+}
+
+// Whether a station may offer a name: it leads its view, which is opened, and the name is neither zero nor used.
+fn may_offer(store: &[u8], name: Name) -> bool
+    requires { ⌜ Formed (now store) ⌝ }
+    ensures { λ r. ⌜ r ≡ mayOffer (nameOf name) (stateOf (now (store .entry))) ⌝ }
+{
+    let station = Station::load(store);
+    let settings = station.settings;
+    let view = station.view;
+    let leads = acts::is_in(store, view) & (settings.leader(view as u64) == settings.own);
+    let fresh = !name.is_zero() & !search::is_used(store, name);
+    leads & search::is_opened(store, view) & fresh
+}
+
+// The propose of a name above the top of the view, if that one is certified and below the last height.
+fn extended(store: &[u8], name: Name) -> Offer
+    requires { ⌜ Formed (now store) ⌝ }
+    ensures { λ r. ⌜ offerOf r ≡ extension (nameOf name) (stateOf (now (store .entry))) ⌝ }
+{
+    let station = Station::load(store);
+    let settings = station.settings;
+    let view = station.view;
+    let Found::At(i) = search::top(store, view) else {
+        return Offer::NotTaken;
+    };
+    let top = store::statement_at(store, i);
+    let mask = search::voters(store, search::own_block(top, 0));
+    if !settings.quorum(mask as u64) {
+        return Offer::NotTaken;
+    }
+    if Settings::LAST_HEIGHT <= top.height as u64 {
+        return Offer::NotTaken;
+    }
+    let link = top.name;
+    Offer::Taken(Statement {
+        is_new_view: false,
+        view,
+        height: top.height + 1,
+        name,
+        link,
+        mask,
+        author: settings.own as u8,
+    })
+}
+
+// What the offer of a name makes, if it is to be taken.
+fn offered(store: &[u8], name: Name) -> Offer
+    requires { ⌜ Formed (now store) ⌝ }
+    ensures { λ r. ⌜ offerOf r ≡ inputs.offered (nameOf name) (stateOf (now (store .entry))) ⌝ }
+{
+    if !may_offer(store, name) {
+        return Offer::NotTaken;
+    }
+    extended(store, name)
 }

@@ -35,7 +35,7 @@ unfolding isField
 field-test s at t w h = rw (le-leb (at + 3 + w) (length s) h)
 
 -- the number of a list's bytes is that of its place
-be-number : (bs : List ℕ) → be bs ≡ number bs 0 (length bs)
+pub be-number : (bs : List ℕ) → be bs ≡ number bs 0 (length bs)
 unfolding be number
 be-number [] = refl
 be-number (b ∷ bs) = ap (λ (n : ℕ). b * 256 ^ length bs + n) (be-number bs) ∙ sym (number-cons b bs (length bs))
