@@ -5,17 +5,20 @@ use mathlib.Core.Bool.{Bool, true, false, _&&_, and-true, and-false, Bool·beq}
 use mathlib.Core.Option.{none}
 use native.Mathlib.Omega.{arith}
 use native.Mathlib.Nat.{mod-zero, pow-le-pow-right}
-use lib.Dec.{eqb, ltb}
-use borrow.Author.Tests.{lt-ltb, ltb-true, le-leb, lt-leb}
+use lib.Dec.{eqb, leb, ltb}
+use borrow.Author.Tests.{lt-ltb, ltb-true, leb-true, le-leb, lt-leb}
 use Rattle.fields.specs.declared.Name.{Name}
 use Rattle.fields.specs.Names.{nameOf}
-use Rattle.rules.specs.Lists.{iff}
+use Rattle.rules.specs.Limits.{firstView, lastView}
+use Rattle.rules.specs.Lists.{iff, within}
 use Rattle.rules.specs.Messages.{newView, propose, viewAllowed, blockAllowed, maskAllowed, certificateAllowed, allowed}
 use Rattle.rules.specs.Sizes.{Settings, leader}
 use Rattle.rules.specs.Words.{message}
-use Rattle.rules.proofs.Tests.{by-bool}
+use Rattle.rules.proofs.Tests.{by-bool, and-left, and-right}
 use Rattle.wire.specs.declared.Statement.{Statement}
-use Rattle.wire.specs.Meaning.{statementOf}
+use Rattle.wire.specs.declared.Message.{Message}
+use Rattle.wire.specs.declared.Message.the-variants.{Stated, Vote, Blame, BlameSet, Status}
+use Rattle.wire.specs.Meaning.{statementOf, messageOf, Writable}
 
 pub same-iff : (a b : Bool) → Bool·beq a b ≡ iff a b
 unfolding iff
@@ -80,3 +83,24 @@ module _ (g : Settings) (x : Statement) where
       ≡ allowed g (message (statementOf x none))
   unfolding allowed
   propose-allowed e h = rw (propose-said x e, le-leb 1 (x .height) h, and-true)
+
+-- what is allowed can be written: a new-view's certificate view is below its view, which is within the limits
+new-view-below : (g : Settings) (v h b c m a : ℕ) → allowed g (newView v h b c m a) ≡ true → c < 256 ^ 4
+unfolding allowed viewAllowed within
+new-view-below g v h b c m a e =
+    let view = viewAllowed v in
+    let block = view && blockAllowed h b in
+    let low = block && ltb c v in
+    let first = and-left low (certificateAllowed g h c m) (and-left (low && certificateAllowed g h c m) (eqb a (leader g v)) e) in
+    let below = ltb-true c v (and-right block (ltb c v) first) in
+    let most = leb-true v lastView (and-right (leb firstView v) (leb v lastView) (and-left view (blockAllowed h b) (and-left block (ltb c v) first))) in
+    omega arith
+
+pub allowed-writable : (g : Settings) (m : Message) → allowed g (messageOf m) ≡ true → Writable m
+unfolding messageOf
+allowed-writable g (Stated x) e =
+    λ n. new-view-below g (x .view) (x .height) (nameOf (x .name)) (nameOf (x .link)) (x .mask) (x .author) (sym (ap (allowed g) (new-view-said x n)) ∙ e)
+allowed-writable g (Vote v h b a) e = tt
+allowed-writable g (Blame v a) e = tt
+allowed-writable g (BlameSet v m) e = tt
+allowed-writable g (Status h b c m) e = tt

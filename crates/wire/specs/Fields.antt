@@ -24,6 +24,13 @@ pub record Found (here : Bool) (s : List ℕ) (at w value next : ℕ) : Type 0 w
   pub next-is : next ≡ elim here [ true ↦ at + 3 + w | false ↦ suc (length s) ]
   pub bound : value < 256 ^ w
 
+-- a number of a tag and a width, of at most 8 bytes; a name of a tag
+abbrev pub NumberAt : List ℕ → ℕ → ℕ → ℕ → ℕ → ℕ → Type 0
+NumberAt s at t w value next = Found (leb w 8 && isField s at t w) s at w value next
+
+abbrev pub NameAt : List ℕ → ℕ → ℕ → ℕ → ℕ → Type 0
+NameAt s at t value next = Found (isField s at t 32) s at 32 value next
+
 -- the message of a kind, from the bytes of a place on
 unfoldable pub bodyAt : ℕ → List ℕ → ℕ → Option Message
 unfolding body

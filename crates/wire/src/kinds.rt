@@ -2,8 +2,8 @@
 use super::Message;
 use super::Read;
 use super::Statement;
-use super::reader::name_at;
-use super::reader::number_at;
+use super::reader::read_name;
+use super::reader::read_number;
 use fields::Name;
 ghost use mathlib.Core.Path.{_≡_};
 ghost use Rattle.wire.specs.Fields.{bodyAt};
@@ -13,12 +13,12 @@ ghost use Rattle.wire.specs.Meaning.{readOf};
 pub fn new_view(s: &[u8], at: usize) -> Read
     ensures { λ r. ⌜ readOf r ≡ bodyAt 1 (now (s .entry)) at ⌝ }
 {
-    let view = number_at(s, at, 2, 4);
-    let height = number_at(s, view.next, 3, 4);
-    let name = name_at(s, height.next, 4);
-    let cert = number_at(s, name.next, 6, 4);
-    let mask = number_at(s, cert.next, 7, 2);
-    let author = number_at(s, mask.next, 8, 1);
+    let view = read_number(s, at, 2, 4);
+    let height = read_number(s, view.next, 3, 4);
+    let name = read_name(s, height.next, 4);
+    let cert = read_number(s, name.next, 6, 4);
+    let mask = read_number(s, cert.next, 7, 2);
+    let author = read_number(s, mask.next, 8, 1);
     if author.next != s.len() {
         return Read::Unreadable;
     }
@@ -44,12 +44,12 @@ pub fn new_view(s: &[u8], at: usize) -> Read
 pub fn propose(s: &[u8], at: usize) -> Read
     ensures { λ r. ⌜ readOf r ≡ bodyAt 2 (now (s .entry)) at ⌝ }
 {
-    let view = number_at(s, at, 2, 4);
-    let height = number_at(s, view.next, 3, 4);
-    let name = name_at(s, height.next, 4);
-    let parent = name_at(s, name.next, 5);
-    let mask = number_at(s, parent.next, 7, 2);
-    let author = number_at(s, mask.next, 8, 1);
+    let view = read_number(s, at, 2, 4);
+    let height = read_number(s, view.next, 3, 4);
+    let name = read_name(s, height.next, 4);
+    let parent = read_name(s, name.next, 5);
+    let mask = read_number(s, parent.next, 7, 2);
+    let author = read_number(s, mask.next, 8, 1);
     if author.next != s.len() {
         return Read::Unreadable;
     }
@@ -70,10 +70,10 @@ pub fn propose(s: &[u8], at: usize) -> Read
 pub fn vote(s: &[u8], at: usize) -> Read
     ensures { λ r. ⌜ readOf r ≡ bodyAt 3 (now (s .entry)) at ⌝ }
 {
-    let view = number_at(s, at, 2, 4);
-    let height = number_at(s, view.next, 3, 4);
-    let name = name_at(s, height.next, 4);
-    let author = number_at(s, name.next, 8, 1);
+    let view = read_number(s, at, 2, 4);
+    let height = read_number(s, view.next, 3, 4);
+    let name = read_name(s, height.next, 4);
+    let author = read_number(s, name.next, 8, 1);
     if author.next != s.len() {
         return Read::Unreadable;
     }
@@ -90,8 +90,8 @@ pub fn vote(s: &[u8], at: usize) -> Read
 pub fn blame(s: &[u8], at: usize) -> Read
     ensures { λ r. ⌜ readOf r ≡ bodyAt 4 (now (s .entry)) at ⌝ }
 {
-    let view = number_at(s, at, 2, 4);
-    let author = number_at(s, view.next, 8, 1);
+    let view = read_number(s, at, 2, 4);
+    let author = read_number(s, view.next, 8, 1);
     if author.next != s.len() {
         return Read::Unreadable;
     }
@@ -105,14 +105,14 @@ pub fn blame(s: &[u8], at: usize) -> Read
 pub fn blame_set(s: &[u8], at: usize) -> Read
     ensures { λ r. ⌜ readOf r ≡ bodyAt 5 (now (s .entry)) at ⌝ }
 {
-    let view = number_at(s, at, 2, 4);
-    let mask = number_at(s, view.next, 7, 2);
-    if mask.next != s.len() {
+    let view = read_number(s, at, 2, 4);
+    let blamers = read_number(s, view.next, 7, 2);
+    if blamers.next != s.len() {
         return Read::Unreadable;
     }
     Read::Readable(Message::BlameSet {
         view: view.value as u32,
-        mask: mask.value as u16,
+        mask: blamers.value as u16,
     })
 }
 
@@ -120,10 +120,10 @@ pub fn blame_set(s: &[u8], at: usize) -> Read
 pub fn status(s: &[u8], at: usize) -> Read
     ensures { λ r. ⌜ readOf r ≡ bodyAt 6 (now (s .entry)) at ⌝ }
 {
-    let height = number_at(s, at, 3, 4);
-    let name = name_at(s, height.next, 4);
-    let cert = number_at(s, name.next, 6, 4);
-    let mask = number_at(s, cert.next, 7, 2);
+    let height = read_number(s, at, 3, 4);
+    let name = read_name(s, height.next, 4);
+    let cert = read_number(s, name.next, 6, 4);
+    let mask = read_number(s, cert.next, 7, 2);
     if mask.next != s.len() {
         return Read::Unreadable;
     }

@@ -29,7 +29,7 @@ pub struct Statement {
     pub author: u8,
 }
 
-// A message: its fields have the widths of the wire, so whatever stands here can be written.
+// A message. Its fields have the widths of the wire, but for the link of a new-view: a writer asks that it fits 4 bytes.
 pub enum Message {
     Stated(Statement),
     Vote {
@@ -64,7 +64,7 @@ pub enum Read {
 pub fn read_message(message: &[u8]) -> Read
     ensures { λ r. ⌜ readOf r ≡ read (now (message .entry)) ⌝ }
 {
-    let kind = reader::number_at(message, 0, 1, 1);
+    let kind = reader::read_number(message, 0, 1, 1);
     let at = kind.next;
     let number = kind.value;
     match number {

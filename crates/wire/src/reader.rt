@@ -1,11 +1,15 @@
 // Fields at places of a message. Where a field isn't there, the answer is 0 and a place past the end, from which nothing is read.
 use fields::Name;
-ghost use mathlib.Core.Bool.{_&&_};
 ghost use mathlib.Core.Path.{_≡_};
 ghost use Prim.Native.Nat.{_≤_};
-ghost use lib.Dec.{leb};
 ghost use Rattle.fields.specs.Names.{nameOf};
-ghost use Rattle.wire.specs.Fields.{isField, Found};
+ghost use Rattle.wire.specs.Fields.{isField, NumberAt, NameAt};
+
+// A reader keeps the message and its place in it.
+pub struct Reader<'a> {
+    pub message: &'a [u8],
+    pub at: usize,
+}
 
 // A number that was read, and the place after its field.
 pub struct Number {
@@ -35,8 +39,8 @@ fn stands(s: &[u8], at: usize, tag: u8, width: usize) -> bool
 }
 
 // The number of a field at a place.
-pub fn number_at(s: &[u8], at: usize, tag: u8, width: usize) -> Number
-    ensures { λ r. ⌜ Found (leb width 8 && isField (now (s .entry)) at tag width) (now (s .entry)) at width (r .value) (r .next) ⌝ }
+fn number_at(s: &[u8], at: usize, tag: u8, width: usize) -> Number
+    ensures { λ r. ⌜ NumberAt (now (s .entry)) at tag width (r .value) (r .next) ⌝ }
 {
     if 8 < width {
         return Number {
@@ -59,8 +63,8 @@ pub fn number_at(s: &[u8], at: usize, tag: u8, width: usize) -> Number
 }
 
 // The name of a field at a place.
-pub fn name_at(s: &[u8], at: usize, tag: u8) -> Named
-    ensures { λ r. ⌜ Found (isField (now (s .entry)) at tag 32) (now (s .entry)) at 32 (nameOf (r .value)) (r .next) ⌝ }
+fn name_at(s: &[u8], at: usize, tag: u8) -> Named
+    ensures { λ r. ⌜ NameAt (now (s .entry)) at tag (nameOf (r .value)) (r .next) ⌝ }
 {
     if stands(s, at, tag, 32) {
         let from = at + 3;
@@ -75,4 +79,41 @@ pub fn name_at(s: &[u8], at: usize, tag: u8) -> Named
         value,
         next: s.len() + 1,
     }
+}
+
+impl<'a> Reader<'a> {
+    // A reader of a message, at a place in it.
+    pub fn new(message: &'a [u8], at: usize) -> Reader<'a>
+        ensures { λ r. ⌜ (r .message ≡ message .entry) × (r .at ≡ at) ⌝ }
+    {
+        Reader { message, at }
+    }
+
+    // The number of the field at its place.
+    pub fn number(self, tag: u8, width: usize) -> Number
+        ensures { λ r. ⌜ NumberAt (now (self .entry .message)) (self .entry .at) tag width (r .value) (r .next) ⌝ }
+    {
+        number_at(self.message, self.at, tag, width)
+    }
+
+    // The name of the field at its place.
+    pub fn name(self, tag: u8) -> Named
+        ensures { λ r. ⌜ NameAt (now (self .entry .message)) (self .entry .at) tag (nameOf (r .value)) (r .next) ⌝ }
+    {
+        name_at(self.message, self.at, tag)
+    }
+}
+
+// The number of the field at a place, through a reader.
+pub fn read_number(message: &[u8], at: usize, tag: u8, width: usize) -> Number
+    ensures { λ r. ⌜ NumberAt (now (message .entry)) at tag width (r .value) (r .next) ⌝ }
+{
+    Reader::new(message, at).number(tag, width)
+}
+
+// The name of the field at a place, through a reader.
+pub fn read_name(message: &[u8], at: usize, tag: u8) -> Named
+    ensures { λ r. ⌜ NameAt (now (message .entry)) at tag (nameOf (r .value)) (r .next) ⌝ }
+{
+    Reader::new(message, at).name(tag)
 }

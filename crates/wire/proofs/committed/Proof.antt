@@ -1,3 +1,4 @@
+-- `committed` meets its contract: the head is put, then the height, then the name. Assumes nothing.
 use Rattle.wire.proofs.Writing.{length-committed, committed-says}
 use native.Mathlib.Omega.{arith}
 use Rattle.fields.proofs.Names.{name-lt}
@@ -5,48 +6,42 @@ use Rattle.fields.specs.Names.{nameOf}
 use borrow.Author.Needs.{needs}
 use Rattle.wire.proofs.committed.Statement.{statement}
 use Rattle.wire.proofs.committed.Tie as tie
-use Rattle.wire.proofs.committed.Reads as reads
-use Rattle.wire.proofs.committed.Lts as lts
-use Rattle.fields.proofs.put.Reads as put-reads
-use Rattle.fields.proofs.put_name.Reads as put-name-reads
 
--- src/lib.rt:229:5
 put-requires : tie.Need-put-requires
 put-requires c κs =
     omega (arith, length-committed (c .before .before .args .height) (nameOf (c .before .before .args .name)))
 
--- src/lib.rt:230:22
 add-put : tie.Need-add-put
 add-put c = search needs
 
--- src/lib.rt:230:5
 put-requires-2 : tie.Need-put-requires-2
 put-requires-2 c κs =
-    omega (arith, length-committed (c .before .before .before .before .before .before .args .height) (nameOf (c .before .before .before .before .before .before .args .name)))
+    let start = c .before .before .before .before .before .before in
+    omega (arith, length-committed (start .args .height) (nameOf (start .args .name)))
 
--- src/lib.rt:231:27
 add-put-name : tie.Need-add-put-name
 add-put-name c = search needs
 
--- src/lib.rt:231:5
 put-name-requires : tie.Need-put-name-requires
 put-name-requires c κs =
-    omega (arith, length-committed (c .before .before .before .before .before .before .before .before .before .before .args .height) (nameOf (c .before .before .before .before .before .before .before .before .before .before .args .name)))
+    let start = c .before .before .before .before .before .before .before .before .before .before in
+    omega (arith, length-committed (start .args .height) (nameOf (start .args .name)))
 
--- src/lib.rt:232:5
 add-result : tie.Need-add-result
 add-result c = search needs
 
--- src/lib.rt:225:1
 same-length : tie.Need-same-length
 same-length c = search needs
 
--- src/lib.rt:225:1
 returns : tie.Need-returns
 returns c =
-    let a = c .before .before .before .before .before .before .before .before .before .before .before .before .before .args in
-    committed-says (a .out .now) (a .at) (a .height) (nameOf (a .name)) (omega arith) (name-lt (a .name) (omega arith) (omega arith) (omega arith) (omega arith))
-    (c .before .before .before .before .before .before .before .before .before .before .put .ensures) (c .before .before .before .before .before .before .put2 .ensures) (c .before .before .put-name .ensures)
+    let after-put-name = c .before .before in
+    let after-put2 = after-put-name .before .before .before .before in
+    let after-put = after-put2 .before .before .before .before in
+    let start = after-put .before .before .before in
+    let a = start .args in
+    committed-says (a .out .now) (a .at) (a .height) (nameOf (a .name)) (omega arith) (name-lt (a .name) (omega (arith, start .good)) (omega (arith, start .good)) (omega (arith, start .good)) (omega (arith, start .good)))
+    (after-put .put .ensures) (after-put2 .put2 .ensures) (after-put-name .put-name .ensures)
 
 pub committed-spec : {M : Type 1} → statement M
 committed-spec =

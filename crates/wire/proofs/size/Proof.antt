@@ -1,3 +1,4 @@
+-- `size` meets its contract: by the case of the message, as 01's table has it. Assumes nothing.
 use mathlib.Core.Path.{sym}
 use Rattle.rules.specs.Messages.{kind}
 use Rattle.wire.specs.Meaning.{messageOf}
@@ -6,60 +7,47 @@ use Rattle.wire.proofs.Writing.{length-write}
 use borrow.Author.Needs.{needs}
 use Rattle.wire.proofs.size.Statement.{statement}
 use Rattle.wire.proofs.size.Tie as tie
-use Rattle.wire.proofs.size.Reads as reads
-use Rattle.wire.proofs.size.Lts as lts
 
--- src/lib.rt:165:25
 enum-known-message : tie.Need-enum-known-message
 enum-known-message c = search needs
 
--- src/lib.rt:166:33
 enum-told : tie.Need-enum-told
 enum-told c = search needs
 
--- src/lib.rt:167:34
 enum-told-2 : tie.Need-enum-told-2
 enum-told-2 c = search needs
 
--- src/lib.rt:168:37
 enum-told-3 : tie.Need-enum-told-3
 enum-told-3 c = search needs
 
--- src/lib.rt:169:35
 enum-told-4 : tie.Need-enum-told-4
 enum-told-4 c = search needs
 
--- src/lib.rt:161:1
 returns : tie.Need-returns
 unfolding messageOf kind
 returns c =
     rw (c .before .before .message .given .1, new-view-said (c .before .before .message .given .0 .0) (c .if1 .taken)) (sym (length-write _))
 
--- src/lib.rt:161:1
 returns-2 : tie.Need-returns-2
 unfolding messageOf kind
 returns-2 c =
     rw (c .before .before .message .given .1, propose-said (c .before .before .message .given .0 .0) (c .if1 .left)) (sym (length-write _))
 
--- src/lib.rt:161:1
 returns-3 : tie.Need-returns-3
 unfolding messageOf kind
 returns-3 c =
     rw (c .enum-told .given .1) (sym (length-write _))
 
--- src/lib.rt:161:1
 returns-4 : tie.Need-returns-4
 unfolding messageOf kind
 returns-4 c =
     rw (c .enum-told2 .given .1) (sym (length-write _))
 
--- src/lib.rt:161:1
 returns-5 : tie.Need-returns-5
 unfolding messageOf kind
 returns-5 c =
     rw (c .enum-told3 .given .1) (sym (length-write _))
 
--- src/lib.rt:161:1
 returns-6 : tie.Need-returns-6
 unfolding messageOf kind
 returns-6 c =

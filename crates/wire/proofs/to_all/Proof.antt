@@ -1,3 +1,4 @@
+-- `to_all` meets its contract: the head is put, then the message. Assumes nothing.
 use lib.Dec.{lit<}
 use mathlib.Core.Path.{ap, _∙_}
 use native.Mathlib.Omega.{arith}
@@ -9,47 +10,40 @@ use Rattle.wire.proofs.Writing.{length-write-most, length-to-all, field
 use borrow.Author.Needs.{needs}
 use Rattle.wire.proofs.to_all.Statement.{statement}
 use Rattle.wire.proofs.to_all.Tie as tie
-use Rattle.wire.proofs.to_all.Reads as reads
-use Rattle.wire.proofs.to_all.Lts as lts
-use Rattle.fields.proofs.put.Reads as put-reads
-use Rattle.wire.proofs.size.Reads as size-reads
-use Rattle.wire.proofs.write_message.Reads as write-message-reads
 
--- src/lib.rt:208:9
 size-requires : tie.Need-size-requires
 size-requires c κs = search needs
 
--- src/lib.rt:209:29
 add-put : tie.Need-add-put
 add-put c =
     omega (arith, length-write-most (messageOf (c .before .before .before .args .message)))
 
--- src/lib.rt:209:5
 put-requires : tie.Need-put-requires
 put-requires c κs =
     omega (arith, length-to-all (messageOf (c .before .before .before .args .message)))
 
--- src/lib.rt:210:24
 add-write-message : tie.Need-add-write-message
 add-write-message c = search needs
 
--- src/lib.rt:210:5
 write-message-requires : tie.Need-write-message-requires
 write-message-requires c κs =
-    (c .before .before .before .before .before .before .before .pre .0, omega (arith, length-to-all (messageOf (c .before .before .before .before .before .before .before .args .message))))
+    let start = c .before .before .before .before .before .before .before in
+    (start .pre .0, omega (arith, length-to-all (messageOf (start .args .message))))
 
--- src/lib.rt:204:1
 same-length : tie.Need-same-length
 same-length c = search needs
 
--- src/lib.rt:204:1
 returns : tie.Need-returns
 unfolding effect
 returns c =
-    let a = c .before .before .before .before .before .before .before .before .before .before .args in
+    let after-write-message = c .before .before in
+    let after-put = after-write-message .before .before .before .before in
+    let after-size = after-put .before .before in
+    let start = after-size .before .before in
+    let a = start .args in
     let m = messageOf (a .message) in
     field-says (a .out .now) (a .at) 0x10 (write m) (lit< tt) (omega (arith, length-write-most m))
-    (c .before .before .before .before .before .before .put .ensures ∙ ap (λ (n : ℕ). put (a .out .now) (a .at) 3 (0x100000 + n)) (c .before .before .before .before .before .before .before .before .size .ensures)) (c .before .before .write-message .ensures)
+    (after-put .put .ensures ∙ ap (λ (n : ℕ). put (a .out .now) (a .at) 3 (0x100000 + n)) (after-size .size .ensures)) (after-write-message .write-message .ensures)
 
 pub to-all-spec : {M : Type 1} → statement M
 to-all-spec =

@@ -1,3 +1,4 @@
+-- `to_one` meets its contract: the head is put, then the station, then the message. Assumes nothing.
 use lib.Dec.{lit<}
 use mathlib.Core.List.{_∷_}
 use mathlib.Core.Path.{ap, _∙_}
@@ -9,57 +10,50 @@ use Rattle.wire.proofs.Writing.{length-write-most, length-to-one, byte-
 use borrow.Author.Needs.{needs}
 use Rattle.wire.proofs.to_one.Statement.{statement}
 use Rattle.wire.proofs.to_one.Tie as tie
-use Rattle.wire.proofs.to_one.Reads as reads
-use Rattle.wire.proofs.to_one.Lts as lts
-use Rattle.fields.proofs.put.Reads as put-reads
-use Rattle.wire.proofs.size.Reads as size-reads
-use Rattle.wire.proofs.write_message.Reads as write-message-reads
 
--- src/lib.rt:218:9
 size-requires : tie.Need-size-requires
 size-requires c κs = search needs
 
--- src/lib.rt:219:29
 add-put : tie.Need-add-put
 add-put c =
     omega (arith, length-write-most (messageOf (c .before .before .before .args .message)))
 
--- src/lib.rt:219:5
 put-requires : tie.Need-put-requires
 put-requires c κs =
     omega (arith, length-to-one (c .before .before .before .args .station) (messageOf (c .before .before .before .args .message)))
 
--- src/lib.rt:220:22
 add-put-2 : tie.Need-add-put-2
 add-put-2 c = search needs
 
--- src/lib.rt:220:5
 put-requires-2 : tie.Need-put-requires-2
 put-requires-2 c κs =
-    omega (arith, length-to-one (c .before .before .before .before .before .before .before .args .station) (messageOf (c .before .before .before .before .before .before .before .args .message)))
+    let start = c .before .before .before .before .before .before .before in
+    omega (arith, length-to-one (start .args .station) (messageOf (start .args .message)))
 
--- src/lib.rt:221:24
 add-write-message : tie.Need-add-write-message
 add-write-message c = search needs
 
--- src/lib.rt:221:5
 write-message-requires : tie.Need-write-message-requires
 write-message-requires c κs =
-    (c .before .before .before .before .before .before .before .before .before .before .before .pre .0, omega (arith, length-to-one (c .before .before .before .before .before .before .before .before .before .before .before .args .station) (messageOf (c .before .before .before .before .before .before .before .before .before .before .before .args .message))))
+    let start = c .before .before .before .before .before .before .before .before .before .before .before in
+    (start .pre .0, omega (arith, length-to-one (start .args .station) (messageOf (start .args .message))))
 
--- src/lib.rt:214:1
 same-length : tie.Need-same-length
 same-length c = search needs
 
--- src/lib.rt:214:1
 returns : tie.Need-returns
 unfolding effect
 returns c =
-    let a = c .before .before .before .before .before .before .before .before .before .before .before .before .before .before .args in
+    let after-write-message = c .before .before in
+    let after-put2 = after-write-message .before .before .before .before in
+    let after-put = after-put2 .before .before .before .before in
+    let after-size = after-put .before .before in
+    let start = after-size .before .before in
+    let a = start .args in
     let m = messageOf (a .message) in
     field-says (a .out .now) (a .at) 0x11 (a .station ∷ write m) (lit< tt) (omega (arith, length-write-most m))
-    (c .before .before .before .before .before .before .before .before .before .before .put .ensures ∙ ap (put (a .out .now) (a .at) 3) (omega (arith, c .before .before .before .before .before .before .before .before .before .before .before .before .size .ensures)))
-    (byte-says _ _ (a .station) (write m) (omega arith) (c .before .before .before .before .before .before .put2 .ensures) (omega arith) (c .before .before .write-message .ensures))
+    (after-put .put .ensures ∙ ap (put (a .out .now) (a .at) 3) (omega (arith, after-size .size .ensures)))
+    (byte-says _ _ (a .station) (write m) (omega arith) (after-put2 .put2 .ensures) (omega arith) (after-write-message .write-message .ensures))
 
 pub to-one-spec : {M : Type 1} → statement M
 to-one-spec =

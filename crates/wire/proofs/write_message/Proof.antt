@@ -1,3 +1,4 @@
+-- `write_message` meets its contract: by the case of the message, with the room for its kind. Assumes nothing.
 use lib.ListN.{length}
 use mathlib.Core.Path.{ap, _∙_}
 use Rattle.rules.specs.Messages.{kind}
@@ -7,133 +8,126 @@ use Rattle.wire.proofs.Writing.{room-of}
 use borrow.Author.Needs.{needs}
 use Rattle.wire.proofs.write_message.Statement.{statement}
 use Rattle.wire.proofs.write_message.Tie as tie
-use Rattle.wire.proofs.write_message.Reads as reads
-use Rattle.wire.proofs.write_message.Lts as lts
-use Rattle.wire.proofs.writer.blame_out.Reads as blame-out-reads
-use Rattle.wire.proofs.writer.blame_set_out.Reads as blame-set-out-reads
-use Rattle.wire.proofs.writer.new_view_out.Reads as new-view-out-reads
-use Rattle.wire.proofs.writer.propose_out.Reads as propose-out-reads
-use Rattle.wire.proofs.writer.status_out.Reads as status-out-reads
-use Rattle.wire.proofs.writer.vote_out.Reads as vote-out-reads
 
--- src/lib.rt:179:25
 enum-known-message : tie.Need-enum-known-message
 enum-known-message c = search needs
 
--- src/lib.rt:181:17
 new-view-out-requires : tie.Need-new-view-out-requires
 unfolding messageOf kind
 new-view-out-requires c κs =
-    let x = c .before .before .before .message .given .0 .0 in
-    let link = rw (c .before .before .before .message .given .1) at (c .before .before .before .before .before .before .pre .0) in
-    (c .before .if1 .taken, link (c .before .if1 .taken), room-of (c .before .before .before .before .before .before .args .at) (length (c .before .before .before .before .before .before .args .out .now)) (ap messageOf (c .before .before .before .message .given .1) ∙ new-view-said x (c .before .if1 .taken)) (c .before .before .before .before .before .before .pre .1))
+    let after-message = c .before .before .before in
+    let start = after-message .before .before .before in
+    let x = after-message .message .given .0 .0 in
+    let link = rw (after-message .message .given .1) at (start .pre .0) in
+    (c .before .if1 .taken, link (c .before .if1 .taken), room-of (start .args .at) (length (start .args .out .now)) (ap messageOf (after-message .message .given .1) ∙ new-view-said x (c .before .if1 .taken)) (start .pre .1))
 
--- src/lib.rt:183:17
 propose-out-requires : tie.Need-propose-out-requires
 unfolding messageOf kind
 propose-out-requires c κs =
-    let x = c .before .before .before .message .given .0 .0 in
-    (c .before .if1 .left, room-of (c .before .before .before .before .before .before .args .at) (length (c .before .before .before .before .before .before .args .out .now)) (ap messageOf (c .before .before .before .message .given .1) ∙ propose-said x (c .before .if1 .left)) (c .before .before .before .before .before .before .pre .1))
+    let after-message = c .before .before .before in
+    let start = after-message .before .before .before in
+    let x = after-message .message .given .0 .0 in
+    (c .before .if1 .left, room-of (start .args .at) (length (start .args .out .now)) (ap messageOf (after-message .message .given .1) ∙ propose-said x (c .before .if1 .left)) (start .pre .1))
 
--- src/lib.rt:187:13
 enum-known-message-2 : tie.Need-enum-known-message-2
 enum-known-message-2 c = search needs
 
--- src/lib.rt:191:14
 vote-out-requires : tie.Need-vote-out-requires
 unfolding messageOf kind
 vote-out-requires c κs =
-    room-of (c .before .before .before .before .before .args .at) (length (c .before .before .before .before .before .args .out .now)) (ap messageOf (c .before .before .message2 .given .1)) (c .before .before .before .before .before .pre .1)
+    let after-message2 = c .before .before in
+    let start = after-message2 .before .before .before in
+    room-of (start .args .at) (length (start .args .out .now)) (ap messageOf (after-message2 .message2 .given .1)) (start .pre .1)
 
--- src/lib.rt:192:26
 enum-known-message-3 : tie.Need-enum-known-message-3
 enum-known-message-3 c = search needs
 
--- src/lib.rt:192:44
 blame-out-requires : tie.Need-blame-out-requires
 unfolding messageOf kind
 blame-out-requires c κs =
-    room-of (c .before .before .before .before .before .args .at) (length (c .before .before .before .before .before .args .out .now)) (ap messageOf (c .before .before .message3 .given .1)) (c .before .before .before .before .before .pre .1)
+    let after-message3 = c .before .before in
+    let start = after-message3 .before .before .before in
+    room-of (start .args .at) (length (start .args .out .now)) (ap messageOf (after-message3 .message3 .given .1)) (start .pre .1)
 
--- src/lib.rt:193:29
 enum-known-message-4 : tie.Need-enum-known-message-4
 enum-known-message-4 c = search needs
 
--- src/lib.rt:193:45
 blame-set-out-requires : tie.Need-blame-set-out-requires
 unfolding messageOf kind
 blame-set-out-requires c κs =
-    room-of (c .before .before .before .before .before .args .at) (length (c .before .before .before .before .before .args .out .now)) (ap messageOf (c .before .before .message4 .given .1)) (c .before .before .before .before .before .pre .1)
+    let after-message4 = c .before .before in
+    let start = after-message4 .before .before .before in
+    room-of (start .args .at) (length (start .args .out .now)) (ap messageOf (after-message4 .message4 .given .1)) (start .pre .1)
 
--- src/lib.rt:195:13
 enum-known-message-5 : tie.Need-enum-known-message-5
 enum-known-message-5 c = search needs
 
--- src/lib.rt:199:14
 status-out-requires : tie.Need-status-out-requires
 unfolding messageOf kind
 status-out-requires c κs =
-    room-of (c .before .before .before .before .before .args .at) (length (c .before .before .before .before .before .args .out .now)) (ap messageOf (c .before .before .message5 .given .1)) (c .before .before .before .before .before .pre .1)
+    let after-message5 = c .before .before in
+    let start = after-message5 .before .before .before in
+    room-of (start .args .at) (length (start .args .out .now)) (ap messageOf (after-message5 .message5 .given .1)) (start .pre .1)
 
--- src/lib.rt:174:1
 same-length : tie.Need-same-length
 same-length c = search needs
 
--- src/lib.rt:174:1
 returns : tie.Need-returns
 unfolding messageOf
 returns c =
-    rw (c .before .before .before .before .before .before .message .given .1) (c .before .before .new-view-out .ensures)
+    let after-new-view-out = c .before .before in
+    let after-message = after-new-view-out .before .before .before .before in
+    rw (after-message .message .given .1) (after-new-view-out .new-view-out .ensures)
 
--- src/lib.rt:174:1
 same-length-2 : tie.Need-same-length-2
 same-length-2 c = search needs
 
--- src/lib.rt:174:1
 returns-2 : tie.Need-returns-2
 unfolding messageOf
 returns-2 c =
-    rw (c .before .before .before .before .before .before .message .given .1) (c .before .before .propose-out .ensures)
+    let after-propose-out = c .before .before in
+    let after-message = after-propose-out .before .before .before .before in
+    rw (after-message .message .given .1) (after-propose-out .propose-out .ensures)
 
--- src/lib.rt:174:1
 same-length-3 : tie.Need-same-length-3
 same-length-3 c = search needs
 
--- src/lib.rt:174:1
 returns-3 : tie.Need-returns-3
 unfolding messageOf
 returns-3 c =
-    rw (c .before .before .before .before .before .message2 .given .1) (c .before .before .vote-out .ensures)
+    let after-vote-out = c .before .before in
+    let after-message2 = after-vote-out .before .before .before in
+    rw (after-message2 .message2 .given .1) (after-vote-out .vote-out .ensures)
 
--- src/lib.rt:174:1
 same-length-4 : tie.Need-same-length-4
 same-length-4 c = search needs
 
--- src/lib.rt:174:1
 returns-4 : tie.Need-returns-4
 unfolding messageOf
 returns-4 c =
-    rw (c .before .before .before .before .before .message3 .given .1) (c .before .before .blame-out .ensures)
+    let after-blame-out = c .before .before in
+    let after-message3 = after-blame-out .before .before .before in
+    rw (after-message3 .message3 .given .1) (after-blame-out .blame-out .ensures)
 
--- src/lib.rt:174:1
 same-length-5 : tie.Need-same-length-5
 same-length-5 c = search needs
 
--- src/lib.rt:174:1
 returns-5 : tie.Need-returns-5
 unfolding messageOf
 returns-5 c =
-    rw (c .before .before .before .before .before .message4 .given .1) (c .before .before .blame-set-out .ensures)
+    let after-blame-set-out = c .before .before in
+    let after-message4 = after-blame-set-out .before .before .before in
+    rw (after-message4 .message4 .given .1) (after-blame-set-out .blame-set-out .ensures)
 
--- src/lib.rt:174:1
 same-length-6 : tie.Need-same-length-6
 same-length-6 c = search needs
 
--- src/lib.rt:174:1
 returns-6 : tie.Need-returns-6
 unfolding messageOf
 returns-6 c =
-    rw (c .before .before .before .before .before .message5 .given .1) (c .before .before .status-out .ensures)
+    let after-status-out = c .before .before in
+    let after-message5 = after-status-out .before .before .before in
+    rw (after-message5 .message5 .given .1) (after-status-out .status-out .ensures)
 
 pub write-message-spec : {M : Type 1} → statement M
 write-message-spec =

@@ -1,17 +1,13 @@
+-- `clauses::block_allowed` meets its contract: two tests alike are `iff`. Assumes nothing.
 use Rattle.wire.proofs.Tests.{same-iff}
 use Rattle.rules.specs.Messages.{blockAllowed}
 use borrow.Author.Needs.{needs}
 use Rattle.wire.proofs.clauses.block_allowed.Statement.{statement}
 use Rattle.wire.proofs.clauses.block_allowed.Tie as tie
-use Rattle.wire.proofs.clauses.block_allowed.Reads as reads
-use Rattle.wire.proofs.clauses.block_allowed.Lts as lts
-use Rattle.fields.proofs.Name.is_zero.Reads as is-zero-reads
 
--- src/clauses.rt:23:9
 is-zero-requires : tie.Need-is-zero-requires
 is-zero-requires c κs = search needs
 
--- src/clauses.rt:20:1
 returns : tie.Need-returns
 unfolding blockAllowed
 returns c =

@@ -1,23 +1,18 @@
+-- `clauses::certificate_allowed` meets its contract: by the test of certificate view 0. Assumes nothing.
 use borrow.Author.Tests.{eq-eqb, ne-eqb}
 use Rattle.rules.specs.Messages.{certificateAllowed}
 use borrow.Author.Needs.{needs}
 use Rattle.wire.proofs.clauses.certificate_allowed.Statement.{statement}
 use Rattle.wire.proofs.clauses.certificate_allowed.Tie as tie
-use Rattle.wire.proofs.clauses.certificate_allowed.Reads as reads
-use Rattle.wire.proofs.clauses.certificate_allowed.Lts as lts
-use Rattle.wire.proofs.clauses.mask_allowed.Reads as mask-allowed-reads
 
--- src/clauses.rt:49:9
 returns : tie.Need-returns
 unfolding certificateAllowed
 returns c =
     rw (eq-eqb (c .before .args .cert) 0 (c .if1 .taken), certificateAllowed)
 
--- src/clauses.rt:51:37
 mask-allowed-requires : tie.Need-mask-allowed-requires
 mask-allowed-requires c κs = search needs
 
--- src/clauses.rt:45:1
 returns-2 : tie.Need-returns-2
 unfolding certificateAllowed
 returns-2 c =

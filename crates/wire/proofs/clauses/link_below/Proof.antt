@@ -1,3 +1,4 @@
+-- `clauses::link_below` meets its contract: a view as a name is its own number. Assumes nothing.
 use lib.Dec.{ltb}
 use mathlib.Core.Path.{_∙_, ap}
 use Rattle.fields.specs.Names.{nameOf}
@@ -5,15 +6,10 @@ use native.Mathlib.Nat.{zero-add}
 use borrow.Author.Needs.{needs}
 use Rattle.wire.proofs.clauses.link_below.Statement.{statement}
 use Rattle.wire.proofs.clauses.link_below.Tie as tie
-use Rattle.wire.proofs.clauses.link_below.Reads as reads
-use Rattle.wire.proofs.clauses.link_below.Lts as lts
-use Rattle.fields.proofs.Name.less.Reads as less-reads
 
--- src/clauses.rt:68:5
 less-requires : tie.Need-less-requires
 less-requires c κs = search needs
 
--- src/clauses.rt:65:1
 returns : tie.Need-returns
 unfolding nameOf
 returns c =

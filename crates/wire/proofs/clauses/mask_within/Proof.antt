@@ -1,3 +1,4 @@
+-- `clauses::mask_within` meets its contract: a shift is a power of 2; a mask of 16 bits is below every greater power. Assumes nothing.
 use lib.Dec.{ltb}
 use native.Mathlib.Omega.{arith}
 use mathlib.Core.Path.{ap}
@@ -6,20 +7,14 @@ use Rattle.wire.proofs.Tests.{mask-wide}
 use borrow.Author.Needs.{needs}
 use Rattle.wire.proofs.clauses.mask_within.Statement.{statement}
 use Rattle.wire.proofs.clauses.mask_within.Tie as tie
-use Rattle.wire.proofs.clauses.mask_within.Reads as reads
-use Rattle.wire.proofs.clauses.mask_within.Lts as lts
-use Rattle.settings.proofs.only.Reads as only-reads
 
--- src/clauses.rt:32:9
 returns : tie.Need-returns
 returns c =
     mask-wide (c .before .before .args .mask) (c .before .before .args .settings .n) (omega arith) (c .if1 .taken)
 
--- src/clauses.rt:34:21
 only-requires : tie.Need-only-requires
 only-requires c κs = search needs
 
--- src/clauses.rt:28:1
 returns-2 : tie.Need-returns-2
 unfolding only
 returns-2 c =

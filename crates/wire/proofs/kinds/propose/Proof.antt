@@ -1,3 +1,5 @@
+-- `kinds::propose` meets its contract: the fields that were found make a chain, which ends where the message does, or not.
+-- Assumes nothing.
 use Rattle.fields.specs.Names.{nameOf}
 use Rattle.rules.specs.Words.{message}
 use mathlib.Core.Path.{refl}
@@ -7,73 +9,80 @@ use Rattle.wire.proofs.Reading.{Chain, ends, found, body-all, body-othe
 use borrow.Author.Needs.{needs}
 use Rattle.wire.proofs.kinds.propose.Statement.{statement}
 use Rattle.wire.proofs.kinds.propose.Tie as tie
-use Rattle.wire.proofs.kinds.propose.Reads as reads
-use Rattle.wire.proofs.kinds.propose.Lts as lts
-use Rattle.wire.proofs.reader.name_at.Reads as name-at-reads
-use Rattle.wire.proofs.reader.number_at.Reads as number-at-reads
 
--- src/kinds.rt:44:9
-number-at-requires : tie.Need-number-at-requires
-number-at-requires c κs = search needs
+read-number-requires : tie.Need-read-number-requires
+read-number-requires c κs = search needs
 
--- src/kinds.rt:45:9
-number-at-requires-2 : tie.Need-number-at-requires-2
-number-at-requires-2 c κs = search needs
+read-number-requires-2 : tie.Need-read-number-requires-2
+read-number-requires-2 c κs = search needs
 
--- src/kinds.rt:46:9
-name-at-requires : tie.Need-name-at-requires
-name-at-requires c κs = search needs
+read-name-requires : tie.Need-read-name-requires
+read-name-requires c κs = search needs
 
--- src/kinds.rt:47:9
-name-at-requires-2 : tie.Need-name-at-requires-2
-name-at-requires-2 c κs = search needs
+read-name-requires-2 : tie.Need-read-name-requires-2
+read-name-requires-2 c κs = search needs
 
--- src/kinds.rt:48:9
-number-at-requires-3 : tie.Need-number-at-requires-3
-number-at-requires-3 c κs = search needs
+read-number-requires-3 : tie.Need-read-number-requires-3
+read-number-requires-3 c κs = search needs
 
--- src/kinds.rt:49:9
-number-at-requires-4 : tie.Need-number-at-requires-4
-number-at-requires-4 c κs = search needs
+read-number-requires-4 : tie.Need-read-number-requires-4
+read-number-requires-4 c κs = search needs
 
--- src/kinds.rt:51:9
 returns : tie.Need-returns
 unfolding readOf rowOf table width
 returns c =
-    body-other (c .before .before .before .before .before .before .before .before .before .args .s .now) (c .before .before .before .before .before .before .before .before .shared-slice-known .given) 2 (c .before .before .before .before .before .before .before .before .before .args .at) _ _ _ refl (found (c .before .before .before .before .before .before .before .number-at .ensures) (found (c .before .before .before .before .before .before .number-at2 .ensures) (found (c .before .before .before .before .before .name-at .ensures) (found (c .before .before .before .before .name-at2 .ensures) (found (c .before .before .before .number-at3 .ensures) (found (c .before .before .number-at4 .ensures) ends)))))) (c .if1 .taken)
+    let after-read-number4 = c .before .before in
+    let after-read-number3 = after-read-number4 .before in
+    let after-read-name2 = after-read-number3 .before in
+    let after-read-name = after-read-name2 .before in
+    let after-read-number2 = after-read-name .before in
+    let after-read-number = after-read-number2 .before in
+    let known = after-read-number .before in
+    let start = known .before in
+    body-other (start .args .s .now) (known .shared-slice-known .given) 2 (start .args .at) _ _ _ refl
+    (found (after-read-number .read-number .ensures) (found (after-read-number2 .read-number2 .ensures) (found (after-read-name .read-name .ensures)
+    (found (after-read-name2 .read-name2 .ensures) (found (after-read-number3 .read-number3 .ensures) (found (after-read-number4 .read-number4 .ensures) ends))))))
+    (c .if1 .taken)
 
--- src/kinds.rt:57:15
 cast-t13 : tie.Need-cast-t13
 cast-t13 c = search needs
 
--- src/kinds.rt:58:17
 cast-t14 : tie.Need-cast-t14
 cast-t14 c = search needs
 
--- src/kinds.rt:61:15
 cast-t15 : tie.Need-cast-t15
 cast-t15 c = search needs
 
--- src/kinds.rt:62:17
 cast-t16 : tie.Need-cast-t16
 cast-t16 c = search needs
 
--- src/kinds.rt:41:1
 returns-2 : tie.Need-returns-2
 unfolding readOf messageOf rowOf table width message statementOf nameOf
 returns-2 c =
-    body-all (c .before .before .before .before .before .before .before .before .before .before .before .before .before .before .before .args .s .now) (c .before .before .before .before .before .before .before .before .before .before .before .before .before .before .shared-slice-known .given) 2 (c .before .before .before .before .before .before .before .before .before .before .before .before .before .before .before .args .at) _ _ _ refl (found (c .before .before .before .before .before .before .before .before .before .before .before .before .before .number-at .ensures) (found (c .before .before .before .before .before .before .before .before .before .before .before .before .number-at2 .ensures) (found (c .before .before .before .before .before .before .before .before .before .before .before .name-at .ensures) (found (c .before .before .before .before .before .before .before .before .before .before .name-at2 .ensures) (found (c .before .before .before .before .before .before .before .before .before .number-at3 .ensures) (found (c .before .before .before .before .before .before .before .before .number-at4 .ensures) ends)))))) (c .before .before .before .before .before .before .if1 .left)
+    let after-if1 = c .before .before .before .before .before .before in
+    let after-read-number4 = after-if1 .before .before in
+    let after-read-number3 = after-read-number4 .before in
+    let after-read-name2 = after-read-number3 .before in
+    let after-read-name = after-read-name2 .before in
+    let after-read-number2 = after-read-name .before in
+    let after-read-number = after-read-number2 .before in
+    let known = after-read-number .before in
+    let start = known .before in
+    body-all (start .args .s .now) (known .shared-slice-known .given) 2 (start .args .at) _ _ _ refl
+    (found (after-read-number .read-number .ensures) (found (after-read-number2 .read-number2 .ensures) (found (after-read-name .read-name .ensures)
+    (found (after-read-name2 .read-name2 .ensures) (found (after-read-number3 .read-number3 .ensures) (found (after-read-number4 .read-number4 .ensures) ends))))))
+    (after-if1 .if1 .left)
 
 pub propose-spec : {M : Type 1} → statement M
 propose-spec =
     tie.close
     (tie.spec
-    number-at-requires
-    number-at-requires-2
-    name-at-requires
-    name-at-requires-2
-    number-at-requires-3
-    number-at-requires-4
+    read-number-requires
+    read-number-requires-2
+    read-name-requires
+    read-name-requires-2
+    read-number-requires-3
+    read-number-requires-4
     returns
     cast-t13
     cast-t14

@@ -1,3 +1,4 @@
+-- `reader::name_at` meets its contract: here or not here. Assumes nothing.
 use native.Mathlib.Numerals.{add-one}
 use Rattle.rules.proofs.Bytes.{pow-pos}
 use mathlib.Core.Path.{refl, sym, _∙_}
@@ -6,45 +7,34 @@ use Rattle.wire.proofs.Reading.{stood}
 use borrow.Author.Needs.{needs}
 use Rattle.wire.proofs.reader.name_at.Statement.{statement}
 use Rattle.wire.proofs.reader.name_at.Tie as tie
-use Rattle.wire.proofs.reader.name_at.Reads as reads
-use Rattle.wire.proofs.reader.name_at.Lts as lts
-use Rattle.fields.proofs.Name.zero.Reads as zero-reads
-use Rattle.fields.proofs.get_name.Reads as get-name-reads
-use Rattle.wire.proofs.reader.stands.Reads as stands-reads
 
--- src/reader.rt:65:8
 stands-requires : tie.Need-stands-requires
 stands-requires c κs = search needs
 
--- src/reader.rt:66:20
 add-from : tie.Need-add-from
 add-from c =
     omega (arith, stood (c .before .before .before .args .s .now) (c .before .before .before .args .at) (c .before .before .before .args .tag) 32 (c .before .stands .ensures) (c .if1 .taken))
 
--- src/reader.rt:67:13
 get-name-requires : tie.Need-get-name-requires
 get-name-requires c κs =
     omega (arith, stood (c .before .before .before .args .s .now) (c .before .before .before .args .at) (c .before .before .before .args .tag) 32 (c .before .stands .ensures) (c .if1 .taken))
 
--- src/reader.rt:70:19
 add-t8 : tie.Need-add-t8
 add-t8 c =
-    omega (arith, stood (c .before .before .before .before .args .s .now) (c .before .before .before .before .args .at) (c .before .before .before .before .args .tag) 32 (c .before .before .stands .ensures) (c .before .if1 .taken))
+    let after-stands = c .before .before in
+    let start = after-stands .before .before in
+    omega (arith, stood (start .args .s .now) (start .args .at) (start .args .tag) 32 (after-stands .stands .ensures) (c .before .if1 .taken))
 
--- src/reader.rt:68:9
 returns : tie.Need-returns
 returns c =
     rw (sym (c .before .before .stands .ensures) ∙ c .before .if1 .taken) (record { value-is = c .get-name .ensures .0; next-is = refl; bound = c .get-name .ensures .1 })
 
--- src/reader.rt:73:9
 zero-requires : tie.Need-zero-requires
 zero-requires c κs = search needs
 
--- src/reader.rt:76:15
 add-t10 : tie.Need-add-t10
 add-t10 c = search needs
 
--- src/reader.rt:62:1
 returns-2 : tie.Need-returns-2
 returns-2 c =
     rw (sym (c .before .before .stands .ensures) ∙ c .before .if1 .left) (record { value-is = c .zero .ensures; next-is = add-one _; bound = rw (c .zero .ensures) (pow-pos 32) })

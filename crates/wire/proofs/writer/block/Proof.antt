@@ -1,39 +1,34 @@
+-- `writer::block` meets its contract: four fields one after another. Assumes nothing.
 use Rattle.rules.specs.Messages.{width}
 use Rattle.wire.proofs.Writing.{first-field, no-fields}
 use native.Mathlib.Omega.{arith}
 use borrow.Author.Needs.{needs}
 use Rattle.wire.proofs.writer.block.Statement.{statement}
 use Rattle.wire.proofs.writer.block.Tie as tie
-use Rattle.wire.proofs.writer.block.Reads as reads
-use Rattle.wire.proofs.writer.block.Lts as lts
-use Rattle.wire.proofs.writer.name_field.Reads as name-field-reads
-use Rattle.wire.proofs.writer.number_field.Reads as number-field-reads
 
--- src/writer.rt:44:9
 number-field-requires : tie.Need-number-field-requires
 number-field-requires c κs = search needs
 
--- src/writer.rt:45:9
 number-field-requires-2 : tie.Need-number-field-requires-2
 number-field-requires-2 c κs = search needs
 
--- src/writer.rt:46:9
 number-field-requires-3 : tie.Need-number-field-requires-3
 number-field-requires-3 c κs = search needs
 
--- src/writer.rt:47:5
 name-field-requires : tie.Need-name-field-requires
 name-field-requires c κs = search needs
 
--- src/writer.rt:40:1
 same-length : tie.Need-same-length
 same-length c = search needs
 
--- src/writer.rt:40:1
 returns : tie.Need-returns
 unfolding width
 returns c =
-    ((first-field (c .before .before .before .before .before .before .before .before .before .before .before .before .before .before .number-field .ensures .0) (first-field (c .before .before .before .before .before .before .before .before .before .before .number-field2 .ensures .0) (first-field (c .before .before .before .before .before .before .number-field3 .ensures .0) (first-field (c .before .before .name-field .ensures .0) no-fields)))), omega arith)
+    let after-name-field = c .before .before in
+    let after-number-field3 = after-name-field .before .before .before .before in
+    let after-number-field2 = after-number-field3 .before .before .before .before in
+    let after-number-field = after-number-field2 .before .before .before .before in
+    ((first-field (after-number-field .number-field .ensures .0) (first-field (after-number-field2 .number-field2 .ensures .0) (first-field (after-number-field3 .number-field3 .ensures .0) (first-field (after-name-field .name-field .ensures .0) no-fields)))), omega arith)
 
 pub block-spec : {M : Type 1} → statement M
 block-spec =

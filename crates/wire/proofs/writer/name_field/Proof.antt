@@ -1,3 +1,4 @@
+-- `writer::name_field` meets its contract: the head is put, then the name. Assumes nothing.
 use Rattle.fields.proofs.Names.{name-lt}
 use Rattle.fields.specs.Names.{nameOf}
 use native.Mathlib.Omega.{arith}
@@ -5,44 +6,35 @@ use Rattle.wire.proofs.Writing.{number-says}
 use borrow.Author.Needs.{needs}
 use Rattle.wire.proofs.writer.name_field.Statement.{statement}
 use Rattle.wire.proofs.writer.name_field.Tie as tie
-use Rattle.wire.proofs.writer.name_field.Reads as reads
-use Rattle.wire.proofs.writer.name_field.Lts as lts
-use Rattle.fields.proofs.put.Reads as put-reads
-use Rattle.fields.proofs.put_name.Reads as put-name-reads
 
--- src/writer.rt:33:16
 add-from : tie.Need-add-from
 add-from c = search needs
 
--- src/writer.rt:34:29
 mul-put : tie.Need-mul-put
 mul-put c = search needs
 
--- src/writer.rt:34:29
 add-put : tie.Need-add-put
 add-put c = search needs
 
--- src/writer.rt:34:5
 put-requires : tie.Need-put-requires
 put-requires c κs = search needs
 
--- src/writer.rt:35:5
 put-name-requires : tie.Need-put-name-requires
 put-name-requires c κs = search needs
 
--- src/writer.rt:36:5
 add-result : tie.Need-add-result
 add-result c = search needs
 
--- src/writer.rt:29:1
 same-length : tie.Need-same-length
 same-length c = search needs
 
--- src/writer.rt:29:1
 returns : tie.Need-returns
 returns c =
-    let a = c .before .before .before .before .before .before .before .before .before .args in
-    (number-says (a .out .now) (a .at) (a .tag) 32 (nameOf (a .name)) (omega arith) (omega arith) (name-lt (a .name) (omega arith) (omega arith) (omega arith) (omega arith)) (c .before .before .before .before .before .before .put .ensures) (c .before .before .put-name .ensures), omega arith)
+    let after-put-name = c .before .before in
+    let after-put = after-put-name .before .before .before .before in
+    let start = after-put .before .before .before in
+    let a = start .args in
+    (number-says (a .out .now) (a .at) (a .tag) 32 (nameOf (a .name)) (omega arith) (omega arith) (name-lt (a .name) (omega (arith, start .good)) (omega (arith, start .good)) (omega (arith, start .good)) (omega (arith, start .good))) (after-put .put .ensures) (after-put-name .put-name .ensures), omega arith)
 
 pub name-field-spec : {M : Type 1} → statement M
 name-field-spec =

@@ -1,3 +1,4 @@
+-- `writer::new_view_out` meets its contract: the first four fields, the link's last word, the ending. Assumes nothing.
 use Rattle.fields.specs.Names.{nameOf}
 use Rattle.rules.specs.Messages.{newView, tagsOf, rowOf, table, kind, values, width}
 use Rattle.wire.proofs.Tests.{link-word, new-view-said}
@@ -8,36 +9,31 @@ use native.Mathlib.Omega.{arith}
 use borrow.Author.Needs.{needs}
 use Rattle.wire.proofs.writer.new_view_out.Statement.{statement}
 use Rattle.wire.proofs.writer.new_view_out.Tie as tie
-use Rattle.wire.proofs.writer.new_view_out.Reads as reads
-use Rattle.wire.proofs.writer.new_view_out.Lts as lts
-use Rattle.wire.proofs.writer.block.Reads as block-reads
-use Rattle.wire.proofs.writer.ending.Reads as ending-reads
-use Rattle.wire.proofs.writer.number_field.Reads as number-field-reads
 
--- src/writer.rt:66:9
 block-requires : tie.Need-block-requires
 block-requires c κs = search needs
 
--- src/writer.rt:67:9
 number-field-requires : tie.Need-number-field-requires
 number-field-requires c κs =
-    omega (arith, link-word (c .before .before .before .before .before .before .before .before .args .x .link) (256 ^ 4) (lit< tt) (c .before .before .before .before .before .before .before .before .pre .1))
+    let start = c .before .before .before .before .before .before .before .before in
+    omega (arith, link-word (start .args .x .link) (256 ^ 4) (lit< tt) (start .pre .1))
 
--- src/writer.rt:68:5
 ending-requires : tie.Need-ending-requires
 ending-requires c κs = search needs
 
--- src/writer.rt:60:1
 same-length : tie.Need-same-length
 same-length c = search needs
 
--- src/writer.rt:60:1
 returns : tie.Need-returns
 unfolding tagsOf rowOf table kind values width
 returns c =
-    let x = c .before .before .before .before .before .before .before .before .before .before .before .before .before .before .before .args .x in
-    let f = rw (link-word (x .link) (256 ^ 4) (lit< tt) (c .before .before .before .before .before .before .before .before .before .before .before .before .before .before .before .pre .1)) at (c .before .before .before .before .before .before .number-field .ensures .0) in
-    rw (new-view-said x (c .before .before .before .before .before .before .before .before .before .before .before .before .before .before .before .pre .0)) (message-says (newView (x .view) (x .height) (nameOf (x .name)) (nameOf (x .link)) (x .mask) (x .author)) (fields-both (c .before .before .before .before .before .before .before .before .before .before .block .ensures .0) (first-field f (c .before .before .ending .ensures))))
+    let after-ending = c .before .before in
+    let after-number-field = after-ending .before .before .before .before in
+    let after-block = after-number-field .before .before .before .before in
+    let start = after-block .before .before .before .before .before in
+    let x = start .args .x in
+    let f = rw (link-word (x .link) (256 ^ 4) (lit< tt) (start .pre .1)) at (after-number-field .number-field .ensures .0) in
+    rw (new-view-said x (start .pre .0)) (message-says (newView (x .view) (x .height) (nameOf (x .name)) (nameOf (x .link)) (x .mask) (x .author)) (fields-both (after-block .block .ensures .0) (first-field f (after-ending .ending .ensures))))
 
 pub new-view-out-spec : {M : Type 1} → statement M
 new-view-out-spec =

@@ -1,46 +1,39 @@
+-- `writer::number_field` meets its contract: the head is put, then the value. Assumes nothing.
 use mathlib.Core.Path.{refl}
 use native.Mathlib.Omega.{arith}
 use Rattle.wire.proofs.Writing.{number-says}
 use borrow.Author.Needs.{needs}
 use Rattle.wire.proofs.writer.number_field.Statement.{statement}
 use Rattle.wire.proofs.writer.number_field.Tie as tie
-use Rattle.wire.proofs.writer.number_field.Reads as reads
-use Rattle.wire.proofs.writer.number_field.Lts as lts
-use Rattle.fields.proofs.put.Reads as put-reads
 
--- src/writer.rt:22:16
 add-from : tie.Need-add-from
 add-from c = search needs
 
--- src/writer.rt:23:29
 mul-put : tie.Need-mul-put
 mul-put c = search needs
 
--- src/writer.rt:23:29
 add-put : tie.Need-add-put
 add-put c = search needs
 
--- src/writer.rt:23:5
 put-requires : tie.Need-put-requires
 put-requires c κs = search needs
 
--- src/writer.rt:24:5
 put-requires-2 : tie.Need-put-requires-2
 put-requires-2 c κs = search needs
 
--- src/writer.rt:25:5
 add-result : tie.Need-add-result
 add-result c = search needs
 
--- src/writer.rt:18:1
 same-length : tie.Need-same-length
 same-length c = search needs
 
--- src/writer.rt:18:1
 returns : tie.Need-returns
 returns c =
-    let a = c .before .before .before .before .before .before .before .before .before .args in
-    (number-says (a .out .now) (a .at) (a .tag) (a .width) (a .value) (omega arith) (omega arith) (c .before .before .before .before .before .before .before .before .before .pre .2) (c .before .before .before .before .before .before .put .ensures) (c .before .before .put2 .ensures), refl)
+    let after-put2 = c .before .before in
+    let after-put = after-put2 .before .before .before .before in
+    let start = after-put .before .before .before in
+    let a = start .args in
+    (number-says (a .out .now) (a .at) (a .tag) (a .width) (a .value) (omega arith) (omega arith) (start .pre .2) (after-put .put .ensures) (after-put2 .put2 .ensures), refl)
 
 pub number-field-spec : {M : Type 1} → statement M
 number-field-spec =

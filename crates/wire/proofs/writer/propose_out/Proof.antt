@@ -1,3 +1,4 @@
+-- `writer::propose_out` meets its contract: the first four fields, the link, the ending. Assumes nothing.
 use Rattle.fields.specs.Names.{nameOf}
 use Rattle.rules.specs.Messages.{propose, tagsOf, rowOf, table, kind, values, width}
 use Rattle.wire.proofs.Tests.{propose-said}
@@ -5,34 +6,28 @@ use Rattle.wire.proofs.Writing.{first-field, fields-both, message-says}
 use borrow.Author.Needs.{needs}
 use Rattle.wire.proofs.writer.propose_out.Statement.{statement}
 use Rattle.wire.proofs.writer.propose_out.Tie as tie
-use Rattle.wire.proofs.writer.propose_out.Reads as reads
-use Rattle.wire.proofs.writer.propose_out.Lts as lts
-use Rattle.wire.proofs.writer.block.Reads as block-reads
-use Rattle.wire.proofs.writer.ending.Reads as ending-reads
-use Rattle.wire.proofs.writer.name_field.Reads as name-field-reads
 
--- src/writer.rt:78:9
 block-requires : tie.Need-block-requires
 block-requires c κs = search needs
 
--- src/writer.rt:79:9
 name-field-requires : tie.Need-name-field-requires
 name-field-requires c κs = search needs
 
--- src/writer.rt:80:5
 ending-requires : tie.Need-ending-requires
 ending-requires c κs = search needs
 
--- src/writer.rt:72:1
 same-length : tie.Need-same-length
 same-length c = search needs
 
--- src/writer.rt:72:1
 returns : tie.Need-returns
 unfolding tagsOf rowOf table kind values width
 returns c =
-    let x = c .before .before .before .before .before .before .before .before .before .before .before .before .before .before .before .args .x in
-    rw (propose-said x (c .before .before .before .before .before .before .before .before .before .before .before .before .before .before .before .pre .0)) (message-says (propose (x .view) (x .height) (nameOf (x .name)) (nameOf (x .link)) (x .mask) (x .author)) (fields-both (c .before .before .before .before .before .before .before .before .before .before .block .ensures .0) (first-field (c .before .before .before .before .before .before .name-field .ensures .0) (c .before .before .ending .ensures))))
+    let after-ending = c .before .before in
+    let after-name-field = after-ending .before .before .before .before in
+    let after-block = after-name-field .before .before .before .before in
+    let start = after-block .before .before .before .before .before in
+    let x = start .args .x in
+    rw (propose-said x (start .pre .0)) (message-says (propose (x .view) (x .height) (nameOf (x .name)) (nameOf (x .link)) (x .mask) (x .author)) (fields-both (after-block .block .ensures .0) (first-field (after-name-field .name-field .ensures .0) (after-ending .ending .ensures))))
 
 pub propose-out-spec : {M : Type 1} → statement M
 propose-out-spec =
