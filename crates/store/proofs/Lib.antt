@@ -13,4 +13,5 @@ pub mod Writes
 pub mod Changes
 pub mod Searches
 pub mod Joining
+pub mod Starts
 pub mod Sized

@@ -2,3 +2,4 @@ pub mod Layout
 pub mod Decode
 pub mod Meaning
 pub mod Changes
+pub mod Fresh

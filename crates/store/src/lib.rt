@@ -7,17 +7,20 @@ ghost use lib.ListN.{length};
 ghost use lib.Dec.{eqb};
 ghost use Rattle.rules.specs.Limits.{lastView, mostStatements, mostTallies, lastClock, maskBits};
 ghost use Rattle.rules.specs.Sizes.{only};
-ghost use Rattle.rules.specs.Words.{sameStatement, sameBlock, grown, join, joinCertificate};
-ghost use Rattle.rules.specs.Inputs.{withPhase, withClock, blamed};
+ghost use Rattle.rules.specs.Words.{sameStatement, sameBlock, grown, join, joinCertificate, fresh};
+ghost use Rattle.rules.specs.Inputs.{withPhase, withClock, entering, blamed};
 ghost use Rattle.fields.specs.Names.{nameOf};
 ghost use Rattle.fields.specs.Places.{number, put as written};
 ghost use Rattle.fields.specs.Records.{fields, puts};
+ghost use Rattle.settings.specs.Made.{settingsOf};
 ghost use Rattle.wire.specs.Meaning.{statementOf};
 ghost use Rattle.store.specs.Layout.{headerFormat, statementFormat, tallyFormat, statementTable, tallyTable, logTable, storeLength, countOf};
-ghost use Rattle.store.specs.Decode.{phaseOf, phaseNumber, kindNumber, statementValues, tallyFrom, tallyValues, statementAt, tallyAt, blameAt, nameAt, kindAt, voteAt, statements, tallies, stateOf, Form, Left};
+ghost use Rattle.store.specs.Decode.{phaseOf, phaseNumber, kindNumber, statementValues, tallyFrom, tallyValues, statementAt, tallyAt, blameAt, nameAt, kindAt, voteAt, statements, tallies, stateOf, headerValues, Form, Left};
 ghost use Rattle.store.specs.Meaning.{courseOf, tallyOf, headerOf};
+ghost use Rattle.store.specs.Fresh.{answer, freshly};
 ghost use Rattle.store.specs.Changes.{firstFrom, growing, opening, joining, certifying, storing, noting, appending};
 use fields::Name;
+use settings::Made;
 use settings::Settings;
 use wire::Statement;
 
@@ -506,6 +509,26 @@ pub fn set_clock(store: &mut [u8], clock: u32)
     fields::put(store, CLOCK, 4, clock as u64);
 }
 
+// Writes the settings to the header.
+fn put_settings(store: &mut [u8], settings: Settings)
+    requires { ⌜ length (now store) ≡ storeLength ⌝ }
+    ensures { λ _. ⌜ now (store .exit) ≡ written (written (written (now (store .entry)) 4 1 (settings .n)) 5 2 (settings .delay)) 7 1 (settings .own) ⌝ }
+{
+    fields::put(store, N, 1, settings.n);
+    fields::put(store, DELAY, 2, settings.delay);
+    fields::put(store, OWN, 1, settings.own);
+}
+
+// Writes the counts to the header.
+fn put_counts(store: &mut [u8], statements: usize, tallies: usize, logged: usize)
+    requires { ⌜ length (now store) ≡ storeLength ⌝ }
+    ensures { λ _. ⌜ now (store .exit) ≡ written (written (written (now (store .entry)) 62 2 statements) 64 2 tallies) 66 2 logged ⌝ }
+{
+    fields::put(store, STATEMENT_COUNT, 2, statements as u64);
+    fields::put(store, TALLY_COUNT, 2, tallies as u64);
+    fields::put(store, LOG_COUNT, 2, logged as u64);
+}
+
 impl Station {
     // The station of the header's numbers.
     pub fn load(store: &[u8]) -> Station
@@ -535,4 +558,77 @@ impl Station {
             logged,
         }
     }
+    // Writes the header's numbers back.
+    pub fn save(self, store: &mut [u8])
+        requires { ⌜ length (now store) ≡ storeLength ⌝ }
+        ensures { λ _. ⌜ now (store .exit) ≡ puts (now (store .entry)) 0 headerFormat (headerOf self) ⌝ }
+    {
+        let phase = self.phase;
+        fields::put(store, PHASE, 4, phase_number(phase));
+        put_settings(store, self.settings);
+        fields::put(store, CURRENT, 4, self.view as u64);
+        fields::put(store, ENTRY, 4, self.entry as u64);
+        fields::put(store, CLOCK, 4, self.clock as u64);
+        put_tally(store, LOCK, self.lock);
+        put_counts(store, self.statements, self.tallies, self.logged);
+    }
+}
+
+// A view is entered, with its lock.
+pub fn enter(store: &mut [u8], view: u32, lock: Tally)
+    requires { ⌜ Form (now store) ⌝ }
+    ensures { λ _. ⌜ Left (now (store .exit)) (entering view (tallyOf lock) (stateOf (now (store .entry)))) ⌝ }
+{
+    let old = Station::load(store);
+    let settings = old.settings;
+    let station = Station {
+        settings,
+        phase: Phase::InView,
+        view,
+        entry: old.clock,
+        clock: old.clock,
+        lock,
+        statements: old.statements,
+        tallies: old.tallies,
+        logged: old.logged,
+    };
+    station.save(store);
+}
+
+// The station that a store starts with.
+fn starting(settings: Settings) -> Station
+    ensures { λ r. ⌜ headerOf r ≡ headerValues (fresh (settingsOf settings)) ⌝ }
+{
+    let lock = Tally {
+        view: 0,
+        height: 0,
+        name: Name::zero(),
+        mask: 0,
+    };
+    Station {
+        settings,
+        phase: Phase::InView,
+        view: Settings::FIRST_VIEW as u32,
+        entry: 0,
+        clock: 0,
+        lock,
+        statements: 0,
+        tallies: 0,
+        logged: 0,
+    }
+}
+
+// Makes a fresh store of whatever was in it; refused for another length, then for bad settings.
+pub fn fresh(store: &mut [u8], n: u64, d: u64, own: u64) -> u64
+    ensures { λ r. ⌜ answer r (now (store .exit)) ≡ freshly (now (store .entry)) n d own ⌝ }
+{
+    if store.len() != LENGTH {
+        return 1 << 32;
+    }
+    let Made::Good(settings) = Settings::new(n, d, own) else {
+        return 10 << 32;
+    };
+    fields::clear(store, 0, LENGTH);
+    starting(settings).save(store);
+    0
 }

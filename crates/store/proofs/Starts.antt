@@ -1,0 +1,187 @@
+-- A cleared store, with the header of fresh settings, holds the fresh state; the header of an entry holds the state that entered. Assumes nothing.
+use Prim.Native.Nat.{ℕ, zero, suc, _+_, _-_, _*_, _%_, _^_, _<_, _≤_}
+use mathlib.Core.Path.{_≡_, refl, sym, ap, ap₂, _∙_, subst}
+use mathlib.Core.Bool.{Bool, true, false, _&&_}
+use mathlib.Core.List.{List, [], _∷_}
+use native.Mathlib.Omega.{arith}
+use native.Mathlib.Nat.{zero-add, mul-zero, mul-le-mul-left}
+use lib.ListN.{length, replicate}
+use lib.Dec.{leb, ltb, eqb}
+use borrow.Author.Tests.{leb-true, ltb-true, eq-eqb, ne-eqb}
+use Rattle.rules.specs.Limits.{leastStations, mostStations, leastDelay, mostDelay, lastView}
+use Rattle.rules.specs.Lists.{all, within}
+use Rattle.rules.specs.Sizes.{Settings, goodSettings}
+use Rattle.rules.specs.Words.{inView, fresh}
+use Rattle.settings.specs.Made.{made, pick}
+use Rattle.settings.specs.declared.Settings as declared
+use Rattle.settings.specs.declared.Made.{Made}
+use Rattle.settings.specs.declared.Made.the-variants.{Good, Bad}
+use Rattle.rules.specs.Inputs.{entering}
+use Rattle.rules.proofs.Tests.{by-bool, and-left, and-right}
+use Rattle.rules.proofs.Bytes.{pow-pos}
+use Rattle.fields.specs.Places.{number, put, Bytes}
+use Rattle.fields.specs.Records.{fields, puts, Fit}
+use Rattle.fields.proofs.Laws.{number-put-same, number-split, length-put, bytes-put}
+use Rattle.fields.proofs.Records.{fit-fields}
+use Rattle.store.specs.Layout.{headerFormat, tallyFormat, Table, statementTable, tallyTable, logTable, blameBase, storeLength, countOf}
+use Rattle.store.specs.Decode.{nth, tallyValues, statementAt, tallyAt, blameAt, nameAt, kindAt, blames, kinds, rows, statements, tallies, names, stateFrom, stateOf, headerValues, Form, Left, encode}
+use Rattle.store.specs.Meaning.{tallyOf, headerOf}
+use Rattle.store.specs.declared.Phase.the-variants.{InView}
+use Rattle.store.specs.declared.Tally.{Tally}
+use Rattle.store.specs.declared.Station.{Station}
+use Rattle.store.specs.Fresh.{answer, freshly}
+use Rattle.store.proofs.Loaded.{loaded-settings, loaded-clock, loaded-statements, loaded-tallies, loaded-logged}
+use Rattle.store.proofs.Kept.{zero-end}
+use Rattle.store.proofs.Tables.{Used, Holds}
+use Rattle.store.proofs.Forms.{left}
+use Rattle.store.proofs.OneForm.{left-bytes}
+use Rattle.store.proofs.Changes.{put-station}
+
+-- ---- a cleared store
+
+-- zeros of a longer part are zeros of its beginning
+zero-front : (b : List ℕ) (at k m : ℕ) → number b at (k + m) ≡ 0 → number b at k ≡ 0
+zero-front b at k m e = omega (arith, number-split b at k m, mul-le-mul-left (number b at k) (pow-pos m))
+
+zero-all : (b : List ℕ) (n : ℕ) → n ≤ length b → (at w : ℕ) → at + w ≤ n → number (put b 0 n 0) at w ≡ 0
+zero-all b n l at w h =
+    let b′ = put b 0 n 0 in
+    let whole : number b′ 0 n ≡ 0 = number-put-same b 0 n 0 (omega arith) (pow-pos n) in
+    let q : at + w + (n - (at + w)) ≡ n = omega arith in
+    ap (λ (k : ℕ). number b′ k w) (sym (zero-add at)) ∙ zero-end b′ 0 at w (zero-front b′ 0 (at + w) (n - (at + w)) (ap (number b′ 0) q ∙ whole))
+
+rows-zero : (f : ℕ → ℕ) (i n : ℕ) → ((k : ℕ) → k < i + n → f k ≡ 0) → rows f i n ≡ replicate n 0
+unfolding rows
+rows-zero f i zero h = refl
+rows-zero f i (suc n) h = ap₂ _∷_ (h i (omega arith)) (rows-zero f (suc i) n (λ k l. h k (omega arith)))
+
+module _ (b : List ℕ) (bytes : Bytes b) (long : length b ≡ storeLength) where
+  abbrev cleared : List ℕ
+  cleared = put b 0 storeLength 0
+
+  none-counted : (t : Table) → t .countAt + 2 ≤ storeLength → countOf t cleared ≡ 0
+  none-counted t h = zero-all b storeLength (omega arith) (t .countAt) 2 h
+
+  holds-none : {A : Type 0} (t : Table) (f : List ℕ → ℕ → A) → t .countAt + 2 ≤ storeLength → t .base + t .size * t .room ≤ storeLength → Holds t f cleared []
+  unfolding rows
+  holds-none t f h l =
+      let c = none-counted t h in
+      let z : t .size * 0 ≡ 0 = mul-zero (t .size) in
+      record {
+        used =
+            record {
+              within = rw c (omega arith);
+              clear =
+                  ap (λ (n : ℕ). number cleared (t .base + t .size * n) (t .size * t .room - t .size * n)) c
+                  ∙ zero-all b storeLength (omega arith) (t .base + t .size * 0) (t .size * t .room - t .size * 0) (omega arith);
+            };
+        is = ap (rows (f cleared) 0) c;
+      }
+
+  blames-none : blames cleared ≡ replicate (suc lastView) 0
+  unfolding blames blameAt
+  blames-none = ap (0 ∷_) (rows-zero (blameAt cleared) 0 lastView (λ k l. zero-all b storeLength (omega arith) (blameBase + 2 * k) 2 (omega arith)))
+
+  kinds-none : all (within 1 2) (kinds cleared) ≡ true
+  unfolding kinds rows all
+  kinds-none = ap (λ (n : ℕ). all (within 1 2) (rows (kindAt cleared) 0 n)) (none-counted statementTable (omega arith))
+
+  cleared-left : Left cleared (stateFrom (fields cleared 0 headerFormat) [] [] (replicate (suc lastView) 0) [])
+  cleared-left =
+      left (bytes-put b bytes 0 storeLength 0) (length-put b 0 storeLength 0 ∙ long) refl (holds-none statementTable statementAt (omega arith) (omega arith))
+      (holds-none tallyTable tallyAt (omega arith) (omega arith)) blames-none (holds-none logTable nameAt (omega arith) (omega arith)) kinds-none
+
+  -- ---- and the fresh header
+
+  fresh-fits : (g : Settings) → goodSettings g ≡ true → Fit headerFormat (headerValues (fresh g))
+  unfolding goodSettings within headerValues fresh
+  fresh-fits g e =
+      let odd = eqb (g .n % 2) 1 in
+      let few = within leastStations mostStations (g .n) in
+      let delay = within leastDelay mostDelay (g .D) in
+      let a = and-left (odd && few && delay) _ e in
+      let n = leb-true (g .n) mostStations (and-right (leb leastStations (g .n)) _ (and-right odd _ (and-left (odd && few) _ a))) in
+      let d = leb-true (g .D) mostDelay (and-right (leb leastDelay (g .D)) _ (and-right (odd && few) _ a)) in
+      let o = ltb-true (g .own) (g .n) (and-right (odd && few && delay) _ e) in
+      (omega arith, (omega arith, (omega arith, (omega arith, (omega arith, (omega arith, (omega arith, (omega arith, (omega arith, (pow-pos 32, (omega arith, (omega arith, (omega arith, (omega arith, tt))))))))))))))
+
+  pub fresh-left : (g : Settings) → goodSettings g ≡ true → Left (puts cleared 0 headerFormat (headerValues (fresh g))) (fresh g)
+  unfolding headerValues fresh stateOf stateFrom
+  fresh-left g e =
+      let l = cleared-left in
+      let h = put-station cleared (l .form) (headerValues (fresh g)) (fresh-fits g e) (sym (none-counted statementTable (omega arith)))
+      (sym (none-counted tallyTable (omega arith))) (sym (none-counted logTable (omega arith))) in
+      let s : stateOf cleared ≡ stateFrom (fields cleared 0 headerFormat) [] [] (replicate (suc lastView) 0) [] = l .is in
+      record { form = h .form; is = h .is ∙ (λ i. stateFrom (headerValues (fresh g)) (s i .statements) (s i .tallies) (s i .blames) (s i .log)) }
+
+-- ---- the answers
+
+module _ (b : List ℕ) (n d own : ℕ) where
+  abbrev asked : Settings
+  asked = record { n = n; D = d; own = own }
+
+  pub length-refused : (length b ≡ storeLength → ⊥) → answer (1 * 2 ^ 32) b ≡ freshly b n d own
+  unfolding freshly
+  length-refused h = rw (ne-eqb (length b) storeLength h, freshly)
+
+  pub settings-refused : length b ≡ storeLength → goodSettings asked ≡ false → answer (10 * 2 ^ 32) b ≡ freshly b n d own
+  unfolding freshly
+  settings-refused l e = rw (eq-eqb (length b) storeLength l, freshly, e)
+
+  pub made-fresh : length b ≡ storeLength → goodSettings asked ≡ true → {b′ : List ℕ} → Left b′ (fresh asked) → answer 0 b′ ≡ freshly b n d own
+  unfolding freshly
+  made-fresh l e h = rw (eq-eqb (length b) storeLength l, freshly, e) (ap (answer 0) (left-bytes h))
+
+  -- what the settings' constructor answers
+  abbrev given : declared.Settings
+  given = record { n = n; delay = d; own = own }
+
+  made-is : (t : Bool) → goodSettings asked ≡ t → made n d own ≡ pick t (Good given) Bad
+  unfolding made
+  made-is t e = ap (λ (u : Bool). pick u (Good given) Bad) e
+
+  pub made-good : (g : declared.Settings) → made n d own ≡ Good g → (goodSettings asked ≡ true) × (g ≡ given)
+  made-good g e =
+      by-bool (goodSettings asked)
+      (λ t. let m = made-is true t in let q : g ≡ given = cc in (t, q))
+      (λ f. let m = made-is false f in let z : _≡_ {A = ℕ} 0 1 = cc in absurd (omega arith))
+
+  pub made-bad : made n d own ≡ Bad → goodSettings asked ≡ false
+  made-bad e =
+      by-bool (goodSettings asked) (λ t. let m = made-is true t in let z : _≡_ {A = ℕ} 0 1 = cc in absurd (omega arith)) (λ f. f)
+
+-- ---- entry
+
+pub entered : (b : List ℕ) (k : Form b) (s : Station) → headerOf s ≡ fields b 0 headerFormat → (v : ℕ) (t : Tally) → v < 256 ^ 4 → Fit tallyFormat (tallyValues (tallyOf t))
+    → Left
+    (puts b 0 headerFormat
+    (headerOf (record { settings = s .settings; phase = InView; view = v; entry = s .clock; clock = s .clock; lock = t; statements = s .statements; tallies = s .tallies; logged = s .logged })))
+    (entering v (tallyOf t) (stateOf b))
+unfolding headerOf tallyOf entering stateOf stateFrom
+entered b k s e v t lv lt =
+    let f : Fit headerFormat (headerOf s) = subst (Fit headerFormat) (sym e) (fit-fields b (k .bytes) 0 headerFormat) in
+    let g = f .1 in
+    let clock = g .1 .1 .1 .1 .1 .0 in
+    let counts = g .1 .1 .1 .1 .1 .1 .1 .1 .1 .1 in
+    let now : Station = record { settings = s .settings; phase = InView; view = v; entry = s .clock; clock = s .clock; lock = t; statements = s .statements; tallies = s .tallies; logged = s .logged } in
+    let h = put-station b k (headerOf now) (omega arith, (g .0, (g .1 .0, (g .1 .1 .0, (lv, (clock, (clock, (lt .0, (lt .1 .0, (lt .1 .1 .0, (lt .1 .1 .1 .0, counts)))))))))))
+    (loaded-statements s b e) (loaded-tallies s b e) (loaded-logged s b e) in
+    let settings = loaded-settings s b e in
+    let then = loaded-clock s b e in
+    record {
+      form = h .form;
+      is =
+          h .is
+          ∙ (λ i. record {
+            settings = settings i;
+            phase = inView;
+            view = v;
+            entry = then i;
+            clock = then i;
+            lock = tallyOf t;
+            statements = statements b;
+            tallies = tallies b;
+            blames = blames b;
+            log = names b;
+          });
+    }
