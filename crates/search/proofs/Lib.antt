@@ -3,3 +3,5 @@ pub mod Ranks
 pub mod Counts
 pub mod Searches
 pub mod Tops
+pub mod Pairs
+pub mod Orders

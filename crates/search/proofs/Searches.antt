@@ -1,18 +1,17 @@
 -- A search of a table, row by row, and what its answer says of the list: each law once for every table and test. Assumes nothing.
 use Prim.Native.Nat.{ℕ, zero, suc, _+_, _-_, _<_, _≤_}
-use mathlib.Core.Path.{_≡_, refl, sym, ap, _∙_, subst}
+use mathlib.Core.Path.{_≡_, refl, ap, _∙_, subst}
 use mathlib.Core.Bool.{Bool, true, false}
-use mathlib.Core.List.{List, [], _∷_}
-use mathlib.Core.Option.{Option, none, some}
+use mathlib.Core.List.{[], _∷_}
+use mathlib.Core.Option.{Option}
 use native.Mathlib.Omega.{arith}
-use native.Mathlib.Numerals.{add-one}
-use Rattle.rules.specs.Lists.{first, any, keep}
-use Rattle.rules.proofs.Tests.{by-bool, no-bool}
+use Rattle.rules.specs.Lists.{first, any}
+use Rattle.rules.proofs.Tests.{by-bool}
 use Rattle.store.specs.Decode.{rows}
 use Rattle.store.specs.declared.Found.{Found}
-use Rattle.store.specs.declared.Found.the-variants.{At, Nothing}
 use Rattle.store.proofs.Rows.{rows-from}
-use Rattle.search.specs.Finds.{pick, findFrom, foundIn, Inside, Finds}
+use Rattle.store.specs.Search.{firstFrom}
+use Rattle.search.specs.Finds.{Finds}
 
 module _ {A : Type 0} (f : ℕ → A) (n : ℕ) where
   -- the rows from a place on: none past the end, all from the first
@@ -34,18 +33,6 @@ module _ {A : Type 0} (f : ℕ → A) (n : ℕ) where
 
 -- a loop upward: the rest decides
 module _ {A : Type 0} (f : ℕ → A) (p : A → Bool) (n : ℕ) where
-  pub find-none : (i : ℕ) → n ≤ i → findFrom p i (rows f i (n - i)) ≡ Nothing
-  unfolding findFrom
-  find-none i h = rw (rows-end f n i h)
-
-  pub find-here : (i : ℕ) → i < n → p (f i) ≡ true → findFrom p i (rows f i (n - i)) ≡ At i
-  unfolding findFrom
-  find-here i h t = rw (rows-from f i n h, t)
-
-  pub find-next : (i : ℕ) → i < n → p (f i) ≡ false → findFrom p i (rows f i (n - i)) ≡ findFrom p (i + 1) (rows f (i + 1) (n - (i + 1)))
-  unfolding findFrom
-  find-next i h t = rw (rows-from f i n h, t, add-one i)
-
   pub any-none : (i : ℕ) → n ≤ i → any p (rows f i (n - i)) ≡ false
   unfolding any
   any-none i h = rw (rows-end f n i h)
@@ -60,8 +47,8 @@ module _ {A : Type 0} (f : ℕ → A) (p : A → Bool) (n : ℕ) where
 
 -- what was found is the first that matches
 module _ {A : Type 0} (f : ℕ → A) (p : A → Bool) where
-  pub found-first : (i n : ℕ) → Finds f (i + n) (first p (rows f i n)) (findFrom p i (rows f i n))
-  unfolding rows first findFrom
+  pub found-first : (i n : ℕ) → Finds f (i + n) (first p (rows f i n)) (firstFrom p i (rows f i n))
+  unfolding rows first firstFrom
   found-first i zero = record { is = refl; inside = tt }
   found-first i (suc n) = by-bool (p (f i)) (λ q. rw q (record { is = refl; inside = omega arith })) (λ q. rw (q, first) (more (found-first (suc i) n)))
     where
@@ -70,13 +57,3 @@ module _ {A : Type 0} (f : ℕ → A) (p : A → Bool) where
 
       more : {o : Option A} {r : Found} → Finds f (suc i + n) o r → Finds f (i + suc n) o r
       more {o} {r} k = subst (λ (m : ℕ). Finds f m o r) same k
-
--- and whether something was found is whether any matches
-abbrev pub isFound : Found → Bool
-isFound (At i) = true
-isFound Nothing = false
-
-pub found-any : {A : Type 0} (p : A → Bool) (i : ℕ) (xs : List A) → isFound (findFrom p i xs) ≡ any p xs
-unfolding any findFrom
-found-any p i [] = refl
-found-any p i (x ∷ xs) = by-bool (p x) (λ q. rw (q, any)) (λ q. rw (q, any) (found-any p (suc i) xs))

@@ -1,23 +1,30 @@
 -- What decides a conflict, which statements carry a certificate that fits its words, and that no vote matters. Assumes nothing.
-use Prim.Native.Nat.{ℕ, _+_, _-_, _*_, _^_, _<_, _≤_}
-use mathlib.Core.Path.{_≡_, refl, sym, ap, _∙_}
+use Prim.Native.Nat.{ℕ, suc, _+_, _-_, _*_, _^_, _<_}
+use mathlib.Core.Path.{_≡_, refl, sym, ap, _∙_, subst}
 use mathlib.Core.Bool.{Bool, true, false, not, _&&_, _||_, Bool·beq}
-use mathlib.Core.Option.{Option, none}
+use mathlib.Core.Option.{Option, none, some}
+use mathlib.Core.List.{List}
 use native.Mathlib.Omega.{arith}
+use native.Mathlib.Numerals.{add-one}
 use lib.Dec.{leb, ltb, eqb}
 use borrow.Author.Tests.{eq-eqb, ne-eqb, leb-true, ltb-true, not-true}
 use Rattle.rules.specs.Limits.{firstView, lastView}
-use Rattle.rules.specs.Lists.{iff, within, any}
+use Rattle.rules.specs.Lists.{iff, within, any, all}
 use Rattle.rules.specs.Sizes.{Settings, leader}
 use Rattle.rules.specs.Messages.{newView, propose, viewAllowed, blockAllowed, maskAllowed, certificateAllowed, allowed}
 use Rattle.rules.specs.Words.{Statement, message, sameStatement, conflict, Tally, certificate, below, State}
 use Rattle.rules.specs.Inputs.{belowLock, isUsed, isOpened, current}
+use Rattle.rules.specs.WellFormed.{isName, statementGood}
 use Rattle.rules.proofs.Tests.{by-bool, and-left, and-right, no-bool}
 use Rattle.fields.specs.Names.{nameOf}
 use Rattle.fields.specs.declared.Name.{Name}
 use Rattle.wire.specs.Meaning.{statementOf}
 use Rattle.wire.specs.declared.Statement as code
-use Rattle.search.specs.Lookups.{Certifies, ranksBelow, uses, opens, ofView}
+use Rattle.store.specs.Layout.{statementTable, countOf}
+use Rattle.store.specs.Decode.{statementAt, statements, stateOf}
+use Rattle.store.proofs.Rows.{rows-all}
+use Rattle.store.proofs.Searches.{beq-iff}
+use Rattle.search.specs.Lookups.{Certifies, ranksBelow, uses, opens, turn, ofView}
 
 -- a conflict, where it is known whether the statements are the same
 abbrev conflictIf : Bool → Statement → Statement → Bool
@@ -72,18 +79,11 @@ module _ (x y : Statement) where
 
 -- ---- the code's statements
 
-kind-test : (a b : Bool) → Bool·beq a b ≡ iff a b
-unfolding iff
-kind-test true true = refl
-kind-test true false = refl
-kind-test false true = refl
-kind-test false false = refl
-
 module _ (x y : code.Statement) where
   pub same-is : (Bool·beq (x .«is_new_view») (y .«is_new_view») && eqb (x .view) (y .view) && eqb (x .height) (y .height) && eqb (nameOf (x .name)) (nameOf (y .name)) && eqb (nameOf (x .link)) (nameOf (y .link)) && eqb (x .author) (y .author))
       ≡ sameStatement (statementOf x none) (statementOf y none)
   unfolding sameStatement statementOf
-  same-is = rw (kind-test (x .«is_new_view») (y .«is_new_view»))
+  same-is = rw (beq-iff (x .«is_new_view») (y .«is_new_view»))
 
   -- no vote matters
   pub same-unvoted : (v w : Option ℕ) → sameStatement (statementOf x v) (statementOf y w) ≡ sameStatement (statementOf x none) (statementOf y none)
@@ -110,6 +110,18 @@ module _ (x : code.Statement) (y : Statement) (e : statementOf x (y .voted) ≡ 
 
   pub read-conflict : (w : code.Statement) → conflict (statementOf w none) (statementOf x none) ≡ conflict (statementOf w none) y
   read-conflict w = sym (conflict-unvoted w x none (y .voted)) ∙ ap (conflict (statementOf w none)) e
+
+  pub read-conflicts : conflict (statementOf x none) ≡ conflict y
+  unfolding conflict statementOf
+  read-conflicts = ap conflict e
+
+  pub read-turn-first : x .«is_new_view» ≡ true → 0 ≡ turn y
+  unfolding statementOf
+  read-turn-first p = let q : turn (statementOf x (y .voted)) ≡ 0 = rw p in sym q ∙ ap turn e
+
+  pub read-turn-later : x .«is_new_view» ≡ false → x .height + 1 ≡ turn y
+  unfolding statementOf
+  read-turn-later p = let q : turn (statementOf x (y .voted)) ≡ suc (x .height) = rw p in add-one (x .height) ∙ sym q ∙ ap turn e
 
   pub read-uses : (b : ℕ) → (eqb b (nameOf (x .name)) || not (x .«is_new_view») && eqb b (nameOf (x .link))) ≡ uses b y
   unfolding statementOf
@@ -166,6 +178,24 @@ certifies-allowed g x e = record {
   view = λ p. new-view-link g (x .view) (x .height) (x .name) (x .link) (x .mask) (x .author) (rw (p, message) at e);
   above = λ p. propose-height g (x .view) (x .height) (x .name) (x .link) (x .mask) (x .author) (rw (p, message) at e);
 }
+
+-- and so do the stored ones of a well-formed state, as they were read too
+pub certifies-stored : (b : List ℕ) → all (statementGood (stateOf b)) (statements b) ≡ true → (i : ℕ) → i < countOf statementTable b → Certifies (statementAt b i)
+unfolding statements statementGood
+certifies-stored b h i l =
+    let x = statementAt b i in
+    let s = stateOf b in
+    let good = rows-all (statementGood s) (statementAt b) 0 (countOf statementTable b) h i (omega arith) (omega arith) in
+    let voted : Bool = elim (x .voted) [ none ↦ true | some c ↦ leb c (s .clock) ] in
+    let ok = allowed (s .settings) (message x) in
+    certifies-allowed (s .settings) x (and-left ok (isName (x .name)) (and-left (ok && isName (x .name)) (isName (x .link)) (and-left (ok && isName (x .name) && isName (x .link)) voted good)))
+
+pub certifies-read : (x : code.Statement) (y : Statement) → statementOf x (y .voted) ≡ y → Certifies y → Certifies (statementOf x none)
+unfolding statementOf
+certifies-read x y e k =
+    let z = statementOf x (y .voted) in
+    let c : Certifies z = subst Certifies (sym e) k in
+    record { view = c .view; above = c .above }
 
 -- ---- a rank held against a lock
 

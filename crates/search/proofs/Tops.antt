@@ -1,11 +1,11 @@
 -- The step of the search for the top statement of a view, and of that for the highest certificate. Assumes nothing.
-use Prim.Native.Nat.{ℕ, zero, suc, _+_, _-_, _<_, _≤_}
-use mathlib.Core.Path.{_≡_, refl, sym, ap, _∙_, subst}
-use mathlib.Core.Bool.{Bool, true, false, not, _&&_}
-use mathlib.Core.List.{List, [], _∷_}
+use Prim.Native.Nat.{ℕ, _-_, _<_, _≤_}
+use mathlib.Core.Path.{_≡_, refl, sym, ap, _∙_}
+use mathlib.Core.Bool.{Bool, true, false, _&&_}
+use mathlib.Core.List.{List, _∷_}
 use mathlib.Core.Option.{Option, none, some}
 use native.Mathlib.Omega.{arith}
-use lib.Dec.{eqb, ltb}
+use lib.Dec.{ltb}
 use borrow.Author.Tests.{eq-eqb, ne-eqb, lt-ltb, le-ltb}
 use Rattle.rules.specs.Sizes.{Settings, quorum}
 use Rattle.rules.specs.Words.{Statement, Tally, genesis, certified, higher, highest}
@@ -18,7 +18,7 @@ use Rattle.store.specs.Meaning.{tallyOf}
 use Rattle.store.specs.declared.Found.{Found}
 use Rattle.store.specs.declared.Found.the-variants.{At, Nothing}
 use Rattle.search.specs.Lookups.{chosen}
-use Rattle.search.specs.Finds.{foundIn, Inside, Finds}
+use Rattle.search.specs.Finds.{foundIn, Finds}
 use Rattle.search.proofs.Searches.{rows-end, rows-whole, rows-back}
 
 -- ---- the top of a view
@@ -132,8 +132,10 @@ module _ (g : Settings) (v : ℕ) where
     unfolding highest
     highest-none i h = rw (rows-end f n i h)
 
-    pub highest-step : (i : ℕ) → 0 < i → i ≤ n → chosen g v (f (i - 1)) (highest g v (rows f i (n - i))) ≡ highest g v (rows f (i - 1) (n - (i - 1)))
-    highest-step i l m = sym (ap (highest g v) (rows-back f n i l m) ∙ highest-cons (f (i - 1)) (rows f i (n - i)))
+    pub highest-step : (i : ℕ) → 0 < i → i ≤ n → (g′ : Settings) (t best new : Tally) → g′ ≡ g → t ≡ f (i - 1) → best ≡ highest g v (rows f i (n - i)) → new ≡ chosen g′ v t best
+        → new ≡ highest g v (rows f (i - 1) (n - (i - 1)))
+    highest-step i l m g′ t best new p q r e =
+        e ∙ (λ k. chosen (p k) v (q k) (r k)) ∙ sym (ap (highest g v) (rows-back f n i l m) ∙ highest-cons (f (i - 1)) (rows f i (n - i)))
 
     pub highest-all : (i : ℕ) → i ≤ 0 → highest g v (rows f i (n - i)) ≡ highest g v (rows f 0 n)
     highest-all i h = ap (highest g v) (rows-whole f n i h)

@@ -3,10 +3,11 @@ use Prim.Native.Nat.{ℕ, suc, _^_, _<_}
 use mathlib.Core.Path.{_≡_}
 use mathlib.Core.Bool.{Bool, true, false, not, _&&_, _||_}
 use mathlib.Core.List.{List}
+use mathlib.Core.Option.{Option, none}
 use lib.Dec.{ltb, eqb}
-use Rattle.rules.specs.Lists.{any, keep}
+use Rattle.rules.specs.Lists.{first, keep}
 use Rattle.rules.specs.Sizes.{Settings}
-use Rattle.rules.specs.Words.{Statement, Tally, certificate, certified, below, higher}
+use Rattle.rules.specs.Words.{Statement, conflict, Tally, certificate, certified, below, higher}
 
 -- a new-view's link is a view, and a propose is above genesis, so that the certificate's numbers fit their words
 pub record Certifies (x : Statement) : Type 0 where
@@ -30,6 +31,15 @@ opens v x = x .isNewView && eqb (x .view) v
 -- "the name or parent" of a statement
 abbrev pub uses : ℕ → Statement → Bool
 uses b x = eqb b (x .name) || not (x .isNewView) && eqb b (x .link)
+
+-- what a statement of a view conflicts with among those that follow it
+unfoldable pub rivalIn : ℕ → List Statement → Statement → Option Statement
+unfolding first conflict
+rivalIn v xs x = elim (eqb (x .view) v) [ true ↦ first (conflict x) xs | false ↦ none ]
+
+-- "new-view first, then by height"
+abbrev pub turn : Statement → ℕ
+turn x = elim (x .isNewView) [ true ↦ 0 | false ↦ suc (x .height) ]
 
 -- rules' `current`, of a view
 unfoldable pub ofView : ℕ → List Statement → List Statement

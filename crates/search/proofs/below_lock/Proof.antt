@@ -1,10 +1,10 @@
 -- `search::below_lock` meets its contract. Assumes nothing.
 use mathlib.Core.Path.{_∙_}
 use mathlib.Core.Option.{none}
-use Rattle.search.proofs.Statements.{lock-propose, lock-new-view}
+use borrow.Author.Needs.{needs}
 use Rattle.wire.specs.Meaning.{statementOf}
 use Rattle.store.specs.Meaning.{tallyOf}
-use borrow.Author.Needs.{needs}
+use Rattle.search.proofs.Statements.{lock-propose, lock-new-view}
 use Rattle.search.proofs.below_lock.Statement.{statement}
 use Rattle.search.proofs.below_lock.Tie as tie
 
@@ -17,7 +17,8 @@ below-requires c κs = search needs
 returns : tie.Need-returns
 unfolding statementOf
 returns c =
-    c .below .ensures ∙ lock-new-view (statementOf (c .before .before .before .args .x) none) (tallyOf (c .before .before .before .args .lock)) (tallyOf (c .before .certificate .result)) (c .before .before .if1 .taken) (c .before .certificate .ensures)
+    let a = c .before .before .before .args in
+    c .below .ensures ∙ lock-new-view (statementOf (a .x) none) (tallyOf (a .lock)) (tallyOf (c .before .certificate .result)) (c .before .before .if1 .taken) (c .before .certificate .ensures)
 
 returns-2 : tie.Need-returns-2
 unfolding statementOf

@@ -1,17 +1,18 @@
 -- `search::better` meets its contract. Assumes nothing.
 use mathlib.Core.Path.{_∙_, sym}
 use borrow.Author.Tests.{not-true, not-false}
+use borrow.Author.Needs.{needs}
 use Rattle.settings.specs.Made.{settingsOf}
 use Rattle.store.specs.Meaning.{tallyOf}
 use Rattle.search.proofs.Tops.{chosen-late, chosen-few, chosen-lower, chosen-here}
-use borrow.Author.Needs.{needs}
 use Rattle.search.proofs.better.Statement.{statement}
 use Rattle.search.proofs.better.Tie as tie
 
 returns : tie.Need-returns
 unfolding tallyOf
 returns c =
-    chosen-late (settingsOf (c .before .before .args .settings)) (c .before .before .args .view) (tallyOf (c .before .before .args .tally)) (tallyOf (c .before .before .args .best)) (c .if1 .taken)
+    let a = c .before .before .args in
+    chosen-late (settingsOf (a .settings)) (a .view) (tallyOf (a .tally)) (tallyOf (a .best)) (c .if1 .taken)
 
 cast-quorum : tie.Need-cast-quorum
 cast-quorum c = search needs
@@ -22,7 +23,8 @@ quorum-requires c κs = search needs
 returns-2 : tie.Need-returns-2
 unfolding tallyOf
 returns-2 c =
-    chosen-few (settingsOf (c .before .before .before .before .before .args .settings)) (c .before .before .before .before .before .args .view) (tallyOf (c .before .before .before .before .before .args .tally)) (tallyOf (c .before .before .before .before .before .args .best)) (sym (c .before .quorum .ensures) ∙ not-true _ (c .if2 .taken))
+    let a = c .before .before .before .before .before .args in
+    chosen-few (settingsOf (a .settings)) (a .view) (tallyOf (a .tally)) (tallyOf (a .best)) (sym (c .before .quorum .ensures) ∙ not-true _ (c .if2 .taken))
 
 higher-requires : tie.Need-higher-requires
 higher-requires c κs = search needs
@@ -30,12 +32,14 @@ higher-requires c κs = search needs
 returns-3 : tie.Need-returns-3
 unfolding tallyOf
 returns-3 c =
-    chosen-lower (settingsOf (c .before .before .before .before .before .before .before .args .settings)) (c .before .before .before .before .before .before .before .args .view) (tallyOf (c .before .before .before .before .before .before .before .args .tally)) (tallyOf (c .before .before .before .before .before .before .before .args .best)) (sym (c .before .higher .ensures) ∙ not-true _ (c .if3 .taken))
+    let a = c .before .before .before .before .before .before .before .args in
+    chosen-lower (settingsOf (a .settings)) (a .view) (tallyOf (a .tally)) (tallyOf (a .best)) (sym (c .before .higher .ensures) ∙ not-true _ (c .if3 .taken))
 
 returns-4 : tie.Need-returns-4
 unfolding tallyOf
 returns-4 c =
-    chosen-here (settingsOf (c .before .before .before .before .before .before .before .args .settings)) (c .before .before .before .before .before .before .before .args .view) (tallyOf (c .before .before .before .before .before .before .before .args .tally)) (tallyOf (c .before .before .before .before .before .before .before .args .best)) (c .before .before .before .before .before .if1 .left) (sym (c .before .before .before .quorum .ensures) ∙ not-false _ (c .before .before .if2 .left)) (sym (c .before .higher .ensures) ∙ not-false _ (c .if3 .left))
+    let a = c .before .before .before .before .before .before .before .args in
+    chosen-here (settingsOf (a .settings)) (a .view) (tallyOf (a .tally)) (tallyOf (a .best)) (c .before .before .before .before .before .if1 .left) (sym (c .before .before .before .quorum .ensures) ∙ not-false _ (c .before .before .if2 .left)) (sym (c .before .higher .ensures) ∙ not-false _ (c .if3 .left))
 
 pub better-spec : {M : Type 1} → statement M
 better-spec =

@@ -1,8 +1,8 @@
 -- `search::certificate` meets its contract. Assumes nothing.
-use Rattle.search.proofs.Statements.{certified-view, certified-small}
 use Rattle.rules.specs.Words.{certificate}
 use Rattle.wire.specs.Meaning.{statementOf}
 use Rattle.store.specs.Meaning.{tallyOf}
+use Rattle.search.proofs.Statements.{certified-view, certified-small}
 use Rattle.search.proofs.certificate.Statement.{statement}
 use Rattle.search.proofs.certificate.Tie as tie
 

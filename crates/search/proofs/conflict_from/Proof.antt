@@ -1,15 +1,15 @@
 -- `search::conflict_from` meets its contract, the rest of the table deciding. Assumes nothing.
-use mathlib.Core.Path.{_≡_, refl, sym, _∙_, ap}
-use Prim.Native.Nat.{ℕ, _+_, _-_, _≤_}
-use native.Mathlib.Omega.{arith}
-use Rattle.store.specs.Layout.{statementTable, countOf}
-use Rattle.search.proofs.Counts.{long}
-use Rattle.search.proofs.Searches.{find-none, find-here, find-next}
+use Prim.Native.Nat.{_-_}
+use mathlib.Core.Path.{_≡_, refl, sym, _∙_}
 use mathlib.Core.Option.{none}
+use native.Mathlib.Omega.{arith}
 use Rattle.rules.specs.Words.{conflict}
 use Rattle.wire.specs.Meaning.{statementOf}
+use Rattle.store.specs.Layout.{statementTable, countOf}
+use Rattle.store.proofs.Searches.{find-none, find-here, find-next}
 use Rattle.store.specs.Decode.{rows, statementAt}
-use Rattle.search.specs.Finds.{findFrom}
+use Rattle.store.specs.Search.{firstFrom}
+use Rattle.search.proofs.Counts.{long}
 use Rattle.search.proofs.conflict_from.Statement.{statement}
 use Rattle.search.proofs.conflict_from.Tie as tie
 
@@ -18,7 +18,7 @@ Inv-loop store x start count i₀ i =
     let f = statementAt store in
     let p = conflict (statementOf x none) in
     let n = countOf statementTable store in
-    findFrom p start (rows f start (n - start)) ≡ findFrom p i (rows f i (n - i))
+    firstFrom p start (rows f start (n - start)) ≡ firstFrom p i (rows f i (n - i))
 
 abbrev μ-loop : tie.MeasureT-loop
 μ-loop store x start count i₀ i =
@@ -46,15 +46,20 @@ loop-less c =
 
 loop-again : tie.Need-loop-again Inv-loop μ-loop
 loop-again c =
-    c .before .before .before .loop .inv ∙ find-next (statementAt (c .before .before .before .before .before .before .args .store .now)) (conflict (statementOf (c .before .before .before .before .before .before .args .x) none)) (countOf statementTable (c .before .before .before .before .before .before .args .store .now)) (c .before .before .before .loop .i) (omega (arith, c .before .before .before .before .statement-count .ensures .0)) (sym (c .before .conflicts-at .ensures) ∙ c .if2 .left)
+    let a = c .before .before .before .before .before .before .args in
+    let l = c .before .before .before .loop in
+    l .inv ∙ find-next (statementAt (a .store .now)) (conflict (statementOf (a .x) none)) (countOf statementTable (a .store .now)) (l .i) (omega (arith, c .before .before .before .before .statement-count .ensures .0)) (sym (c .before .conflicts-at .ensures) ∙ c .if2 .left)
 
 returns : tie.Need-returns Inv-loop μ-loop
 returns c =
-    sym (c .before .loop .inv ∙ find-none (statementAt (c .before .before .before .before .args .store .now)) (conflict (statementOf (c .before .before .before .before .args .x) none)) (countOf statementTable (c .before .before .before .before .args .store .now)) (c .before .loop .i) (omega (arith, c .before .before .statement-count .ensures .0)))
+    let a = c .before .before .before .before .args in
+    sym (c .before .loop .inv ∙ find-none (statementAt (a .store .now)) (conflict (statementOf (a .x) none)) (countOf statementTable (a .store .now)) (c .before .loop .i) (omega (arith, c .before .before .statement-count .ensures .0)))
 
 returns-2 : tie.Need-returns-2 Inv-loop μ-loop
 returns-2 c =
-    sym (c .before .before .before .loop .inv ∙ find-here (statementAt (c .before .before .before .before .before .before .args .store .now)) (conflict (statementOf (c .before .before .before .before .before .before .args .x) none)) (countOf statementTable (c .before .before .before .before .before .before .args .store .now)) (c .before .before .before .loop .i) (omega (arith, c .before .before .before .before .statement-count .ensures .0)) (sym (c .before .conflicts-at .ensures) ∙ c .if2 .taken))
+    let a = c .before .before .before .before .before .before .args in
+    let l = c .before .before .before .loop in
+    sym (l .inv ∙ find-here (statementAt (a .store .now)) (conflict (statementOf (a .x) none)) (countOf statementTable (a .store .now)) (l .i) (omega (arith, c .before .before .before .before .statement-count .ensures .0)) (sym (c .before .conflicts-at .ensures) ∙ c .if2 .taken))
 
 pub conflict-from-spec : {M : Type 1} → statement M
 conflict-from-spec =

@@ -1,10 +1,10 @@
 -- `search::conflicts_at` meets its contract. Assumes nothing.
 use mathlib.Core.Path.{_∙_, sym}
 use mathlib.Core.Option.{none}
+use borrow.Author.Needs.{needs}
 use Rattle.wire.specs.Meaning.{statementOf}
 use Rattle.store.specs.Decode.{statementAt}
 use Rattle.search.proofs.Statements.{other-view, read-conflict}
-use borrow.Author.Needs.{needs}
 use Rattle.search.proofs.conflicts_at.Statement.{statement}
 use Rattle.search.proofs.conflicts_at.Tie as tie
 
@@ -14,7 +14,8 @@ view-at-requires c κs = search needs
 returns : tie.Need-returns
 unfolding statementOf
 returns c =
-    other-view (statementOf (c .before .before .before .before .args .x) none) (statementAt (c .before .before .before .before .args .store .now) (c .before .before .before .before .args .i)) (λ e. c .if1 .taken (e ∙ sym (c .before .before .view-at .ensures)))
+    let a = c .before .before .before .before .args in
+    other-view (statementOf (a .x) none) (statementAt (a .store .now) (a .i)) (λ e. c .if1 .taken (e ∙ sym (c .before .before .view-at .ensures)))
 
 statement-at-requires : tie.Need-statement-at-requires
 statement-at-requires c κs = search needs
@@ -24,7 +25,8 @@ conflicts-requires c κs = search needs
 
 returns-2 : tie.Need-returns-2
 returns-2 c =
-    c .conflicts .ensures ∙ read-conflict (c .before .statement-at .result) (statementAt (c .before .before .before .before .before .before .args .store .now) (c .before .before .before .before .before .before .args .i)) (c .before .statement-at .ensures) (c .before .before .before .before .before .before .args .x)
+    let a = c .before .before .before .before .before .before .args in
+    c .conflicts .ensures ∙ read-conflict (c .before .statement-at .result) (statementAt (a .store .now) (a .i)) (c .before .statement-at .ensures) (a .x)
 
 pub conflicts-at-spec : {M : Type 1} → statement M
 conflicts-at-spec =

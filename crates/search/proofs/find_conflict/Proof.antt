@@ -2,13 +2,13 @@
 use mathlib.Core.Path.{_∙_, ap}
 use mathlib.Core.Option.{none}
 use native.Mathlib.Omega.{arith}
+use borrow.Author.Needs.{needs}
 use Rattle.rules.specs.Words.{conflict}
 use Rattle.wire.specs.Meaning.{statementOf}
 use Rattle.store.specs.Layout.{statementTable, countOf}
 use Rattle.store.specs.Decode.{statementAt, statements}
-use Rattle.search.specs.Finds.{findFrom}
+use Rattle.store.specs.Search.{firstFrom}
 use Rattle.search.proofs.Searches.{rows-whole}
-use borrow.Author.Needs.{needs}
 use Rattle.search.proofs.find_conflict.Statement.{statement}
 use Rattle.search.proofs.find_conflict.Tie as tie
 
@@ -18,7 +18,8 @@ conflict-from-requires c κs = search needs
 returns : tie.Need-returns
 unfolding statements
 returns c =
-    c .conflict-from .ensures ∙ ap (findFrom (conflict (statementOf (c .before .before .args .x) none)) 0) (rows-whole (statementAt (c .before .before .args .store .now)) (countOf statementTable (c .before .before .args .store .now)) 0 (omega arith))
+    let a = c .before .before .args in
+    c .conflict-from .ensures ∙ ap (firstFrom (conflict (statementOf (a .x) none)) 0) (rows-whole (statementAt (a .store .now)) (countOf statementTable (a .store .now)) 0 (omega arith))
 
 pub find-conflict-spec : {M : Type 1} → statement M
 find-conflict-spec = tie.close (tie.spec conflict-from-requires returns)

@@ -1,14 +1,14 @@
 -- `search::highest` meets its contract: the highest of what was passed is known. Assumes nothing.
-use mathlib.Core.Path.{_≡_, refl, sym, ap, _∙_}
-use Prim.Native.Nat.{ℕ, _-_, _≤_, _<_}
+use Prim.Native.Nat.{_-_, _≤_}
+use mathlib.Core.Path.{_≡_, _∙_}
 use native.Mathlib.Omega.{arith}
 use Rattle.rules.specs.Words as words
+use Rattle.settings.specs.Made.{settingsOf}
 use Rattle.store.specs.Layout.{tallyTable, countOf}
 use Rattle.store.specs.Decode.{rows, tallyAt, tallies, stateOf}
 use Rattle.store.specs.Meaning.{tallyOf}
 use Rattle.store.proofs.Loaded.{loaded-settings, loaded-tallies}
 use Rattle.search.proofs.Counts.{long, few-tallies}
-use Rattle.search.specs.Lookups.{chosen}
 use Rattle.search.proofs.Tops.{from-genesis, highest-none, highest-step, highest-all}
 use Rattle.search.proofs.highest.Statement.{statement}
 use Rattle.search.proofs.highest.Tie as tie
@@ -55,13 +55,13 @@ loop-again c =
     let a = c .before .before .before .before .before .before .before .before .args in
     let b = a .store .now in
     let l = c .before .before .before .loop in
-    let g = loaded-settings (c .before .before .before .before .before .before .load .result) b (c .before .before .before .before .before .before .load .ensures) in
-    (omega (arith, l .inv .0), c .better .ensures ∙ (λ k. chosen (g k) (a .view) (c .before .tally-at .ensures k) (l .inv .1 k)) ∙ highest-step (stateOf b .settings) (a .view) (tallyAt b) (countOf tallyTable b) (l .i) (c .before .before .loop-test .taken) (l .inv .0))
+    (omega (arith, l .inv .0), highest-step (stateOf b .settings) (a .view) (tallyAt b) (countOf tallyTable b) (l .i) (c .before .before .loop-test .taken) (l .inv .0) (settingsOf (c .before .before .before .before .before .before .load .result .settings)) (tallyOf (c .before .tally-at .result)) (tallyOf (l .best)) (tallyOf (c .better .result)) (loaded-settings (c .before .before .before .before .before .before .load .result) b (c .before .before .before .before .before .before .load .ensures)) (c .before .tally-at .ensures) (l .inv .1) (c .better .ensures))
 
 returns : tie.Need-returns Inv-loop μ-loop
 unfolding tallies
 returns c =
-    c .before .loop .inv .1 ∙ highest-all (stateOf (c .before .before .before .before .before .before .args .store .now) .settings) (c .before .before .before .before .before .before .args .view) (tallyAt (c .before .before .before .before .before .before .args .store .now)) (countOf tallyTable (c .before .before .before .before .before .before .args .store .now)) (c .before .loop .i) (c .loop-test .left)
+    let a = c .before .before .before .before .before .before .args in
+    c .before .loop .inv .1 ∙ highest-all (stateOf (a .store .now) .settings) (a .view) (tallyAt (a .store .now)) (countOf tallyTable (a .store .now)) (c .before .loop .i) (c .loop-test .left)
 
 pub highest-spec : {M : Type 1} → statement M
 highest-spec =

@@ -1,13 +1,13 @@
 -- `search::is_opened` meets its contract, the rest of the table deciding. Assumes nothing.
-use mathlib.Core.Path.{_≡_, refl, sym, _∙_, ap}
-use Prim.Native.Nat.{ℕ, _+_, _-_, _≤_}
+use Prim.Native.Nat.{_-_}
+use mathlib.Core.Path.{_≡_, sym, _∙_, ap}
 use native.Mathlib.Omega.{arith}
-use Rattle.store.specs.Layout.{statementTable, countOf}
-use Rattle.search.proofs.Counts.{long}
-use Rattle.search.proofs.Searches.{any-none, any-here, any-next, rows-whole}
 use Rattle.rules.specs.Lists.{any}
+use Rattle.store.specs.Layout.{statementTable, countOf}
 use Rattle.store.specs.Decode.{rows, statementAt, statements}
 use Rattle.search.specs.Lookups.{opens}
+use Rattle.search.proofs.Counts.{long}
+use Rattle.search.proofs.Searches.{any-none, any-here, any-next, rows-whole}
 use Rattle.search.proofs.is_opened.Statement.{statement}
 use Rattle.search.proofs.is_opened.Tie as tie
 
@@ -26,7 +26,8 @@ statement-count-requires c κs =
 loop-holds : tie.Need-loop-holds Inv-loop μ-loop
 unfolding statements
 loop-holds c =
-    ap (any (opens (c .before .before .args .view))) (sym (rows-whole (statementAt (c .before .before .args .store .now)) (countOf statementTable (c .before .before .args .store .now)) 0 (omega arith)))
+    let a = c .before .before .args in
+    ap (any (opens (a .view))) (sym (rows-whole (statementAt (a .store .now)) (countOf statementTable (a .store .now)) 0 (omega arith)))
 
 opens-at-requires : tie.Need-opens-at-requires Inv-loop μ-loop
 opens-at-requires c κs =
@@ -42,15 +43,20 @@ loop-less c =
 
 loop-again : tie.Need-loop-again Inv-loop μ-loop
 loop-again c =
-    c .before .before .before .loop .inv ∙ any-next (statementAt (c .before .before .before .before .before .before .args .store .now)) (opens (c .before .before .before .before .before .before .args .view)) (countOf statementTable (c .before .before .before .before .before .before .args .store .now)) (c .before .before .before .loop .i) (omega (arith, c .before .before .before .before .statement-count .ensures .0)) (sym (c .before .opens-at .ensures) ∙ c .if2 .left)
+    let a = c .before .before .before .before .before .before .args in
+    let l = c .before .before .before .loop in
+    l .inv ∙ any-next (statementAt (a .store .now)) (opens (a .view)) (countOf statementTable (a .store .now)) (l .i) (omega (arith, c .before .before .before .before .statement-count .ensures .0)) (sym (c .before .opens-at .ensures) ∙ c .if2 .left)
 
 returns : tie.Need-returns Inv-loop μ-loop
 returns c =
-    sym (c .before .loop .inv ∙ any-none (statementAt (c .before .before .before .before .args .store .now)) (opens (c .before .before .before .before .args .view)) (countOf statementTable (c .before .before .before .before .args .store .now)) (c .before .loop .i) (omega (arith, c .before .before .statement-count .ensures .0)))
+    let a = c .before .before .before .before .args in
+    sym (c .before .loop .inv ∙ any-none (statementAt (a .store .now)) (opens (a .view)) (countOf statementTable (a .store .now)) (c .before .loop .i) (omega (arith, c .before .before .statement-count .ensures .0)))
 
 returns-2 : tie.Need-returns-2 Inv-loop μ-loop
 returns-2 c =
-    sym (c .before .before .before .loop .inv ∙ any-here (statementAt (c .before .before .before .before .before .before .args .store .now)) (opens (c .before .before .before .before .before .before .args .view)) (countOf statementTable (c .before .before .before .before .before .before .args .store .now)) (c .before .before .before .loop .i) (omega (arith, c .before .before .before .before .statement-count .ensures .0)) (sym (c .before .opens-at .ensures) ∙ c .if2 .taken))
+    let a = c .before .before .before .before .before .before .args in
+    let l = c .before .before .before .loop in
+    sym (l .inv ∙ any-here (statementAt (a .store .now)) (opens (a .view)) (countOf statementTable (a .store .now)) (l .i) (omega (arith, c .before .before .before .before .statement-count .ensures .0)) (sym (c .before .opens-at .ensures) ∙ c .if2 .taken))
 
 pub is-opened-spec : {M : Type 1} → statement M
 is-opened-spec =

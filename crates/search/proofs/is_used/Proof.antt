@@ -1,16 +1,16 @@
 -- `search::is_used` meets its contract, the rest of the table deciding. Assumes nothing.
-use mathlib.Core.Path.{_≡_, refl, sym, _∙_, ap}
-use Prim.Native.Nat.{ℕ, _+_, _-_, _≤_}
+use Prim.Native.Nat.{_-_}
+use mathlib.Core.Path.{_≡_, sym, _∙_, ap}
 use native.Mathlib.Omega.{arith}
-use Rattle.store.specs.Layout.{statementTable, countOf}
-use Rattle.search.proofs.Counts.{long}
-use Rattle.search.proofs.Searches.{any-none, any-here, any-next, rows-whole}
 use Rattle.rules.specs.Lists.{any}
 use Rattle.rules.specs.Inputs.{isUsed}
 use Rattle.fields.specs.Names.{nameOf}
+use Rattle.store.specs.Layout.{statementTable, countOf}
 use Rattle.store.specs.Decode.{rows, statementAt, statements, stateFrom, stateOf}
-use Rattle.search.proofs.Statements.{used-is}
 use Rattle.search.specs.Lookups.{uses}
+use Rattle.search.proofs.Counts.{long}
+use Rattle.search.proofs.Searches.{any-none, any-here, any-next, rows-whole}
+use Rattle.search.proofs.Statements.{used-is}
 use Rattle.search.proofs.is_used.Statement.{statement}
 use Rattle.search.proofs.is_used.Tie as tie
 
@@ -29,7 +29,8 @@ statement-count-requires c κs =
 loop-holds : tie.Need-loop-holds Inv-loop μ-loop
 unfolding stateOf stateFrom statements
 loop-holds c =
-    used-is (stateOf (c .before .before .args .store .now)) (nameOf (c .before .before .args .name)) ∙ ap (any (uses (nameOf (c .before .before .args .name)))) (sym (rows-whole (statementAt (c .before .before .args .store .now)) (countOf statementTable (c .before .before .args .store .now)) 0 (omega arith)))
+    let a = c .before .before .args in
+    used-is (stateOf (a .store .now)) (nameOf (a .name)) ∙ ap (any (uses (nameOf (a .name)))) (sym (rows-whole (statementAt (a .store .now)) (countOf statementTable (a .store .now)) 0 (omega arith)))
 
 uses-at-requires : tie.Need-uses-at-requires Inv-loop μ-loop
 uses-at-requires c κs =
@@ -45,15 +46,20 @@ loop-less c =
 
 loop-again : tie.Need-loop-again Inv-loop μ-loop
 loop-again c =
-    c .before .before .before .loop .inv ∙ any-next (statementAt (c .before .before .before .before .before .before .args .store .now)) (uses (nameOf (c .before .before .before .before .before .before .args .name))) (countOf statementTable (c .before .before .before .before .before .before .args .store .now)) (c .before .before .before .loop .i) (omega (arith, c .before .before .before .before .statement-count .ensures .0)) (sym (c .before .uses-at .ensures) ∙ c .if2 .left)
+    let a = c .before .before .before .before .before .before .args in
+    let l = c .before .before .before .loop in
+    l .inv ∙ any-next (statementAt (a .store .now)) (uses (nameOf (a .name))) (countOf statementTable (a .store .now)) (l .i) (omega (arith, c .before .before .before .before .statement-count .ensures .0)) (sym (c .before .uses-at .ensures) ∙ c .if2 .left)
 
 returns : tie.Need-returns Inv-loop μ-loop
 returns c =
-    sym (c .before .loop .inv ∙ any-none (statementAt (c .before .before .before .before .args .store .now)) (uses (nameOf (c .before .before .before .before .args .name))) (countOf statementTable (c .before .before .before .before .args .store .now)) (c .before .loop .i) (omega (arith, c .before .before .statement-count .ensures .0)))
+    let a = c .before .before .before .before .args in
+    sym (c .before .loop .inv ∙ any-none (statementAt (a .store .now)) (uses (nameOf (a .name))) (countOf statementTable (a .store .now)) (c .before .loop .i) (omega (arith, c .before .before .statement-count .ensures .0)))
 
 returns-2 : tie.Need-returns-2 Inv-loop μ-loop
 returns-2 c =
-    sym (c .before .before .before .loop .inv ∙ any-here (statementAt (c .before .before .before .before .before .before .args .store .now)) (uses (nameOf (c .before .before .before .before .before .before .args .name))) (countOf statementTable (c .before .before .before .before .before .before .args .store .now)) (c .before .before .before .loop .i) (omega (arith, c .before .before .before .before .statement-count .ensures .0)) (sym (c .before .uses-at .ensures) ∙ c .if2 .taken))
+    let a = c .before .before .before .before .before .before .args in
+    let l = c .before .before .before .loop in
+    sym (l .inv ∙ any-here (statementAt (a .store .now)) (uses (nameOf (a .name))) (countOf statementTable (a .store .now)) (l .i) (omega (arith, c .before .before .before .before .statement-count .ensures .0)) (sym (c .before .uses-at .ensures) ∙ c .if2 .taken))
 
 pub is-used-spec : {M : Type 1} → statement M
 is-used-spec =

@@ -1,7 +1,6 @@
 -- `search::opens_at` meets its contract. Assumes nothing.
-use mathlib.Core.Path.{refl}
-use Rattle.store.specs.Decode.{statementAt, kindAt}
 use borrow.Author.Needs.{needs}
+use Rattle.store.specs.Decode.{statementAt, kindAt}
 use Rattle.search.proofs.opens_at.Statement.{statement}
 use Rattle.search.proofs.opens_at.Tie as tie
 

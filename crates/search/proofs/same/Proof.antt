@@ -1,6 +1,6 @@
 -- `search::same` meets its contract. Assumes nothing.
-use Rattle.search.proofs.Statements.{same-is}
 use borrow.Author.Needs.{needs}
+use Rattle.search.proofs.Statements.{same-is}
 use Rattle.search.proofs.same.Statement.{statement}
 use Rattle.search.proofs.same.Tie as tie
 
@@ -12,7 +12,8 @@ same-requires-2 c κs = search needs
 
 returns : tie.Need-returns
 returns c =
-    rw (c .before .before .before .before .before .before .before .before .before .same .ensures, c .before .before .before .before .before .before .before .before .same2 .ensures) (same-is (c .before .before .before .before .before .before .before .before .before .before .args .x) (c .before .before .before .before .before .before .before .before .before .before .args .y))
+    let a = c .before .before .before .before .before .before .before .before .before .before .args in
+    rw (c .before .before .before .before .before .before .before .before .before .same .ensures, c .before .before .before .before .before .before .before .before .same2 .ensures) (same-is (a .x) (a .y))
 
 pub same-spec : {M : Type 1} → statement M
 same-spec = tie.close (tie.spec same-requires same-requires-2 returns)

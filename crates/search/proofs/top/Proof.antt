@@ -1,6 +1,6 @@
 -- `search::top` meets its contract: the top of what was passed is known, with its height. Assumes nothing.
-use mathlib.Core.Path.{_≡_, refl, sym, _∙_, subst}
-use Prim.Native.Nat.{ℕ, _-_, _≤_, _<_}
+use Prim.Native.Nat.{_-_, _≤_}
+use mathlib.Core.Path.{sym, _∙_}
 use native.Mathlib.Omega.{arith}
 use Rattle.store.specs.Layout.{statementTable, countOf}
 use Rattle.store.specs.Decode.{statementAt, statements}
@@ -24,7 +24,8 @@ statement-count-requires c κs =
 
 loop-holds : tie.Need-loop-holds Inv-loop μ-loop
 loop-holds c =
-    (omega (arith, c .statement-count .ensures .0), topmost-none (statementAt (c .before .before .args .store .now)) (c .before .before .args .view) (countOf statementTable (c .before .before .args .store .now)) (c .statement-count .result) (omega (arith, c .statement-count .ensures .0)))
+    let a = c .before .before .args in
+    (omega (arith, c .statement-count .ensures .0), topmost-none (statementAt (a .store .now)) (a .view) (countOf statementTable (a .store .now)) (c .statement-count .result) (omega (arith, c .statement-count .ensures .0)))
 
 sub-i : tie.Need-sub-i Inv-loop μ-loop
 sub-i c =
@@ -40,7 +41,9 @@ loop-less c =
 
 loop-again : tie.Need-loop-again Inv-loop μ-loop
 loop-again c =
-    (omega arith, topmost-other (statementAt (c .before .before .before .before .before .before .args .store .now)) (c .before .before .before .before .before .before .args .view) (countOf statementTable (c .before .before .before .before .before .before .args .store .now)) (c .before .before .before .loop .i) (c .before .before .loop-test .taken) (c .before .before .before .loop .inv .0) (c .before .before .before .loop .best) (c .before .before .before .loop .height) (c .before .before .before .loop .inv .1) (λ e. c .if1 .taken (c .before .view-at .ensures ∙ e)))
+    let a = c .before .before .before .before .before .before .args in
+    let l = c .before .before .before .loop in
+    (omega arith, topmost-other (statementAt (a .store .now)) (a .view) (countOf statementTable (a .store .now)) (l .i) (c .before .before .loop-test .taken) (l .inv .0) (l .best) (l .height) (l .inv .1) (λ e. c .if1 .taken (c .before .view-at .ensures ∙ e)))
 
 statement-at-requires : tie.Need-statement-at-requires Inv-loop μ-loop
 statement-at-requires c κs =
@@ -52,7 +55,9 @@ loop-less-2 c =
 
 loop-again-2 : tie.Need-loop-again-2 Inv-loop μ-loop
 loop-again-2 c =
-    (omega arith, topmost-lower (statementAt (c .before .before .before .before .before .before .before .before .before .args .store .now)) (c .before .before .before .before .before .before .before .before .before .args .view) (countOf statementTable (c .before .before .before .before .before .before .before .before .before .args .store .now)) (c .before .before .before .before .before .before .loop .i) (c .before .before .before .before .before .loop-test .taken) (c .before .before .before .before .before .before .loop .inv .0) (sym (c .before .before .before .before .view-at .ensures) ∙ c .before .before .before .if1 .left) (c .before .before .before .before .before .before .loop .best) (c .before .before .before .before .before .before .loop .height) (c .before .before .before .before .before .before .loop .inv .1) (omega (arith, read-height (c .before .before .statement-at .result) (statementAt (c .before .before .before .before .before .before .before .before .before .args .store .now) (c .before .before .before .before .before .before .loop .i - 1)) (c .before .before .statement-at .ensures))))
+    let a = c .before .before .before .before .before .before .before .before .before .args in
+    let l = c .before .before .before .before .before .before .loop in
+    (omega arith, topmost-lower (statementAt (a .store .now)) (a .view) (countOf statementTable (a .store .now)) (l .i) (c .before .before .before .before .before .loop-test .taken) (l .inv .0) (sym (c .before .before .before .before .view-at .ensures) ∙ c .before .before .before .if1 .left) (l .best) (l .height) (l .inv .1) (omega (arith, read-height (c .before .before .statement-at .result) (statementAt (a .store .now) (l .i - 1)) (c .before .before .statement-at .ensures))))
 
 loop-less-3 : tie.Need-loop-less-3 Inv-loop μ-loop
 loop-less-3 c =
@@ -60,12 +65,15 @@ loop-less-3 c =
 
 loop-again-3 : tie.Need-loop-again-3 Inv-loop μ-loop
 loop-again-3 c =
-    (omega arith, topmost-here (statementAt (c .before .before .before .before .before .before .before .before .before .args .store .now)) (c .before .before .before .before .before .before .before .before .before .args .view) (countOf statementTable (c .before .before .before .before .before .before .before .before .before .args .store .now)) (c .before .before .before .before .before .before .loop .i) (c .before .before .before .before .before .loop-test .taken) (c .before .before .before .before .before .before .loop .inv .0) (sym (c .before .before .before .before .view-at .ensures) ∙ c .before .before .before .if1 .left) (c .before .before .before .before .before .before .loop .best) (c .before .before .before .before .before .before .loop .height) (c .before .before .before .before .before .before .loop .inv .1) (c .before .before .statement-at .result .height) (read-height (c .before .before .statement-at .result) (statementAt (c .before .before .before .before .before .before .before .before .before .args .store .now) (c .before .before .before .before .before .before .loop .i - 1)) (c .before .before .statement-at .ensures)) (c .if2 .left))
+    let a = c .before .before .before .before .before .before .before .before .before .args in
+    let l = c .before .before .before .before .before .before .loop in
+    (omega arith, topmost-here (statementAt (a .store .now)) (a .view) (countOf statementTable (a .store .now)) (l .i) (c .before .before .before .before .before .loop-test .taken) (l .inv .0) (sym (c .before .before .before .before .view-at .ensures) ∙ c .before .before .before .if1 .left) (l .best) (l .height) (l .inv .1) (c .before .before .statement-at .result .height) (read-height (c .before .before .statement-at .result) (statementAt (a .store .now) (l .i - 1)) (c .before .before .statement-at .ensures)) (c .if2 .left))
 
 returns : tie.Need-returns Inv-loop μ-loop
 unfolding statements
 returns c =
-    topmost-all (statementAt (c .before .before .before .before .args .store .now)) (c .before .before .before .before .args .view) (countOf statementTable (c .before .before .before .before .args .store .now)) (c .before .loop .i) (c .before .loop .best) (c .before .loop .height) (c .loop-test .left) (c .before .loop .inv .1)
+    let a = c .before .before .before .before .args in
+    topmost-all (statementAt (a .store .now)) (a .view) (countOf statementTable (a .store .now)) (c .before .loop .i) (c .before .loop .best) (c .before .loop .height) (c .loop-test .left) (c .before .loop .inv .1)
 
 pub top-spec : {M : Type 1} → statement M
 top-spec =

@@ -1,9 +1,8 @@
 -- `search::uses_at` meets its contract. Assumes nothing.
-use mathlib.Core.Path.{_∙_}
-use Rattle.store.specs.Decode.{statementAt}
-use Rattle.fields.specs.Names.{nameOf}
-use Rattle.search.proofs.Statements.{read-uses}
 use borrow.Author.Needs.{needs}
+use Rattle.fields.specs.Names.{nameOf}
+use Rattle.store.specs.Decode.{statementAt}
+use Rattle.search.proofs.Statements.{read-uses}
 use Rattle.search.proofs.uses_at.Statement.{statement}
 use Rattle.search.proofs.uses_at.Tie as tie
 
@@ -18,7 +17,8 @@ same-requires-2 c κs = search needs
 
 returns : tie.Need-returns
 returns c =
-    rw (c .before .before .same .ensures, c .before .same2 .ensures) (read-uses (c .before .before .before .statement-at .result) (statementAt (c .before .before .before .before .before .args .store .now) (c .before .before .before .before .before .args .i)) (c .before .before .before .statement-at .ensures) (nameOf (c .before .before .before .before .before .args .name)))
+    let a = c .before .before .before .before .before .args in
+    rw (c .before .before .same .ensures, c .before .same2 .ensures) (read-uses (c .before .before .before .statement-at .result) (statementAt (a .store .now) (a .i)) (c .before .before .before .statement-at .ensures) (nameOf (a .name)))
 
 pub uses-at-spec : {M : Type 1} → statement M
 uses-at-spec = tie.close (tie.spec statement-at-requires same-requires same-requires-2 returns)

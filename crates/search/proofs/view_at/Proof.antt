@@ -1,9 +1,4 @@
 -- `search::view_at` meets its contract. Assumes nothing.
-use mathlib.Core.Path.{_∙_, sym, ap}
-use Prim.Native.Nat.{ℕ}
-use Rattle.fields.specs.Places.{number}
-use Rattle.store.specs.Layout.{statementTable, placeOf}
-use native.Mathlib.Nat.{add-zero}
 use Rattle.store.specs.Decode.{statementAt}
 use borrow.Author.Needs.{needs}
 use Rattle.search.proofs.view_at.Statement.{statement}
@@ -15,6 +10,9 @@ mul-get c = search needs
 add-get : tie.Need-add-get
 add-get c = search needs
 
+add-get-2 : tie.Need-add-get-2
+add-get-2 c = search needs
+
 get-requires : tie.Need-get-requires
 get-requires c κs = search needs
 
@@ -24,7 +22,7 @@ cast-result c = search needs
 returns : tie.Need-returns
 unfolding statementAt
 returns c =
-    c .get .ensures .0 ∙ ap (λ (at : ℕ). number (c .before .before .args .store .now) at 4) (sym (add-zero (placeOf statementTable (c .before .before .args .i))))
+    c .get .ensures .0
 
 pub view-at-spec : {M : Type 1} → statement M
-view-at-spec = tie.close (tie.spec mul-get add-get get-requires cast-result returns)
+view-at-spec = tie.close (tie.spec mul-get add-get add-get-2 get-requires cast-result returns)
