@@ -1,0 +1,9 @@
+pub mod Readers
+pub mod Order
+pub mod Pigeon
+pub mod Joining
+pub mod Walks
+pub mod Voting
+pub mod Places
+pub mod Course
+pub mod Ticks

@@ -1,0 +1,167 @@
+-- The due statements of a tick from a store, and the log that the tick leaves. Assumes nothing.
+use Prim.Native.Nat.{ℕ, _+_, _-_, _*_, _^_, _<_, _≤_}
+use mathlib.Core.Path.{_≡_, refl, sym, ap, ap₂, _∙_}
+use mathlib.Core.Bool.{Bool, true, false, not, _&&_}
+use mathlib.Core.List.{List, [], _∷_, _++_, append-nil}
+use mathlib.Core.Option.{Option, none, some}
+use native.Mathlib.Omega.{arith}
+use native.Mathlib.Nat.{zero-add}
+use lib.Dec.{leb}
+use lib.ListN.{length}
+use borrow.Author.Tests.{leb-true}
+use Rattle.rules.specs.Limits.{mostStatements, mostTallies}
+use Rattle.rules.specs.Lists.{keep, sorted, all, distinct}
+use Rattle.rules.specs.Sizes.{Settings, goodSettings}
+use Rattle.rules.specs.Messages.{propose, viewAllowed, blockAllowed, maskAllowed, allowed}
+use Rattle.rules.specs.Words.{Statement, message, Phase, inView, waiting, stopped, State, sameStatement, sameBlock}
+use Rattle.rules.specs.Inputs.{withClock, isIn, isDue, due, commits}
+use Rattle.rules.specs.WellFormed.{isName, wellFormed, clocksInOrder, lockGood, statementGood, tallyGood, talliesThere, blamesGood, linked}
+use Rattle.rules.proofs.Tests.{by-bool, and-left, and-right}
+use Rattle.fields.specs.Places.{Bytes}
+use Rattle.fields.specs.Records.{fields}
+use Rattle.fields.proofs.Laws.{number-lt}
+use Rattle.store.specs.Layout.{headerFormat, statementTable, logTable, countOf}
+use Rattle.store.specs.Meaning.{headerOf}
+use Rattle.store.specs.declared.Station.{Station}
+use Rattle.store.proofs.Loaded.{loaded-settings}
+use Rattle.store.specs.Decode.{nth, rows, statementAt, statements, nameAt, names, stateFrom, stateOf}
+use Rattle.store.proofs.Rows.{rows-same, rows-append, rows-all}
+use Rattle.commit.specs.Chains.{nameIn, nameSoFar, isRipe}
+use Rattle.commit.specs.Outcome.{tickLog, Joined, Committed}
+use Rattle.commit.specs.declared.Merged.{Merged}
+use Rattle.commit.specs.declared.Merged.the-variants.{Grown, Differs}
+use Rattle.commit.proofs.Order.{any-order}
+use Rattle.commit.proofs.Places.{so-far-old, so-far-new}
+
+-- ---- what is due
+
+keep-same : {A : Type 0} (p q : A → Bool) → ((x : A) → p x ≡ q x) → (xs : List A) → keep p xs ≡ keep q xs
+unfolding keep
+keep-same p q e [] = refl
+keep-same p q e (x ∷ xs) =
+    by-bool (q x) (λ t. rw (e x ∙ t, t, keep) (ap (x ∷_) (keep-same p q e xs))) (λ t. rw (e x ∙ t, t, keep) (keep-same p q e xs))
+
+keep-none : {A : Type 0} (p : A → Bool) → ((x : A) → p x ≡ false) → (xs : List A) → keep p xs ≡ []
+unfolding keep
+keep-none p e [] = refl
+keep-none p e (x ∷ xs) = rw (e x, keep) (keep-none p e xs)
+
+is-out : (s : State) (v : ℕ) → (s .phase ≡ inView → ⊥) → isIn v s ≡ false
+unfolding isIn
+is-out s v d = go (s .phase) refl
+  where
+    go : (p : Phase) → s .phase ≡ p → isIn v s ≡ false
+    go inView e = absurd (d e)
+    go (waiting q) e = rw (e, isIn)
+    go (stopped c) e = rw (e, isIn)
+
+middle : (a c : Bool) → (a && false && c) ≡ false
+middle true c = refl
+middle false c = refl
+
+module _ (s : State) where
+  -- in a view, the due ones in any order
+  pub due-in : s .phase ≡ inView
+      → commits (s .statements) (due s) (s .log) ≡ commits (s .statements) (keep (isRipe (s .view) (2 * s .settings .D) (s .clock)) (s .statements)) (s .log)
+  unfolding due isDue isIn isRipe
+  due-in e =
+      any-order (s .statements) (λ x. x .height) (keep (isDue s) (s .statements)) (s .log)
+      ∙ ap (λ (ys : List Statement). commits (s .statements) ys (s .log))
+      (keep-same (isDue s) (isRipe (s .view) (2 * s .settings .D) (s .clock)) (λ x. rw (e, isIn)) (s .statements))
+
+  -- else none
+  pub due-out : (s .phase ≡ inView → ⊥) → commits (s .statements) (due s) (s .log) ≡ some (s .log)
+  unfolding due sorted commits isDue
+  due-out d =
+      ap (λ (ys : List Statement). commits (s .statements) (sorted (λ x. x .height) ys) (s .log))
+      (keep-none (isDue s) (λ x. rw (is-out s (x .view) d) (middle (not (x .isNewView)) _)) (s .statements))
+
+-- ---- the tick's log
+
+module _ (b : List ℕ) where
+  pub tick-in : stateOf b .phase ≡ inView → (view wait clock : ℕ) → view ≡ stateOf b .view → wait ≡ 2 * stateOf b .settings .D → clock ≡ stateOf b .clock + 1
+      → commits (statements b) (keep (isRipe view wait clock) (statements b)) (names b) ≡ tickLog b
+  unfolding tickLog withClock stateOf stateFrom
+  tick-in e view wait clock v w c =
+      (λ k. commits (statements b) (keep (isRipe (v k) (w k) (c k)) (statements b)) (names b)) ∙ sym (due-in (withClock (stateOf b .clock + 1) (stateOf b)) e)
+
+  pub tick-out : (stateOf b .phase ≡ inView → ⊥) → tickLog b ≡ some (names b)
+  unfolding tickLog withClock stateOf stateFrom
+  tick-out d = due-out (withClock (stateOf b .clock + 1) (stateOf b)) d
+
+  -- nothing is gained
+  pub gained-none : (t : List ℕ) (n : ℕ) → n ≡ countOf logTable b → countOf logTable b ≤ mostStatements → tickLog b ≡ some (names b) → Committed b t (Grown n)
+  unfolding rows
+  gained-none t n e l q =
+      let z : n - countOf logTable b ≡ 0 = omega arith in
+      record {
+        is = q ∙ ap some (sym (append-nil (names b))) ∙ ap (λ (k : ℕ). some (names b ++ rows (nameIn b t) (countOf logTable b) k)) (sym z);
+        more = omega arith;
+        fits = omega arith;
+        stored = λ k u v. absurd (omega arith);
+      }
+
+  -- the log so far, parted where the old one ends
+  parted : (t : List ℕ) (n : ℕ) → countOf logTable b ≤ n → rows (nameSoFar b t) 0 n ≡ names b ++ rows (nameIn b t) (countOf logTable b) (n - countOf logTable b)
+  unfolding names
+  parted t n l =
+      let old = countOf logTable b in
+      let z : n ≡ old + (n - old) = omega arith in
+      ap (rows (nameSoFar b t) 0) z ∙ rows-append (nameSoFar b t) 0 old (n - old)
+      ∙ ap₂ _++_ (rows-same (nameSoFar b t) (nameAt b) 0 old (λ k u v. so-far-old b t k (omega arith)))
+      (ap (λ (k : ℕ). rows (nameSoFar b t) k (n - old)) (zero-add old)
+      ∙ rows-same (nameSoFar b t) (nameIn b t) old (n - old) (λ k u v. so-far-new b t k u))
+
+  pub gained : (o : Option (List ℕ)) → o ≡ tickLog b → (t : List ℕ) (r : Merged) → Joined o b t r → Committed b t r
+  gained o e t (Grown n) g =
+      record { is = sym e ∙ g .is ∙ ap some (parted t n (g .more)); more = g .more; fits = g .fits; stored = g .stored }
+  gained o e t Differs g = sym e ∙ g
+
+-- ---- a propose has height at least 1
+
+sixth-last : (a x b c d e f g : Bool) → (a && x && b && c && d && e && f && g) ≡ true → x ≡ true
+sixth-last a x b c d e f g q =
+    and-right a x (and-left (a && x) b (and-left (a && x && b) c (and-left (a && x && b && c) d (and-left (a && x && b && c && d) e
+    (and-left (a && x && b && c && d && e) f (and-left (a && x && b && c && d && e && f) g q))))))
+
+all-good : (s : State) → wellFormed s ≡ true → all (statementGood s) (s .statements) ≡ true
+unfolding wellFormed
+all-good s =
+    sixth-last
+    (goodSettings (s .settings) && viewAllowed (s .view) && clocksInOrder s && lockGood s && leb (length (s .statements)) mostStatements
+    && leb (length (s .tallies)) mostTallies)
+    (all (statementGood s) (s .statements)) (distinct sameStatement (s .statements)) (all (tallyGood (s .settings)) (s .tallies)) (distinct sameBlock (s .tallies))
+    (all (talliesThere (s .tallies)) (s .statements)) (blamesGood (s .settings) (s .blames)) (linked (s .statements) 0 0 (s .log))
+
+propose-high : (s : State) (x : Statement) → statementGood s x ≡ true → x .isNewView ≡ false → 1 ≤ x .height
+unfolding statementGood message allowed
+propose-high s x e q =
+    let g = s .settings in
+    let a = allowed g (message x) in
+    let n = isName (x .name) in
+    let l = isName (x .link) in
+    let m : message x ≡ propose (x .view) (x .height) (x .name) (x .link) (x .mask) (x .author) = rw (q, message) in
+    let f = ap (allowed g) (sym m) ∙ and-left a n (and-left (a && n) l (and-left (a && n && l) _ e)) in
+    let v = viewAllowed (x .view) in
+    let h = leb 1 (x .height) in
+    let b = blockAllowed (x .height) (x .name) in
+    let p = blockAllowed (x .height - 1) (x .link) in
+    leb-true 1 (x .height)
+    (and-right v h (and-left (v && h) b (and-left (v && h && b) p (and-left (v && h && b && p) (maskAllowed g (x .mask)) (and-left (v && h && b && p && maskAllowed g (x .mask)) _ f)))))
+
+pub heights : (b : List ℕ) → wellFormed (stateOf b) ≡ true → (count : ℕ) → count ≡ countOf statementTable b → (i : ℕ) → i < count → statementAt b i .isNewView ≡ false
+    → 1 ≤ statementAt b i .height
+unfolding stateOf stateFrom statements
+heights b w count e i l =
+    propose-high (stateOf b) (statementAt b i)
+    (rows-all (statementGood (stateOf b)) (statementAt b) 0 (countOf statementTable b) (all-good (stateOf b) w) i (omega arith) (omega arith))
+
+-- ---- a loaded delay
+
+module _ (s : Station) (b : List ℕ) (e : headerOf s ≡ fields b 0 headerFormat) where
+  pub delay-is : 2 * s .settings .delay ≡ 2 * stateOf b .settings .D
+  delay-is = ap (λ (g : Settings). 2 * g .D) (loaded-settings s b e)
+
+  pub delay-short : Bytes b → s .settings .delay < 256 ^ 2
+  unfolding headerOf
+  delay-short k = omega (arith, ap (λ (vs : List ℕ). nth vs 2) e, number-lt b k (0 + 5) 2)

@@ -1,0 +1,65 @@
+-- `commit::copy_places` meets its contract. The invariant: the places from `start` up to k are copied. The measure is what is left. Assumes nothing.
+use Rattle.commit.proofs.Places.{copied-none, copied-next, copied-end}
+use Rattle.commit.specs.Chains.{Copied}
+use lib.ListN.{length, length-set}
+use mathlib.Core.Path.{_≡_, refl}
+use native.Mathlib.Omega.{arith}
+use Prim.Native.Nat.{_≤_, _-_}
+use Rattle.commit.proofs.copy_places.Statement.{statement}
+use Rattle.commit.proofs.copy_places.Tie as tie
+
+abbrev Inv-loop : tie.InvT-loop
+Inv-loop from to₀ start end k₀ to k =
+    (start ≤ k) × (length to ≡ length to₀) × Copied from to₀ to start k
+
+abbrev μ-loop : tie.MeasureT-loop
+μ-loop from to₀ start end k₀ to k =
+    end - k
+
+loop-holds : tie.Need-loop-holds Inv-loop μ-loop
+loop-holds c =
+    (omega arith, refl, copied-none _ _ _)
+
+shared-slice-read-to : tie.Need-shared-slice-read-to Inv-loop μ-loop
+shared-slice-read-to c =
+    omega (arith, c .before .before .before .pre .0)
+
+slice-write-to : tie.Need-slice-write-to Inv-loop μ-loop
+slice-write-to c =
+    omega (arith, c .before .before .before .pre .1, c .before .before .loop .inv .1)
+
+add-k : tie.Need-add-k Inv-loop μ-loop
+add-k c =
+    omega (arith, c .before .before .before .pre .0)
+
+loop-less : tie.Need-loop-less Inv-loop μ-loop
+loop-less c =
+    omega arith
+
+loop-again : tie.Need-loop-again Inv-loop μ-loop
+loop-again c =
+    let inv = c .before .before .loop .inv in
+    (omega (arith, inv .0), simp length-set (inv .1), copied-next _ _ _ (c .before .before .loop .to) (c .before .before .loop .k) (inv .0) (omega (arith, c .before .before .before .pre .1, inv .1)) (inv .2))
+
+same-length : tie.Need-same-length Inv-loop μ-loop
+same-length c =
+    c .before .loop .inv .1
+
+returns : tie.Need-returns Inv-loop μ-loop
+returns c =
+    copied-end _ _ _ _ (c .before .loop .k) _ (omega arith) (c .before .loop .inv .2)
+
+pub copy-places-spec : {M : Type 1} → statement M
+copy-places-spec =
+    tie.close
+    (tie.spec
+    Inv-loop
+    μ-loop
+    loop-holds
+    shared-slice-read-to
+    slice-write-to
+    add-k
+    loop-less
+    loop-again
+    same-length
+    returns)
