@@ -12,7 +12,7 @@ use Rattle.rules.specs.Words.{Statement, conflict, Tally, sameBlock, voters}
 use Rattle.rules.specs.Inputs.{pair}
 use Rattle.rules.proofs.Tests.{by-bool}
 use Rattle.store.specs.Decode.{rows}
-use Rattle.store.specs.Search.{firstFrom}
+use Rattle.store.specs.Changes.{firstFrom}
 use Rattle.store.specs.declared.Found.{Found}
 use Rattle.store.specs.declared.Found.the-variants.{At, Nothing}
 use Rattle.store.proofs.Rows.{rows-from}

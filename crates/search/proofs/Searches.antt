@@ -10,7 +10,7 @@ use Rattle.rules.proofs.Tests.{by-bool}
 use Rattle.store.specs.Decode.{rows}
 use Rattle.store.specs.declared.Found.{Found}
 use Rattle.store.proofs.Rows.{rows-from}
-use Rattle.store.specs.Search.{firstFrom}
+use Rattle.store.specs.Changes.{firstFrom}
 use Rattle.search.specs.Finds.{Finds}
 
 module _ {A : Type 0} (f : ℕ → A) (n : ℕ) where
