@@ -58,7 +58,7 @@ module _ (x : Statement) (s : State) where
 
 -- ---- a new one
 
-same-self : (x : Statement) → sameStatement x x ≡ true
+pub same-self : (x : Statement) → sameStatement x x ≡ true
 unfolding sameStatement iff
 same-self x =
     rw (eqb-self (x .view), eqb-self (x .height), eqb-self (x .name), eqb-self (x .link), eqb-self (x .author))

@@ -4,3 +4,5 @@ pub mod Rooms
 pub mod Answers
 pub mod Blames
 pub mod Places
+pub mod Votes
+pub mod Statements

@@ -132,3 +132,99 @@ pub fn tallied(store: &mut [u8], tally: Tally)
 {
     store::join_certificate(store, tally);
 }
+
+// Sends two statements to all, the earlier first, and quits.
+pub fn quit_with_pair(store: &mut [u8], out: &mut [u8], at: usize, first: Statement, second: Statement) -> usize
+    requires { ⌜ (Formed (now store)) × (Linked first) × (Linked second) × (at + 200 ≤ length (now out)) ⌝ }
+    ensures { λ r. ⌜ Works (inputs.quit (toAll (said (statementOf first none)) ∷ toAll (said (statementOf second none)) ∷ []) (stateOf (now (store .entry)))) (now (out .entry)) at (now (store .exit)) (now (out .exit)) r ⌝ }
+{
+    quit(store);
+    send_both(out, at, Message::Stated(first), Message::Stated(second))
+}
+
+// Votes for the statement at a place, unless its certificate ranks below the lock.
+pub fn voting(store: &mut [u8], out: &mut [u8], at: usize, place: usize, x: Statement) -> usize
+    requires { ⌜ (Formed (now store)) × (Stands (now store) place x) × (at + 160 ≤ length (now out)) ⌝ }
+    ensures { λ r. ⌜ Works (inputs.voting (statementOf x none) (stateOf (now (store .entry)))) (now (out .entry)) at (now (store .exit)) (now (out .exit)) r ⌝ }
+{
+    let station = Station::load(store);
+    let lock = station.lock;
+    if search::below_lock(x, lock) {
+        return at;
+    }
+    let settings = station.settings;
+    let own = settings.own;
+    store::note_vote(store, place, station.clock);
+    store::join_tally(store, search::own_block(x, settings::only(own) as u16));
+    let name = x.name;
+    let vote = Message::Vote {
+        view: x.view,
+        height: x.height,
+        name,
+        author: own as u8,
+    };
+    send_both(out, at, Message::Stated(x), vote)
+}
+
+// Whether a statement fits.
+pub fn statement_fits(store: &[u8], x: Statement) -> bool
+    requires { ⌜ (Formed (now store)) × (Sendable (stateOf (now store) .settings) (said (statementOf x none))) ⌝ }
+    ensures { λ r. ⌜ r ≡ hasRoom (inputs.statement (statementOf x none) (stateOf (now (store .entry))) .now) ⌝ }
+{
+    match store::find_statement(store, x) {
+        Found::At(_) => true,
+        Found::Nothing => {
+            let station = Station::load(store);
+            let certified = certificate_missing(store, search::certificate(x));
+            let needed = certified + missing(store, search::own_block(x, 0));
+            (station.statements < Settings::MOST_STATEMENTS)
+                & (station.tallies + needed <= Settings::MOST_TALLIES)
+        }
+    }
+}
+
+// A new statement is stored, and the tallies of its two blocks are opened.
+fn store_new(store: &mut [u8], x: Statement)
+    requires { ⌜ (Form (now store)) × (Certifies (statementOf x none)) × (hasRoom (inputs.stored (statementOf x none) (stateOf (now store))) ≡ true) ⌝ }
+    ensures { λ _. ⌜ Left (now (store .exit)) (inputs.stored (statementOf x none) (stateOf (now (store .entry)))) ⌝ }
+{
+    store::join_certificate(store, search::certificate(x));
+    store::join_tally(store, search::own_block(x, 0));
+    store::append_statement(store, x);
+}
+
+// What a statement that was just stored makes the station do: nothing outside its view, else quit on a conflict, or vote.
+fn answer(store: &mut [u8], out: &mut [u8], at: usize, place: usize, x: Statement) -> usize
+    requires { ⌜ (Formed (now store)) × (Stands (now store) place x) × (at + 200 ≤ length (now out)) ⌝ }
+    ensures { λ r. ⌜ Works (answered (statementOf x none) (stateOf (now (store .entry)))) (now (out .entry)) at (now (store .exit)) (now (out .exit)) r ⌝ }
+{
+    if !is_in(store, x.view) {
+        return at;
+    }
+    match search::find_conflict(store, x) {
+        Found::At(i) => {
+            let earlier = store::statement_at(store, i);
+            quit_with_pair(store, out, at, earlier, x)
+        }
+        Found::Nothing => voting(store, out, at, place, x),
+    }
+}
+
+// A statement that fits: a repeat joins its certificate, a new one is stored and answered.
+pub fn statement(store: &mut [u8], out: &mut [u8], at: usize, x: Statement) -> usize
+    requires { ⌜ (Formed (now store)) × (Sendable (stateOf (now store) .settings) (said (statementOf x none))) × (hasRoom (inputs.statement (statementOf x none) (stateOf (now store)) .now) ≡ true) × (at + 200 ≤ length (now out)) ⌝ }
+    ensures { λ r. ⌜ Works (inputs.statement (statementOf x none) (stateOf (now (store .entry)))) (now (out .entry)) at (now (store .exit)) (now (out .exit)) r ⌝ }
+{
+    match store::find_statement(store, x) {
+        Found::At(_) => {
+            store::join_certificate(store, search::certificate(x));
+            at
+        }
+        Found::Nothing => {
+            let station = Station::load(store);
+            let place = station.statements;
+            store_new(store, x);
+            answer(store, out, at, place, x)
+        }
+    }
+}

@@ -1,0 +1,57 @@
+-- A vote: below the lock nothing is said; else the statement, then the vote. Assumes nothing.
+use Prim.Native.Nat.{ℕ, _^_, _<_}
+use mathlib.Core.Path.{_≡_, refl, sym, ap, _∙_}
+use mathlib.Core.Bool.{true, false}
+use mathlib.Core.List.{List, [], _∷_}
+use mathlib.Core.Option.{none}
+use native.Mathlib.Omega.{arith}
+use Rattle.rules.specs.Limits.{maskBits}
+use Rattle.rules.specs.Sizes as sizes
+use Rattle.rules.specs.Sizes.{only}
+use Rattle.rules.specs.Messages.{Effect, toAll}
+use Rattle.rules.specs.Words.{Statement, Tally, State}
+use Rattle.rules.specs.Inputs.{Work, saying, belowLock, votedFor, ballot, voting}
+use Rattle.fields.specs.Records.{fields}
+use Rattle.wire.specs.Meaning.{statementOf, messageOf}
+use Rattle.wire.specs.declared.Statement as code
+use Rattle.wire.specs.declared.Message.the-variants.{Stated, Vote}
+use Rattle.store.specs.Layout.{headerFormat}
+use Rattle.store.specs.Decode.{stateOf}
+use Rattle.store.specs.Meaning.{tallyOf, headerOf}
+use Rattle.store.specs.declared.Station.{Station}
+use Rattle.store.proofs.Loaded.{loaded-settings, loaded-lock}
+use Rattle.search.specs.Lookups.{ranksBelow}
+use Rattle.search.proofs.Statements.{lock-is}
+use Rattle.kept.proofs.Allowed.{only-lt, mask-small}
+use Rattle.kept.proofs.Facts.{sizes-of}
+use Rattle.acts.specs.Works.{Formed}
+use Rattle.acts.proofs.Works.{formed-parts}
+
+module _ (x : Statement) (s : State) where
+  pub voting-below : belowLock x s ≡ true → saying s [] ≡ voting x s
+  unfolding voting
+  voting-below q = rw (q, voting)
+
+  pub voting-cast : belowLock x s ≡ false → saying (votedFor x s) (ballot x s) ≡ voting x s
+  unfolding voting
+  voting-cast q = rw (q, voting)
+
+pub ballot-is : (x : code.Statement) (s : State) (own : ℕ) → own ≡ s .settings .own
+    → _≡_ {A = List Effect} (toAll (messageOf (Stated x)) ∷ toAll (messageOf (Vote (x .view) (x .height) (x .name) own)) ∷ []) (ballot (statementOf x none) s)
+unfolding messageOf ballot statementOf
+ballot-is x s own e = rw e
+
+module _ {b : List ℕ} (k : Formed b) (s : Station) (e : headerOf s ≡ fields b 0 headerFormat) where
+  pub loaded-own : s .settings .own ≡ stateOf b .settings .own
+  loaded-own = ap (λ (g : sizes.Settings). g .own) (loaded-settings s b e)
+
+  pub own-small : s .settings .own < maskBits
+  own-small = let z = sizes-of (formed-parts k .formed) in omega (arith, loaded-own)
+
+  pub only-small : only (s .settings .own) < 2 ^ maskBits
+  only-small =
+      let z = sizes-of (formed-parts k .formed) in
+      omega (arith, ap only loaded-own, mask-small z (only-lt (stateOf b .settings) (stateOf b .settings .own) (z .own)))
+
+  pub loaded-below : (x : Statement) → ranksBelow x (tallyOf (s .lock)) ≡ belowLock x (stateOf b)
+  loaded-below x = ap (ranksBelow x) (loaded-lock s b e) ∙ sym (lock-is x (stateOf b))
