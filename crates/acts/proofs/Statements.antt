@@ -23,7 +23,7 @@ use Rattle.store.specs.declared.Found.{Found}
 use Rattle.store.specs.declared.Found.the-variants.{At, Nothing}
 use Rattle.store.proofs.Rows.{rows-at}
 use Rattle.store.proofs.Searches.{found-any, missing-any}
-use Rattle.search.specs.Finds.{findFrom, foundIn, Inside, Finds}
+use Rattle.search.specs.Finds.{foundIn, Inside, Finds}
 use Rattle.search.proofs.Searches.{found-first}
 use Rattle.kept.specs.Said.{Sendable}
 use Rattle.acts.specs.Answers.{answered, Stands}
@@ -47,7 +47,7 @@ module _ (b : List ℕ) (x : Statement) (r : Found) where
     unfolding stateOf stateFrom statements
     is-new q = missing-any (sameStatement x) (statementAt b) n r e q
 
-  module _ (e : r ≡ findFrom (conflict x) 0 (statements b)) where
+  module _ (e : r ≡ firstFrom (conflict x) 0 (statements b)) where
     found : Finds (statementAt b) (0 + n) (first (conflict x) (stateOf b .statements)) r
     unfolding stateOf stateFrom statements
     found = rw e (found-first (statementAt b) (conflict x) 0 n)
