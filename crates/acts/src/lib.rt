@@ -134,7 +134,13 @@ pub fn tallied(store: &mut [u8], tally: Tally)
 }
 
 // Sends two statements to all, the earlier first, and quits.
-pub fn quit_with_pair(store: &mut [u8], out: &mut [u8], at: usize, first: Statement, second: Statement) -> usize
+pub fn quit_with_pair(
+    store: &mut [u8],
+    out: &mut [u8],
+    at: usize,
+    first: Statement,
+    second: Statement,
+) -> usize
     requires { ⌜ (Formed (now store)) × (Linked first) × (Linked second) × (at + 200 ≤ length (now out)) ⌝ }
     ensures { λ r. ⌜ Works (inputs.quit (toAll (said (statementOf first none)) ∷ toAll (said (statementOf second none)) ∷ []) (stateOf (now (store .entry)))) (now (out .entry)) at (now (store .exit)) (now (out .exit)) r ⌝ }
 {

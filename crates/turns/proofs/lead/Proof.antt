@@ -1,0 +1,53 @@
+use borrow.Author.Needs.{needs}
+use Rattle.turns.proofs.lead.Statement.{statement}
+use Rattle.turns.proofs.lead.Tie as tie
+use Rattle.turns.proofs.lead.Reads as reads
+use Rattle.turns.proofs.lead.Lts as lts
+use Rattle.acts.proofs.statement.Reads as statement-reads
+use Rattle.turns.proofs.leads_now.Reads as leads-now-reads
+use Rattle.turns.proofs.own_new_view.Reads as own-new-view-reads
+
+-- src/lib.rt:164:9
+leads-now-requires : tie.Need-leads-now-requires
+leads-now-requires c κs = search needs
+
+-- src/lib.rt:165:9
+same-length : tie.Need-same-length
+same-length c = search needs
+
+-- src/lib.rt:165:9
+returns : tie.Need-returns
+returns c = ?
+
+-- src/lib.rt:167:9
+own-new-view-requires : tie.Need-own-new-view-requires
+own-new-view-requires c κs = ?
+
+-- src/lib.rt:168:5
+statement-requires : tie.Need-statement-requires
+statement-requires c κs = ?
+
+-- src/lib.rt:160:1
+same-length-2 : tie.Need-same-length-2
+same-length-2 c = search needs
+
+-- src/lib.rt:160:1
+same-length-3 : tie.Need-same-length-3
+same-length-3 c = search needs
+
+-- src/lib.rt:160:1
+returns-2 : tie.Need-returns-2
+returns-2 c = ?
+
+pub lead-spec : {M : Type 1} → statement M
+lead-spec =
+    tie.close
+    (tie.spec
+    leads-now-requires
+    same-length
+    returns
+    own-new-view-requires
+    statement-requires
+    same-length-2
+    same-length-3
+    returns-2)

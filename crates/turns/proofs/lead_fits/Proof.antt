@@ -1,0 +1,33 @@
+use borrow.Author.Needs.{needs}
+use Rattle.turns.proofs.lead_fits.Statement.{statement}
+use Rattle.turns.proofs.lead_fits.Tie as tie
+use Rattle.turns.proofs.lead_fits.Reads as reads
+use Rattle.turns.proofs.lead_fits.Lts as lts
+use Rattle.acts.proofs.statement_fits.Reads as statement-fits-reads
+use Rattle.turns.proofs.leads_now.Reads as leads-now-reads
+use Rattle.turns.proofs.own_new_view.Reads as own-new-view-reads
+
+-- src/lib.rt:152:9
+leads-now-requires : tie.Need-leads-now-requires
+leads-now-requires c κs = search needs
+
+-- src/lib.rt:153:9
+returns : tie.Need-returns
+returns c = ?
+
+-- src/lib.rt:155:9
+own-new-view-requires : tie.Need-own-new-view-requires
+own-new-view-requires c κs = ?
+
+-- src/lib.rt:156:5
+statement-fits-requires : tie.Need-statement-fits-requires
+statement-fits-requires c κs = search needs
+
+-- src/lib.rt:148:1
+returns-2 : tie.Need-returns-2
+returns-2 c = ?
+
+pub lead-fits-spec : {M : Type 1} → statement M
+lead-fits-spec =
+    tie.close
+    (tie.spec leads-now-requires returns own-new-view-requires statement-fits-requires returns-2)

@@ -1,0 +1,30 @@
+use borrow.Author.Needs.{needs}
+use Rattle.turns.proofs.own_new_view.Statement.{statement}
+use Rattle.turns.proofs.own_new_view.Tie as tie
+use Rattle.turns.proofs.own_new_view.Reads as reads
+use Rattle.turns.proofs.own_new_view.Lts as lts
+use Rattle.search.proofs.highest.Reads as highest-reads
+use Rattle.store.proofs.Station.load.Reads as load-reads
+
+-- src/lib.rt:126:9
+load-requires : tie.Need-load-requires
+load-requires c κs = ?
+
+-- src/lib.rt:128:9
+highest-requires : tie.Need-highest-requires
+highest-requires c κs = search needs
+
+-- src/lib.rt:134:17
+cast-t7 : tie.Need-cast-t7
+cast-t7 c = search needs
+
+-- src/lib.rt:143:17
+cast-t8 : tie.Need-cast-t8
+cast-t8 c = ?
+
+-- src/lib.rt:122:1
+returns : tie.Need-returns
+returns c = ?
+
+pub own-new-view-spec : {M : Type 1} → statement M
+own-new-view-spec = tie.close (tie.spec load-requires highest-requires cast-t7 cast-t8 returns)
