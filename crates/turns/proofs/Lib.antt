@@ -1,2 +1,4 @@
 pub mod Moments
 pub mod Parts
+pub mod Leading
+pub mod Entering

@@ -1,3 +1,7 @@
+use Rattle.turns.proofs.Leading.{made-is, made-sendable}
+use Rattle.store.proofs.Forms.{form-long}
+use native.Mathlib.Omega.{arith}
+use Rattle.acts.proofs.Votes.{own-small}
 use borrow.Author.Needs.{needs}
 use Rattle.turns.proofs.own_new_view.Statement.{statement}
 use Rattle.turns.proofs.own_new_view.Tie as tie
@@ -8,7 +12,8 @@ use Rattle.store.proofs.Station.load.Reads as load-reads
 
 -- src/lib.rt:126:9
 load-requires : tie.Need-load-requires
-load-requires c κs = ?
+load-requires c κs =
+    form-long _ (c .before .pre .0 .form)
 
 -- src/lib.rt:128:9
 highest-requires : tie.Need-highest-requires
@@ -20,11 +25,15 @@ cast-t7 c = search needs
 
 -- src/lib.rt:143:17
 cast-t8 : tie.Need-cast-t8
-cast-t8 c = ?
+cast-t8 c =
+    record { fits = omega (arith, own-small (c .before .before .before .before .before .before .before .pre .0) (c .before .before .before .before .before .load .result) (c .before .before .before .before .before .load .ensures)) }
 
 -- src/lib.rt:122:1
 returns : tie.Need-returns
-returns c = ?
+returns c =
+    let k = c .before .before .before .before .before .before .before .pre .0 in
+    let t = c .before .before .before .highest in
+    (made-is k (c .before .before .before .before .before .load .result) (c .before .before .before .before .before .load .ensures) (t .result) (t .ensures), made-sendable k (c .before .before .before .before .before .load .result) (c .before .before .before .before .before .load .ensures) (t .result) (t .ensures) (c .before .before .before .before .before .before .before .pre .1))
 
 pub own-new-view-spec : {M : Type 1} → statement M
 own-new-view-spec = tie.close (tie.spec load-requires highest-requires cast-t7 cast-t8 returns)
