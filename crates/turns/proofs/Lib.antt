@@ -2,3 +2,4 @@ pub mod Moments
 pub mod Parts
 pub mod Leading
 pub mod Entering
+pub mod Names
