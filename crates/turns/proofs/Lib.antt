@@ -3,3 +3,4 @@ pub mod Parts
 pub mod Leading
 pub mod Entering
 pub mod Names
+pub mod Ballots

@@ -17,10 +17,11 @@ ghost use Rattle.rules.specs.Refusals.{hasRoom};
 ghost use Rattle.wire.specs.Meaning.{statementOf};
 ghost use Rattle.store.specs.Layout.{logTable, statementTable, countOf};
 ghost use Rattle.store.specs.Decode.{rows, names};
-ghost use Rattle.search.specs.Orders.{standing, placeAt};
+ghost use Rattle.search.specs.Orders.{standing};
 ghost use Rattle.commit.specs.Chains.{nameIn, Stored};
 ghost use Rattle.kept.specs.Said.{Sendable};
 ghost use Rattle.turns.specs.Gains.{grownLog, Enough};
+ghost use Rattle.turns.specs.Ballots.{Listed};
 use fields::Name;
 use search::Pair;
 use settings::Settings;
@@ -208,4 +209,55 @@ pub fn logging(store: &mut [u8], out: &mut [u8], at: usize, gained: &[u8], len: 
         k += 1;
     }
     next
+}
+
+// Votes on the statements whose places stand in a table, in its order.
+fn vote_in_order(store: &mut [u8], out: &mut [u8], at: usize, order: &[u8], count: usize) -> usize
+    requires { ⌜ Listed (now store) (now order) count at (length (now out)) ⌝ }
+    ensures { λ r. ⌜ Works (inputs.votingAll (rows (standing (now (store .entry)) (now (order .entry))) 0 count) (stateOf (now (store .entry)))) (now (out .entry)) at (now (store .exit)) (now (out .exit)) r ⌝ }
+{
+    let mut j: usize = 0;
+    let mut next = at;
+    while j < count {
+        let place = order[j] as usize;
+        let x = store::statement_at(store, place);
+        next = acts::voting(store, out, next, place, x);
+        j += 1;
+    }
+    next
+}
+
+// What the station finds in the view that it entered: a full blame mask or a conflict, and quits, or statements to vote on.
+fn arrive(store: &mut [u8], out: &mut [u8], at: usize, order: &mut [u8]) -> usize
+    requires { ⌜ (Formed (now store)) × (at + 160 * mostStatements ≤ length (now out)) × (mostStatements ≤ length (now order)) ⌝ }
+    ensures { λ r. ⌜ Works (inputs.arrive (stateOf (now (store .entry)))) (now (out .entry)) at (now (store .exit)) (now (out .exit)) r ⌝ }
+{
+    let station = Station::load(store);
+    let view = station.view;
+    if acts::blame_full(store, view) {
+        return acts::quit_with_set(store, out, at, view);
+    }
+    match search::find_pair(store, view) {
+        Pair::At(i, j) => {
+            let earlier = store::statement_at(store, i);
+            let later = store::statement_at(store, j);
+            acts::quit_with_pair(store, out, at, earlier, later)
+        }
+        Pair::Nothing => {
+            let count = search::in_order(store, view, order);
+            vote_in_order(store, out, at, order, count)
+        }
+    }
+}
+
+// A waiting station whose wait is over enters the next view.
+pub fn enter(store: &mut [u8], out: &mut [u8], at: usize, order: &mut [u8]) -> usize
+    requires { ⌜ (Formed (now store)) × (at + 62 + 160 * mostStatements ≤ length (now out)) × (mostStatements ≤ length (now order)) ⌝ }
+    ensures { λ r. ⌜ Works (inputs.enter (stateOf (now (store .entry)))) (now (out .entry)) at (now (store .exit)) (now (out .exit)) r ⌝ }
+{
+    if !enters_now(store) {
+        return at;
+    }
+    let next = entered(store, out, at);
+    arrive(store, out, next, order)
 }

@@ -1,0 +1,123 @@
+use borrow.Author.Needs.{needs}
+use Rattle.turns.proofs.arrive.Statement.{statement}
+use Rattle.turns.proofs.arrive.Tie as tie
+use Rattle.turns.proofs.arrive.Reads as reads
+use Rattle.turns.proofs.arrive.Lts as lts
+use Rattle.acts.proofs.blame_full.Reads as blame-full-reads
+use Rattle.acts.proofs.quit_with_pair.Reads as quit-with-pair-reads
+use Rattle.acts.proofs.quit_with_set.Reads as quit-with-set-reads
+use Rattle.search.proofs.find_pair.Reads as find-pair-reads
+use Rattle.search.proofs.in_order.Reads as in-order-reads
+use Rattle.store.proofs.Station.load.Reads as load-reads
+use Rattle.store.proofs.statement_at.Reads as statement-at-reads
+use Rattle.turns.proofs.vote_in_order.Reads as vote-in-order-reads
+
+-- src/lib.rt:235:9
+load-requires : tie.Need-load-requires
+load-requires c κs = ?
+
+-- src/lib.rt:237:8
+blame-full-requires : tie.Need-blame-full-requires
+blame-full-requires c κs = ?
+
+-- src/lib.rt:238:9
+quit-with-set-requires : tie.Need-quit-with-set-requires
+quit-with-set-requires c κs = ?
+
+-- src/lib.rt:238:9
+same-length : tie.Need-same-length
+same-length c = search needs
+
+-- src/lib.rt:238:9
+same-length-2 : tie.Need-same-length-2
+same-length-2 c = search needs
+
+-- src/lib.rt:238:9
+returns : tie.Need-returns
+returns c = ?
+
+-- src/lib.rt:240:11
+find-pair-requires : tie.Need-find-pair-requires
+find-pair-requires c κs = search needs
+
+-- src/lib.rt:241:18
+enum-known-i : tie.Need-enum-known-i
+enum-known-i c = search needs
+
+-- src/lib.rt:242:17
+statement-at-requires : tie.Need-statement-at-requires
+statement-at-requires c κs = ?
+
+-- src/lib.rt:243:17
+statement-at-requires-2 : tie.Need-statement-at-requires-2
+statement-at-requires-2 c κs = ?
+
+-- src/lib.rt:244:13
+quit-with-pair-requires : tie.Need-quit-with-pair-requires
+quit-with-pair-requires c κs = ?
+
+-- src/lib.rt:247:42
+enum-told : tie.Need-enum-told
+enum-told c = search needs
+
+-- src/lib.rt:247:17
+in-order-requires : tie.Need-in-order-requires
+in-order-requires c κs = search needs
+
+-- src/lib.rt:248:13
+vote-in-order-requires : tie.Need-vote-in-order-requires
+vote-in-order-requires c κs = ?
+
+-- src/lib.rt:231:1
+same-length-3 : tie.Need-same-length-3
+same-length-3 c = search needs
+
+-- src/lib.rt:231:1
+same-length-4 : tie.Need-same-length-4
+same-length-4 c = search needs
+
+-- src/lib.rt:231:1
+returns-2 : tie.Need-returns-2
+returns-2 c = ?
+
+-- src/lib.rt:231:1
+same-length-5 : tie.Need-same-length-5
+same-length-5 c = search needs
+
+-- src/lib.rt:231:1
+same-length-6 : tie.Need-same-length-6
+same-length-6 c = search needs
+
+-- src/lib.rt:231:1
+same-length-7 : tie.Need-same-length-7
+same-length-7 c = search needs
+
+-- src/lib.rt:231:1
+returns-3 : tie.Need-returns-3
+returns-3 c = ?
+
+pub arrive-spec : {M : Type 1} → statement M
+arrive-spec =
+    tie.close
+    (tie.spec
+    load-requires
+    blame-full-requires
+    quit-with-set-requires
+    same-length
+    same-length-2
+    returns
+    find-pair-requires
+    enum-known-i
+    statement-at-requires
+    statement-at-requires-2
+    quit-with-pair-requires
+    enum-told
+    in-order-requires
+    vote-in-order-requires
+    same-length-3
+    same-length-4
+    returns-2
+    same-length-5
+    same-length-6
+    same-length-7
+    returns-3)
