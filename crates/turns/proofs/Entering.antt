@@ -1,5 +1,5 @@
 -- A view is entered: its lock, and the status to its leader. Assumes nothing.
-use Prim.Native.Nat.{ℕ, _+_, _^_, _<_}
+use Prim.Native.Nat.{ℕ, _+_, _^_, _<_, _≤_}
 use mathlib.Core.Path.{_≡_, refl, sym, ap, _∙_, subst}
 use mathlib.Core.Bool.{true, false}
 use mathlib.Core.List.{List, [], _∷_}
@@ -11,6 +11,7 @@ use Rattle.rules.specs.Sizes.{Settings, leader}
 use Rattle.rules.specs.Messages.{Effect, toOne, status, effect, outgoing}
 use Rattle.rules.specs.Words.{Tally, highest, State}
 use Rattle.rules.specs.Inputs.{saying, entering, nextLock, report, entered}
+use Rattle.rules.proofs.Tests.{by-bool}
 use Rattle.wire.specs.Wrote.{Says}
 use Rattle.wire.proofs.Writing.{says-none, says-one}
 use Rattle.fields.specs.Names.{nameOf}
@@ -24,10 +25,14 @@ use Rattle.store.specs.declared.Tally as code
 use Rattle.store.proofs.Loaded.{loaded-settings, loaded-view}
 use Rattle.kept.proofs.Allowed.{leader-lt}
 use Rattle.kept.proofs.Facts.{sizes-of}
-use Rattle.kept.proofs.Lengths.{size, weight, length-effect}
+use Rattle.kept.proofs.Lengths.{size, weight, length-effect, bytes-cons, bytes-none}
 use Rattle.acts.specs.Works.{Formed, Works}
 use Rattle.acts.proofs.Votes.{loaded-own}
 use Rattle.acts.proofs.Works.{formed-parts, works-saying}
+
+status-weight : (i h b c m : ℕ) → weight (toOne i (status h b c m)) ≡ 62
+unfolding weight size
+status-weight i h b c m = refl
 
 pub status-bytes : (i h b c m : ℕ) → length (effect (toOne i (status h b c m))) ≡ 62
 unfolding weight size
@@ -90,3 +95,14 @@ module _ {b : List ℕ} (k : Formed b) (s : Station) (e : headerOf s ≡ fields 
         → Works (entered (stateOf b)) o at b′ o′ r
     unfolding stateOf stateFrom tallyOf
     goes-with-status d p = entered-with-status (stateOf b) (s .view + 1) (tallyOf t) l view-next h leader-loaded left (λ q. d (q ∙ sym (loaded-own k s e))) p
+
+-- how far the status goes
+pub report-ends : {b′ o o′ : List ℕ} {at r : ℕ} (s : State) → Works (entered s) o at b′ o′ r → r ≤ at + 62
+unfolding entered saying report outgoing
+report-ends s w =
+    let to = leader (s .settings) (s .view + 1) in
+    let t = nextLock s in
+    let h : length (outgoing (report s)) ≤ 62 =
+    by-bool (eqb to (s .settings .own)) (λ q. rw (q, report) (omega (arith, bytes-none)))
+    (λ q. rw (q, report) (omega (arith, bytes-cons (toOne to (status (t .height) (t .name) (t .view) (t .mask))) [], bytes-none, status-weight to (t .height) (t .name) (t .view) (t .mask)))) in
+    omega (arith, w .says .ends)

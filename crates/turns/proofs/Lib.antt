@@ -4,3 +4,4 @@ pub mod Leading
 pub mod Entering
 pub mod Names
 pub mod Ballots
+pub mod Arriving
