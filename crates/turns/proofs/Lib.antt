@@ -5,3 +5,4 @@ pub mod Entering
 pub mod Names
 pub mod Ballots
 pub mod Arriving
+pub mod Room
