@@ -1,23 +1,21 @@
 -- What a station finds in a view that it enters: the set, the pair, or statements to vote on. Assumes nothing.
-use Prim.Native.Nat.{ℕ, _+_, _*_, _<_, _≤_}
-use mathlib.Core.Path.{_≡_, refl, sym, ap, ap₂, _∙_, subst}
+use Prim.Native.Nat.{ℕ, _+_, _<_, _≤_}
+use mathlib.Core.Path.{_≡_, sym, ap, ap₂, _∙_, subst}
 use mathlib.Core.Bool.{Bool, true, false}
 use mathlib.Core.List.{List, [], _∷_}
-use mathlib.Core.Option.{Option, none, some}
+use mathlib.Core.Option.{none, some}
 use native.Mathlib.Omega.{arith}
 use lib.Dec.{eqb}
 use lib.ListN.{length}
-use Rattle.rules.specs.Limits.{mostStatements, lastView}
-use Rattle.rules.specs.Sizes.{leader}
-use Rattle.rules.specs.Messages.{Message, toAll, blameSet, outgoing}
-use Rattle.rules.specs.Words.{Statement, message, highest, State}
-use Rattle.rules.specs.Inputs.{Work, saying, _▸_, quit, blamesOf, blameFull, entersNow, nextLock, report, entering, entered, current, pair, inOrder, votingAll, arrive, enter}
-use Rattle.rules.proofs.Tests.{by-bool}
+use Rattle.rules.specs.Limits.{mostStatements}
+use Rattle.rules.specs.Messages.{Message, toAll, blameSet}
+use Rattle.rules.specs.Words.{Statement, message, State}
+use Rattle.rules.specs.Inputs.{saying, _▸_, quit, blamesOf, blameFull, entersNow, nextLock, entered, current, pair, inOrder, votingAll, arrive, enter}
 use Rattle.fields.specs.Records.{fields}
 use Rattle.wire.specs.Meaning.{statementOf, Linked}
 use Rattle.wire.specs.declared.Statement as code
 use Rattle.store.specs.Layout.{headerFormat, statementTable, countOf}
-use Rattle.store.specs.Decode.{rows, statementAt, statements, stateFrom, stateOf, Left}
+use Rattle.store.specs.Decode.{rows, statementAt, statements, stateFrom, stateOf}
 use Rattle.store.specs.Meaning.{headerOf}
 use Rattle.store.specs.declared.Station.{Station}
 use Rattle.store.proofs.Loaded.{loaded-view}
@@ -28,12 +26,10 @@ use Rattle.search.specs.Orders.{standing, InOrder}
 use Rattle.search.specs.declared.Pair.{Pair}
 use Rattle.search.specs.declared.Pair.the-variants.{At, Nothing}
 use Rattle.search.proofs.Statements.{current-is}
-use Rattle.kept.proofs.Lengths.{bytes-none}
 use Rattle.kept.proofs.Lists.{keep-length, sorted-length}
 use Rattle.kept.proofs.Phases.{entering-formed}
 use Rattle.kept.proofs.Tallies.{highest-good}
 use Rattle.kept.proofs.Ticks.{enters-below}
-use Rattle.kept.proofs.Room.{enter-bytes}
 use Rattle.acts.specs.Answers.{Stands}
 use Rattle.acts.specs.Works.{Formed, Works}
 use Rattle.acts.proofs.Places.{place-sendable, place-message, sendable-linked}

@@ -1,7 +1,7 @@
 -- Voting in an order of places: a vote changes nothing of a statement but its vote, so the order holds. Assumes nothing.
 use Prim.Native.Nat.{ℕ, _+_, _-_, _*_, _<_, _≤_}
 use mathlib.Core.Path.{_≡_, refl, sym, ap, _∙_, subst}
-use mathlib.Core.Bool.{Bool, true, false}
+use mathlib.Core.Bool.{Bool}
 use mathlib.Core.List.{List, [], _∷_, map}
 use mathlib.Core.Option.{none}
 use native.Mathlib.Omega.{arith}
@@ -13,7 +13,6 @@ use Rattle.rules.specs.Words.{Statement, message, sameStatement, ownBlock, cert
 use Rattle.rules.specs.Inputs.{Work, saying, _▸_, withTables, belowLock, noted, votedFor, ballot, voting, votingAll}
 use Rattle.rules.proofs.Tests.{by-bool}
 use Rattle.wire.specs.Meaning.{statementOf}
-use Rattle.wire.specs.Wrote.{Says}
 use Rattle.wire.specs.declared.Statement as code
 use Rattle.wire.proofs.Writing.{says-length}
 use Rattle.store.specs.Layout.{statementTable, countOf}

@@ -8,7 +8,7 @@ use native.Mathlib.Omega.{arith}
 use native.Mathlib.Nat.{mul-le-mul-left}
 use lib.Dec.{leb, ltb, eqb}
 use lib.ListN.{length}
-use Rattle.rules.specs.Limits.{lastView, mostDelay, mostStatements, maskBits}
+use Rattle.rules.specs.Limits.{lastView, mostDelay, mostStatements}
 use Rattle.rules.specs.Sizes as sizes
 use Rattle.rules.specs.Sizes.{leader, holds}
 use Rattle.rules.specs.Messages.{viewAllowed}

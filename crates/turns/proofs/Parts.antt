@@ -1,9 +1,8 @@
 -- The parts of a tick by their cases, and one act after another. Assumes nothing.
-use Prim.Native.Nat.{ℕ, _+_, _≤_}
-use mathlib.Core.Path.{_≡_, refl, sym, ap, _∙_, subst}
+use Prim.Native.Nat.{ℕ}
+use mathlib.Core.Path.{_≡_, refl, ap, _∙_, subst}
 use mathlib.Core.Bool.{true, false}
 use mathlib.Core.List.{List, [], _∷_}
-use native.Mathlib.Omega.{arith}
 use lib.ListN.{length}
 use Rattle.rules.specs.Sizes.{only}
 use Rattle.rules.specs.Messages.{Effect, toAll, blame, effect}
@@ -13,7 +12,7 @@ use Rattle.wire.proofs.Writing.{says-outgoing, says-one}
 use Rattle.wire.specs.Wrote.{Says}
 use Rattle.store.specs.Decode.{stateOf, Form, Left}
 use Rattle.kept.proofs.Lengths.{size, weight, length-effect}
-use Rattle.acts.specs.Works.{Formed, Works}
+use Rattle.acts.specs.Works.{Works}
 use Rattle.acts.proofs.Works.{works-is, works-none, works-saying}
 
 -- ---- one act, then another

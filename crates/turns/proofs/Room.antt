@@ -1,9 +1,9 @@
 -- A tick adds records in its leader's new-view alone: whether it has room is known before it acts. Assumes nothing.
-use Prim.Native.Nat.{ℕ, suc, _+_, _-_, _*_, _≤_}
+use Prim.Native.Nat.{ℕ, _+_, _-_, _*_, _≤_}
 use mathlib.Core.Path.{_≡_, refl, sym, ap, _∙_}
-use mathlib.Core.Bool.{Bool, true, false, not, _&&_}
+use mathlib.Core.Bool.{true, false, not, _&&_}
 use mathlib.Core.List.{List, [], _∷_, List·Memᴰ as Mem}
-use mathlib.Core.Option.{none, some}
+use mathlib.Core.Option.{none}
 use native.Mathlib.Omega.{arith}
 use native.Mathlib.Nat.{mul-comm, mul-le-mul-left}
 use lib.Dec.{leb, eqb}
@@ -11,22 +11,21 @@ use borrow.Author.Tests.{eqb-true, leb-true}
 use Rattle.rules.specs.Lists.{first, any}
 use Rattle.rules.specs.Sizes.{only, holds}
 use Rattle.rules.specs.Messages.{Effect, toAll, blameSet}
-use Rattle.rules.specs.Words.{Statement, message, sameStatement, conflict, Tally, ownBlock, sameBlock, certificate, highest, Phase, inView, waiting, stopped, State}
+use Rattle.rules.specs.Words.{Statement, sameStatement, conflict, ownBlock, sameBlock, highest, State}
 use Rattle.rules.specs.Inputs.{Work, saying, _▸_, withPhase, withTables, withBlames, withLog, isIn, quit, belowLock, votedFor, voting, certificateJoined, stored, statement, handled, blamesOf, blamed, blameFull, blaming, leads, logging, votes, overdue, complain, leadsNow, ownNewView, lead, entersNow, nextLock, entering, entered, current, pair, inOrder, votingAll, arrive, enter}
 use Rattle.rules.specs.Refusals.{hasRoom}
 use Rattle.rules.specs.WellFormed.{talliesThere, linked}
-use Rattle.rules.proofs.Tests.{by-bool, by-option, no-bool}
+use Rattle.rules.proofs.Tests.{by-bool, by-option}
 use Rattle.search.specs.Lookups.{turn}
 use Rattle.kept.specs.Parts.{Formed}
 use Rattle.kept.specs.Said.{Each}
 use Rattle.kept.proofs.Truths.{and-2, and-3}
 use Rattle.kept.proofs.Lists.{mem-each, all-mem, keep-mem, sorted-mem}
 use Rattle.kept.proofs.Tallies.{join-any}
-use Rattle.kept.proofs.Keeps.{Keeps}
 use Rattle.kept.proofs.Ticks.{logging-keeps, complain-keeps, lead-keeps}
 use Rattle.acts.proofs.Rooms.{voting-room}
 use Rattle.turns.proofs.Parts.{complain-calm}
-use Rattle.turns.proofs.Leading.{lead-never, now-leads}
+use Rattle.turns.proofs.Leading.{lead-never}
 
 -- ---- what adds no record
 

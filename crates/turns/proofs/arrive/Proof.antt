@@ -5,111 +5,80 @@ use native.Mathlib.Omega.{arith}
 use borrow.Author.Needs.{needs}
 use Rattle.turns.proofs.arrive.Statement.{statement}
 use Rattle.turns.proofs.arrive.Tie as tie
-use Rattle.turns.proofs.arrive.Reads as reads
-use Rattle.turns.proofs.arrive.Lts as lts
-use Rattle.acts.proofs.blame_full.Reads as blame-full-reads
-use Rattle.acts.proofs.quit_with_pair.Reads as quit-with-pair-reads
-use Rattle.acts.proofs.quit_with_set.Reads as quit-with-set-reads
-use Rattle.search.proofs.find_pair.Reads as find-pair-reads
-use Rattle.search.proofs.in_order.Reads as in-order-reads
-use Rattle.store.proofs.Station.load.Reads as load-reads
-use Rattle.store.proofs.statement_at.Reads as statement-at-reads
-use Rattle.turns.proofs.vote_in_order.Reads as vote-in-order-reads
 
--- src/lib.rt:235:9
 load-requires : tie.Need-load-requires
 load-requires c κs =
     form-long _ (c .before .before .before .before .pre .0 .form)
 
--- src/lib.rt:237:8
 blame-full-requires : tie.Need-blame-full-requires
 blame-full-requires c κs =
     (c .before .before .before .before .before .before .pre .0 .form, view-of-loaded (c .before .before .before .before .before .before .pre .0) (c .before .load .result) (c .before .load .ensures))
 
--- src/lib.rt:238:9
 quit-with-set-requires : tie.Need-quit-with-set-requires
 quit-with-set-requires c κs =
     (c .before .before .before .before .before .before .before .before .before .before .pre .0, view-of-loaded (c .before .before .before .before .before .before .before .before .before .before .pre .0) (c .before .before .before .before .before .load .result) (c .before .before .before .before .before .load .ensures), omega (arith, c .before .before .before .before .before .before .before .before .before .before .pre .1))
 
--- src/lib.rt:238:9
 same-length : tie.Need-same-length
 same-length c = search needs
 
--- src/lib.rt:238:9
 same-length-2 : tie.Need-same-length-2
 same-length-2 c = search needs
 
--- src/lib.rt:238:9
 returns : tie.Need-returns
 returns c =
     arrives-full (c .before .before .before .before .before .before .before .before .before .before .before .before .before .before .before .pre .0) (c .before .before .before .before .before .before .before .before .before .before .load .result) (c .before .before .before .before .before .before .before .before .before .before .load .ensures) (c .before .before .before .before .before .before .before .before .blame-full .result) (c .before .before .before .before .before .before .before .before .blame-full .ensures) (c .before .before .before .before .before .before .before .if1 .taken) (c .before .before .before .before .quit-with-set .ensures)
 
--- src/lib.rt:240:11
 find-pair-requires : tie.Need-find-pair-requires
 find-pair-requires c κs = search needs
 
--- src/lib.rt:241:18
 enum-known-i : tie.Need-enum-known-i
 enum-known-i c = search needs
 
--- src/lib.rt:242:17
 statement-at-requires : tie.Need-statement-at-requires
 statement-at-requires c κs =
     (form-long _ (c .before .before .before .before .before .before .before .before .before .before .before .before .before .before .pre .0 .form), omega (arith, pair-inside (c .before .before .before .before .before .before .before .before .before .before .before .before .before .before .pre .0) (c .before .before .before .before .before .before .before .before .before .load .result) (c .before .before .before .before .before .before .before .before .before .load .ensures) (c .before .before .before .before .before .before .before .blame-full .result) (c .before .before .before .before .before .before .before .blame-full .ensures) (c .before .before .before .before .before .before .if1 .left) (c .before .before .before .before .find-pair .result) (c .before .before .before .before .find-pair .ensures) (c .before .before .i .given .0 .0) (c .before .before .i .given .0 .1 .0) (c .before .before .i .given .1), form-statements _ (c .before .before .before .before .before .before .before .before .before .before .before .before .before .before .pre .0 .form)))
 
--- src/lib.rt:243:17
 statement-at-requires-2 : tie.Need-statement-at-requires-2
 statement-at-requires-2 c κs =
     (form-long _ (c .before .before .before .before .before .before .before .before .before .before .before .before .before .before .before .before .pre .0 .form), omega (arith, pair-inside (c .before .before .before .before .before .before .before .before .before .before .before .before .before .before .before .before .pre .0) (c .before .before .before .before .before .before .before .before .before .before .before .load .result) (c .before .before .before .before .before .before .before .before .before .before .before .load .ensures) (c .before .before .before .before .before .before .before .before .before .blame-full .result) (c .before .before .before .before .before .before .before .before .before .blame-full .ensures) (c .before .before .before .before .before .before .before .before .if1 .left) (c .before .before .before .before .before .before .find-pair .result) (c .before .before .before .before .before .before .find-pair .ensures) (c .before .before .before .before .i .given .0 .0) (c .before .before .before .before .i .given .0 .1 .0) (c .before .before .before .before .i .given .1), form-statements _ (c .before .before .before .before .before .before .before .before .before .before .before .before .before .before .before .before .pre .0 .form)))
 
--- src/lib.rt:244:13
 quit-with-pair-requires : tie.Need-quit-with-pair-requires
 quit-with-pair-requires c κs =
     let k = c .before .before .before .before .before .before .before .before .before .before .before .before .before .before .before .before .before .before .before .pre .0 in
     let d = pair-inside (c .before .before .before .before .before .before .before .before .before .before .before .before .before .before .before .before .before .before .before .pre .0) (c .before .before .before .before .before .before .before .before .before .before .before .before .before .before .load .result) (c .before .before .before .before .before .before .before .before .before .before .before .before .before .before .load .ensures) (c .before .before .before .before .before .before .before .before .before .before .before .before .blame-full .result) (c .before .before .before .before .before .before .before .before .before .before .before .before .blame-full .ensures) (c .before .before .before .before .before .before .before .before .before .before .before .if1 .left) (c .before .before .before .before .before .before .before .before .before .find-pair .result) (c .before .before .before .before .before .before .before .before .before .find-pair .ensures) (c .before .before .before .before .before .before .before .i .given .0 .0) (c .before .before .before .before .before .before .before .i .given .0 .1 .0) (c .before .before .before .before .before .before .before .i .given .1) in
     (k, read-linked k (c .before .before .before .before .before .before .before .i .given .0 .0) (c .before .before .before .before .statement-at .result) (d .0) (c .before .before .before .before .statement-at .ensures), read-linked k (c .before .before .before .before .before .before .before .i .given .0 .1 .0) (c .before .before .statement-at2 .result) (d .1) (c .before .before .statement-at2 .ensures), omega (arith, c .before .before .before .before .before .before .before .before .before .before .before .before .before .before .before .before .before .before .before .pre .1))
 
--- src/lib.rt:247:42
 enum-told : tie.Need-enum-told
 enum-told c = search needs
 
--- src/lib.rt:247:17
 in-order-requires : tie.Need-in-order-requires
 in-order-requires c κs = search needs
 
--- src/lib.rt:248:13
 vote-in-order-requires : tie.Need-vote-in-order-requires
 vote-in-order-requires c κs =
     let o = c .before .before .before .before .before .in-order in
     let f = order-few (c .before .before .before .before .before .before .before .before .before .before .before .before .before .before .before .before .before .before .before .before .pre .0) (c .before .before .before .before .before .before .before .before .before .before .before .before .before .before .before .load .result) (c .before .before .before .before .before .before .before .before .before .before .before .before .before .before .before .load .ensures) _ (o .result) (o .ensures) in
     record { formed = c .before .before .before .before .before .before .before .before .before .before .before .before .before .before .before .before .before .before .before .before .pre .0; few = f; long = omega (arith, f, o .kept .1 .1 .0, c .before .before .before .before .before .before .before .before .before .before .before .before .before .before .before .before .before .before .before .before .pre .2); inside = o .ensures .inside; space = omega (arith, f, c .before .before .before .before .before .before .before .before .before .before .before .before .before .before .before .before .before .before .before .before .pre .1) }
 
--- src/lib.rt:231:1
 same-length-3 : tie.Need-same-length-3
 same-length-3 c = search needs
 
--- src/lib.rt:231:1
 same-length-4 : tie.Need-same-length-4
 same-length-4 c = search needs
 
--- src/lib.rt:231:1
 returns-2 : tie.Need-returns-2
 returns-2 c =
     arrives-pair (c .before .before .before .before .before .before .before .before .before .before .before .before .before .before .before .before .before .before .before .before .before .before .before .before .pre .0) (c .before .before .before .before .before .before .before .before .before .before .before .before .before .before .before .before .before .before .before .load .result) (c .before .before .before .before .before .before .before .before .before .before .before .before .before .before .before .before .before .before .before .load .ensures) (c .before .before .before .before .before .before .before .before .before .before .before .before .before .before .before .before .before .blame-full .result) (c .before .before .before .before .before .before .before .before .before .before .before .before .before .before .before .before .before .blame-full .ensures) (c .before .before .before .before .before .before .before .before .before .before .before .before .before .before .before .before .if1 .left) (c .before .before .before .before .before .before .before .before .before .before .before .before .before .before .find-pair .result) (c .before .before .before .before .before .before .before .before .before .before .before .before .before .before .find-pair .ensures) (c .before .before .before .before .before .before .before .before .before .before .before .before .i .given .0 .0) (c .before .before .before .before .before .before .before .before .before .before .before .before .i .given .0 .1 .0) (c .before .before .before .before .before .before .before .before .before .before .before .before .i .given .1) (c .before .before .before .before .before .before .before .before .before .statement-at .result) (c .before .before .before .before .before .before .before .statement-at2 .result) (c .before .before .before .before .before .before .before .before .before .statement-at .ensures) (c .before .before .before .before .before .before .before .statement-at2 .ensures) (c .before .before .before .before .quit-with-pair .ensures)
 
--- src/lib.rt:231:1
 same-length-5 : tie.Need-same-length-5
 same-length-5 c = search needs
 
--- src/lib.rt:231:1
 same-length-6 : tie.Need-same-length-6
 same-length-6 c = search needs
 
--- src/lib.rt:231:1
 same-length-7 : tie.Need-same-length-7
 same-length-7 c = search needs
 
--- src/lib.rt:231:1
 returns-3 : tie.Need-returns-3
 returns-3 c =
     arrives-votes (c .before .before .before .before .before .before .before .before .before .before .before .before .before .before .before .before .before .before .before .before .before .before .before .before .before .pre .0) (c .before .before .before .before .before .before .before .before .before .before .before .before .before .before .before .before .before .before .before .before .load .result) (c .before .before .before .before .before .before .before .before .before .before .before .before .before .before .before .before .before .before .before .before .load .ensures) (c .before .before .before .before .before .before .before .before .before .before .before .before .before .before .before .before .before .before .blame-full .result) (c .before .before .before .before .before .before .before .before .before .before .before .before .before .before .before .before .before .before .blame-full .ensures) (c .before .before .before .before .before .before .before .before .before .before .before .before .before .before .before .before .before .if1 .left) (c .before .before .before .before .before .before .before .before .before .before .before .before .before .before .before .find-pair .result) (c .before .before .before .before .before .before .before .before .before .before .before .before .before .before .before .find-pair .ensures) _ _ (c .before .before .before .before .before .before .before .before .before .before .before .before .before .enum-told .given .1) (c .before .before .before .before .before .before .before .before .before .before .in-order .ensures) (c .before .before .before .before .vote-in-order .ensures)

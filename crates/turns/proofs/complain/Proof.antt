@@ -16,54 +16,38 @@ use Rattle.store.proofs.Loaded.{loaded-view}
 use borrow.Author.Needs.{needs}
 use Rattle.turns.proofs.complain.Statement.{statement}
 use Rattle.turns.proofs.complain.Tie as tie
-use Rattle.turns.proofs.complain.Reads as reads
-use Rattle.turns.proofs.complain.Lts as lts
-use Rattle.acts.proofs.blaming.Reads as blaming-reads
-use Rattle.settings.proofs.only.Reads as only-reads
-use Rattle.store.proofs.Station.load.Reads as load-reads
-use Rattle.turns.proofs.overdue.Reads as overdue-reads
-use Rattle.wire.proofs.to_all.Reads as to-all-reads
 
--- src/lib.rt:50:9
 overdue-requires : tie.Need-overdue-requires
 overdue-requires c κs = search needs
 
--- src/lib.rt:51:9
 same-length : tie.Need-same-length
 same-length c = search needs
 
--- src/lib.rt:51:9
 returns : tie.Need-returns
 returns c =
     works-still (c .before .before .before .before .before .args .out .now) (c .before .before .before .before .before .args .at) (c .before .before .before .before .before .pre .0 .form) (complain-calm _ (sym (c .before .overdue .ensures) ∙ not-true _ (c .if1 .taken)))
 
--- src/lib.rt:53:9
 load-requires : tie.Need-load-requires
 load-requires c κs =
     form-long _ (c .before .before .before .before .before .before .pre .0 .form)
 
--- src/lib.rt:58:17
 cast-t15 : tie.Need-cast-t15
 cast-t15 c =
     record { fits = omega (arith, own-small (c .before .before .before .before .before .before .before .before .pre .0) (c .before .load .result) (c .before .load .ensures)) }
 
--- src/lib.rt:60:9
 to-all-requires : tie.Need-to-all-requires
 unfolding messageOf
 to-all-requires c κs =
     (tt, omega (arith, blame-bytes (c .before .before .load .result .view) (c .before .before .load .result .settings .own), c .before .before .before .before .before .before .before .before .before .pre .1))
 
--- src/lib.rt:61:51
 only-requires : tie.Need-only-requires
 only-requires c κs =
     own-small (c .before .before .before .before .before .before .before .before .before .before .before .before .before .before .pre .0) (c .before .before .before .before .before .before .before .load .result) (c .before .before .before .before .before .before .before .load .ensures)
 
--- src/lib.rt:61:51
 cast-blaming : tie.Need-cast-blaming
 cast-blaming c =
     record { fits = omega (arith, c .only .ensures, only-small (c .before .before .before .before .before .before .before .before .before .before .before .before .before .before .before .pre .0) (c .before .before .before .before .before .before .before .before .load .result) (c .before .before .before .before .before .before .before .before .load .ensures)) }
 
--- src/lib.rt:61:5
 blaming-requires : tie.Need-blaming-requires
 unfolding messageOf
 blaming-requires c κs =
@@ -72,15 +56,12 @@ blaming-requires c κs =
     let s = stateOf (a .store .now) in
     (k, view-of-loaded k (c .before .before .before .before .before .before .before .before .load .result) (c .before .before .before .before .before .before .before .before .load .ensures), omega (arith, c .only .ensures, ap only (loaded-own k (c .before .before .before .before .before .before .before .before .load .result) (c .before .before .before .before .before .before .before .before .load .ensures)), only-lt (s .settings) (s .settings .own) (sizes-of (formed-parts k .formed) .own)), omega (arith, c .before .before .before .before .before .to-all .ensures .ends, blame-bytes (c .before .before .before .before .before .before .before .before .load .result .view) (c .before .before .before .before .before .before .before .before .load .result .settings .own), says-length (c .before .before .before .before .before .to-all .ensures), c .before .before .before .before .before .before .before .before .before .before .before .before .before .before .before .pre .1))
 
--- src/lib.rt:46:1
 same-length-2 : tie.Need-same-length-2
 same-length-2 c = search needs
 
--- src/lib.rt:46:1
 same-length-3 : tie.Need-same-length-3
 same-length-3 c = search needs
 
--- src/lib.rt:46:1
 returns-2 : tie.Need-returns-2
 unfolding messageOf
 returns-2 c =

@@ -10,49 +10,35 @@ use mathlib.Core.Path.{sym, _∙_}
 use borrow.Author.Needs.{needs}
 use Rattle.turns.proofs.enter.Statement.{statement}
 use Rattle.turns.proofs.enter.Tie as tie
-use Rattle.turns.proofs.enter.Reads as reads
-use Rattle.turns.proofs.enter.Lts as lts
-use Rattle.turns.proofs.arrive.Reads as arrive-reads
-use Rattle.turns.proofs.entered.Reads as entered-reads
-use Rattle.turns.proofs.enters_now.Reads as enters-now-reads
 
--- src/lib.rt:258:9
 enters-now-requires : tie.Need-enters-now-requires
 enters-now-requires c κs = search needs
 
--- src/lib.rt:259:9
 same-length : tie.Need-same-length
 same-length c = search needs
 
--- src/lib.rt:259:9
 returns : tie.Need-returns
 returns c =
     works-still (c .before .before .before .before .before .before .args .out .now) (c .before .before .before .before .before .before .args .at) (c .before .before .before .before .before .before .pre .0 .form) (enter-not _ (sym (c .before .enters-now .ensures) ∙ not-true _ (c .if1 .taken)))
 
--- src/lib.rt:261:9
 entered-requires : tie.Need-entered-requires
 entered-requires c κs =
     (c .before .before .before .before .before .before .before .before .pre .0, sym (c .before .before .before .enters-now .ensures) ∙ not-false _ (c .before .before .if1 .left), omega (arith, c .before .before .before .before .before .before .before .before .pre .1))
 
--- src/lib.rt:262:5
 arrive-requires : tie.Need-arrive-requires
 arrive-requires c κs =
     let w = c .before .before .before .before .before .before .before .entered .ensures in
     (entered-formed (c .before .before .before .before .before .before .before .before .before .before .before .before .before .before .before .before .pre .0) (sym (c .before .before .before .before .before .before .before .before .before .before .before .enters-now .ensures) ∙ not-false _ (c .before .before .before .before .before .before .before .before .before .before .if1 .left)) w, omega (arith, report-ends _ w, says-length (w .says), c .before .before .before .before .before .before .before .before .before .before .before .before .before .before .before .before .pre .1), c .before .before .before .before .before .before .before .before .before .before .before .before .before .before .before .before .pre .2)
 
--- src/lib.rt:254:1
 same-length-2 : tie.Need-same-length-2
 same-length-2 c = search needs
 
--- src/lib.rt:254:1
 same-length-3 : tie.Need-same-length-3
 same-length-3 c = search needs
 
--- src/lib.rt:254:1
 same-length-4 : tie.Need-same-length-4
 same-length-4 c = search needs
 
--- src/lib.rt:254:1
 returns-2 : tie.Need-returns-2
 returns-2 c =
     works-is (enter-goes _ (sym (c .before .before .before .before .before .before .before .before .before .before .before .before .before .before .before .before .before .before .enters-now .ensures) ∙ not-false _ (c .before .before .before .before .before .before .before .before .before .before .before .before .before .before .before .before .before .if1 .left))) (works-then arrive (c .before .before .before .before .before .before .before .before .before .before .before .before .before .before .entered .ensures) (c .before .before .before .before .before .before .arrive .ensures))

@@ -8,47 +8,35 @@ use native.Mathlib.Omega.{arith}
 use borrow.Author.Needs.{needs}
 use Rattle.turns.proofs.enters_now.Statement.{statement}
 use Rattle.turns.proofs.enters_now.Tie as tie
-use Rattle.turns.proofs.enters_now.Reads as reads
-use Rattle.turns.proofs.enters_now.Lts as lts
-use Rattle.store.proofs.Station.load.Reads as load-reads
 
--- src/lib.rt:95:9
 load-requires : tie.Need-load-requires
 load-requires c κs =
     form-long _ (c .before .pre .form)
 
--- src/lib.rt:99:24
 enum-known-phase : tie.Need-enum-known-phase
 enum-known-phase c = search needs
 
--- src/lib.rt:100:15
 cast-result : tie.Need-cast-result
 cast-result c = search needs
 
--- src/lib.rt:101:20
 cast-result-2 : tie.Need-cast-result-2
 cast-result-2 c = search needs
 
--- src/lib.rt:101:44
 cast-result-3 : tie.Need-cast-result-3
 cast-result-3 c = search needs
 
--- src/lib.rt:101:44
 add-result : tie.Need-add-result
 add-result c =
     omega (arith, short-delay (c .before .before .before .before .before .before .before .before .before .pre) (c .before .before .before .before .before .before .before .load .result) (c .before .before .before .before .before .before .before .load .ensures))
 
--- src/lib.rt:101:44
 add-result-2 : tie.Need-add-result-2
 add-result-2 c =
     omega (arith, short-delay (c .before .before .before .before .before .before .before .before .before .pre) (c .before .before .before .before .before .before .before .load .result) (c .before .before .before .before .before .before .before .load .ensures))
 
--- src/lib.rt:91:1
 returns : tie.Need-returns
 returns c =
     enters-at (c .before .before .before .before .before .before .before .before .before .pre) (c .before .before .before .before .before .before .before .load .result) (c .before .before .before .before .before .before .before .load .ensures) _ (c .before .before .before .before .phase .given .1)
 
--- src/lib.rt:91:1
 returns-2 : tie.Need-returns-2
 returns-2 c =
     enters-never (c .before .before .before .before .pre) (c .before .before .load .result) (c .before .before .load .ensures) (λ q p. let z = ap (tagOf the-type) p in ⊎-elim (λ w. omega arith) (λ w. omega arith) (c .match .keys2))

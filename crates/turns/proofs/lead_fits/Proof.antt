@@ -1,35 +1,25 @@
 use Rattle.turns.proofs.Leading.{now-leads, never-fits, now-fits}
 use borrow.Author.Tests.{not-true, not-false}
-use mathlib.Core.Path.{sym, ap, _∙_}
+use mathlib.Core.Path.{sym, _∙_}
 use borrow.Author.Needs.{needs}
 use Rattle.turns.proofs.lead_fits.Statement.{statement}
 use Rattle.turns.proofs.lead_fits.Tie as tie
-use Rattle.turns.proofs.lead_fits.Reads as reads
-use Rattle.turns.proofs.lead_fits.Lts as lts
-use Rattle.acts.proofs.statement_fits.Reads as statement-fits-reads
-use Rattle.turns.proofs.leads_now.Reads as leads-now-reads
-use Rattle.turns.proofs.own_new_view.Reads as own-new-view-reads
 
--- src/lib.rt:152:9
 leads-now-requires : tie.Need-leads-now-requires
 leads-now-requires c κs = search needs
 
--- src/lib.rt:153:9
 returns : tie.Need-returns
 returns c =
     never-fits (c .before .before .before .pre) (sym (c .before .leads-now .ensures) ∙ not-true _ (c .if1 .taken))
 
--- src/lib.rt:155:9
 own-new-view-requires : tie.Need-own-new-view-requires
 own-new-view-requires c κs =
     (c .before .before .before .pre, now-leads _ (sym (c .before .leads-now .ensures) ∙ not-false _ (c .if1 .left)))
 
--- src/lib.rt:156:5
 statement-fits-requires : tie.Need-statement-fits-requires
 statement-fits-requires c κs =
     (c .before .before .before .before .pre, c .own-new-view .ensures .1)
 
--- src/lib.rt:148:1
 returns-2 : tie.Need-returns-2
 returns-2 c =
     c .statement-fits .ensures ∙ now-fits _ (c .before .own-new-view .result) (sym (c .before .before .before .leads-now .ensures) ∙ not-false _ (c .before .before .if1 .left)) (c .before .own-new-view .ensures .0)

@@ -6,49 +6,36 @@ use mathlib.Core.Path.{sym, _∙_}
 use borrow.Author.Needs.{needs}
 use Rattle.turns.proofs.leads_now.Statement.{statement}
 use Rattle.turns.proofs.leads_now.Tie as tie
-use Rattle.turns.proofs.leads_now.Reads as reads
-use Rattle.turns.proofs.leads_now.Lts as lts
-use Rattle.store.proofs.Station.load.Reads as load-reads
-use Rattle.turns.proofs.leads.Reads as leads-reads
 
--- src/lib.rt:82:9
 leads-requires : tie.Need-leads-requires
 leads-requires c κs = search needs
 
--- src/lib.rt:83:9
 returns : tie.Need-returns
 returns c =
     leads-never _ (sym (c .before .leads .ensures) ∙ not-true _ (c .if1 .taken))
 
--- src/lib.rt:85:9
 load-requires : tie.Need-load-requires
 load-requires c κs =
     form-long _ (c .before .before .before .pre .form)
 
--- src/lib.rt:87:5
 cast-result : tie.Need-cast-result
 cast-result c = search needs
 
--- src/lib.rt:87:29
 cast-result-2 : tie.Need-cast-result-2
 cast-result-2 c = search needs
 
--- src/lib.rt:87:52
 mul-result : tie.Need-mul-result
 mul-result c =
     omega (arith, short-delay (c .before .before .before .before .before .before .before .before .pre) (c .before .before .before .before .load .result) (c .before .before .before .before .load .ensures))
 
--- src/lib.rt:87:29
 add-result : tie.Need-add-result
 add-result c =
     omega (arith, short-delay (c .before .before .before .before .before .before .before .before .pre) (c .before .before .before .before .load .result) (c .before .before .before .before .load .ensures))
 
--- src/lib.rt:87:29
 add-result-2 : tie.Need-add-result-2
 add-result-2 c =
     omega (arith, short-delay (c .before .before .before .before .before .before .before .before .pre) (c .before .before .before .before .load .result) (c .before .before .before .before .load .ensures))
 
--- src/lib.rt:78:1
 returns-2 : tie.Need-returns-2
 returns-2 c =
     loaded-now (c .before .before .before .before .before .before .before .before .pre) (c .before .before .before .before .load .result) (c .before .before .before .before .load .ensures) (sym (c .before .before .before .before .before .before .leads .ensures) ∙ not-false _ (c .before .before .before .before .before .if1 .left))

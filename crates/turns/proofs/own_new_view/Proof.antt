@@ -5,30 +5,21 @@ use Rattle.acts.proofs.Votes.{own-small}
 use borrow.Author.Needs.{needs}
 use Rattle.turns.proofs.own_new_view.Statement.{statement}
 use Rattle.turns.proofs.own_new_view.Tie as tie
-use Rattle.turns.proofs.own_new_view.Reads as reads
-use Rattle.turns.proofs.own_new_view.Lts as lts
-use Rattle.search.proofs.highest.Reads as highest-reads
-use Rattle.store.proofs.Station.load.Reads as load-reads
 
--- src/lib.rt:126:9
 load-requires : tie.Need-load-requires
 load-requires c κs =
     form-long _ (c .before .pre .0 .form)
 
--- src/lib.rt:128:9
 highest-requires : tie.Need-highest-requires
 highest-requires c κs = search needs
 
--- src/lib.rt:134:17
 cast-t7 : tie.Need-cast-t7
 cast-t7 c = search needs
 
--- src/lib.rt:143:17
 cast-t8 : tie.Need-cast-t8
 cast-t8 c =
     record { fits = omega (arith, own-small (c .before .before .before .before .before .before .before .pre .0) (c .before .before .before .before .before .load .result) (c .before .before .before .before .before .load .ensures)) }
 
--- src/lib.rt:122:1
 returns : tie.Need-returns
 returns c =
     let k = c .before .before .before .before .before .before .before .pre .0 in
