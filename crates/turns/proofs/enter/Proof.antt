@@ -1,3 +1,4 @@
+-- `turns::enter` meets its contract: the view is entered, then the station arrives in it. Assumes nothing.
 use Rattle.turns.proofs.Arriving.{enter-not, enter-goes, entered-formed}
 use Rattle.turns.proofs.Entering.{report-ends}
 use Rattle.turns.proofs.Parts.{works-still, works-then}
@@ -19,16 +20,19 @@ same-length c = search needs
 
 returns : tie.Need-returns
 returns c =
-    works-still (c .before .before .before .before .before .before .args .out .now) (c .before .before .before .before .before .before .args .at) (c .before .before .before .before .before .before .pre .0 .form) (enter-not _ (sym (c .before .enters-now .ensures) ∙ not-true _ (c .if1 .taken)))
+    let args = c .before .before .before .before .before .before .args in
+    works-still (args .out .now) (args .at) (c .before .before .before .before .before .before .pre .0 .form) (enter-not _ (sym (c .before .enters-now .ensures) ∙ not-true _ (c .if1 .taken)))
 
 entered-requires : tie.Need-entered-requires
 entered-requires c κs =
-    (c .before .before .before .before .before .before .before .before .pre .0, sym (c .before .before .before .enters-now .ensures) ∙ not-false _ (c .before .before .if1 .left), omega (arith, c .before .before .before .before .before .before .before .before .pre .1))
+    let pre = c .before .before .before .before .before .before .before .before .pre in
+    (pre .0, sym (c .before .before .before .enters-now .ensures) ∙ not-false _ (c .before .before .if1 .left), omega (arith, pre .1))
 
 arrive-requires : tie.Need-arrive-requires
 arrive-requires c κs =
+    let pre = c .before .before .before .before .before .before .before .before .before .before .before .before .before .before .before .before .pre in
     let w = c .before .before .before .before .before .before .before .entered .ensures in
-    (entered-formed (c .before .before .before .before .before .before .before .before .before .before .before .before .before .before .before .before .pre .0) (sym (c .before .before .before .before .before .before .before .before .before .before .before .enters-now .ensures) ∙ not-false _ (c .before .before .before .before .before .before .before .before .before .before .if1 .left)) w, omega (arith, report-ends _ w, says-length (w .says), c .before .before .before .before .before .before .before .before .before .before .before .before .before .before .before .before .pre .1), c .before .before .before .before .before .before .before .before .before .before .before .before .before .before .before .before .pre .2)
+    (entered-formed (pre .0) (sym (c .before .before .before .before .before .before .before .before .before .before .before .enters-now .ensures) ∙ not-false _ (c .before .before .before .before .before .before .before .before .before .before .if1 .left)) w, omega (arith, report-ends _ w, says-length (w .says), pre .1), pre .2)
 
 same-length-2 : tie.Need-same-length-2
 same-length-2 c = search needs

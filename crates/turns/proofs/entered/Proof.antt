@@ -1,3 +1,4 @@
+-- `turns::entered` meets its contract: the header is left, and the status is said unless the station leads. Assumes nothing.
 use Rattle.turns.proofs.Entering.{status-bytes, leader-small, goes-as-leader, goes-with-status}
 use Rattle.turns.proofs.Moments.{view-limits, some-stations}
 use Rattle.store.proofs.Forms.{form-long}
@@ -14,7 +15,8 @@ load-requires c κs =
 
 add-view : tie.Need-add-view
 add-view c =
-    omega (arith, view-limits (c .before .before .before .before .before .before .pre .0) (c .before .before .load .result) (c .before .before .load .ensures))
+    let load = c .before .before .load in
+    omega (arith, view-limits (c .before .before .before .before .before .before .pre .0) (load .result) (load .ensures))
 
 highest-requires : tie.Need-highest-requires
 highest-requires c κs = search needs
@@ -27,18 +29,26 @@ cast-leader c = search needs
 
 leader-requires : tie.Need-leader-requires
 leader-requires c κs =
-    some-stations (c .before .before .before .before .before .before .before .before .before .before .before .before .pre .0) (c .before .before .before .before .before .before .before .before .load .result) (c .before .before .before .before .before .before .before .before .load .ensures)
+    let load = c .before .before .before .before .before .before .before .before .load in
+    some-stations (c .before .before .before .before .before .before .before .before .before .before .before .before .pre .0) (load .result) (load .ensures)
 
 same-length : tie.Need-same-length
 same-length c = search needs
 
 returns : tie.Need-returns
 returns c =
-    goes-as-leader (c .before .before .before .before .before .before .before .before .before .before .before .before .before .before .before .pre .0) (c .before .before .before .before .before .before .before .before .before .before .before .load .result) (c .before .before .before .before .before .before .before .before .before .before .before .load .ensures) (c .before .before .before .before .before .before .before .highest .result) (c .before .before .before .before .before .before .before .highest .ensures) (c .before .before .leader .result) (c .before .before .leader .ensures) (c .before .before .before .before .before .enter .ensures) (c .before .before .before .before .before .before .before .before .before .before .before .before .before .before .before .args .out .now) (c .before .before .before .before .before .before .before .before .before .before .before .before .before .before .before .args .at) (c .if1 .taken)
+    let args = c .before .before .before .before .before .before .before .before .before .before .before .before .before .before .before .args in
+    let load = c .before .before .before .before .before .before .before .before .before .before .before .load in
+    let highest = c .before .before .before .before .before .before .before .highest in
+    let leader = c .before .before .leader in
+    goes-as-leader (c .before .before .before .before .before .before .before .before .before .before .before .before .before .before .before .pre .0) (load .result) (load .ensures) (highest .result) (highest .ensures) (leader .result) (leader .ensures) (c .before .before .before .before .before .enter .ensures) (args .out .now) (args .at) (c .if1 .taken)
 
 cast-to-one : tie.Need-cast-to-one
 cast-to-one c =
-    record { fits = leader-small (c .before .before .before .before .before .before .before .before .before .before .before .before .before .before .before .before .before .pre .0) (c .before .before .before .before .before .before .before .before .before .before .before .before .before .load .result) (c .before .before .before .before .before .before .before .before .before .before .before .before .before .load .ensures) (c .before .before .before .before .before .before .before .before .before .highest .result) (c .before .before .before .before .before .before .before .before .before .highest .ensures) (c .before .before .before .before .leader .result) (c .before .before .before .before .leader .ensures) }
+    let load = c .before .before .before .before .before .before .before .before .before .before .before .before .before .load in
+    let highest = c .before .before .before .before .before .before .before .before .before .highest in
+    let leader = c .before .before .before .before .leader in
+    record { fits = leader-small (c .before .before .before .before .before .before .before .before .before .before .before .before .before .before .before .before .before .pre .0) (load .result) (load .ensures) (highest .result) (highest .ensures) (leader .result) (leader .ensures) }
 
 to-one-requires : tie.Need-to-one-requires
 unfolding messageOf
@@ -54,7 +64,10 @@ same-length-3 c = search needs
 returns-2 : tie.Need-returns-2
 unfolding messageOf
 returns-2 c =
-    goes-with-status (c .before .before .before .before .before .before .before .before .before .before .before .before .before .before .before .before .before .before .before .before .pre .0) (c .before .before .before .before .before .before .before .before .before .before .before .before .before .before .before .before .load .result) (c .before .before .before .before .before .before .before .before .before .before .before .before .before .before .before .before .load .ensures) (c .before .before .before .before .before .before .before .before .before .before .before .before .highest .result) (c .before .before .before .before .before .before .before .before .before .before .before .before .highest .ensures) (c .before .before .before .before .before .before .before .leader .result) (c .before .before .before .before .before .before .before .leader .ensures) (c .before .before .before .before .before .before .before .before .before .before .enter .ensures) (c .before .before .before .before .before .if1 .left) (c .before .before .to-one .ensures)
+    let load = c .before .before .before .before .before .before .before .before .before .before .before .before .before .before .before .before .load in
+    let highest = c .before .before .before .before .before .before .before .before .before .before .before .before .highest in
+    let leader = c .before .before .before .before .before .before .before .leader in
+    goes-with-status (c .before .before .before .before .before .before .before .before .before .before .before .before .before .before .before .before .before .before .before .before .pre .0) (load .result) (load .ensures) (highest .result) (highest .ensures) (leader .result) (leader .ensures) (c .before .before .before .before .before .before .before .before .before .before .enter .ensures) (c .before .before .before .before .before .if1 .left) (c .before .before .to-one .ensures)
 
 pub entered-spec : {M : Type 1} → statement M
 entered-spec =

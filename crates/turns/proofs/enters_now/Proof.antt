@@ -1,3 +1,4 @@
+-- `turns::enters_now` meets its contract, by the loaded phase. Assumes nothing.
 use mathlib.Core.Path.{ap}
 use mathlib.Core.Logic.{⊎-elim}
 use denote.Enum.Declared.{tagOf}
@@ -27,19 +28,23 @@ cast-result-3 c = search needs
 
 add-result : tie.Need-add-result
 add-result c =
-    omega (arith, short-delay (c .before .before .before .before .before .before .before .before .before .pre) (c .before .before .before .before .before .before .before .load .result) (c .before .before .before .before .before .before .before .load .ensures))
+    let load = c .before .before .before .before .before .before .before .load in
+    omega (arith, short-delay (c .before .before .before .before .before .before .before .before .before .pre) (load .result) (load .ensures))
 
 add-result-2 : tie.Need-add-result-2
 add-result-2 c =
-    omega (arith, short-delay (c .before .before .before .before .before .before .before .before .before .pre) (c .before .before .before .before .before .before .before .load .result) (c .before .before .before .before .before .before .before .load .ensures))
+    let load = c .before .before .before .before .before .before .before .load in
+    omega (arith, short-delay (c .before .before .before .before .before .before .before .before .before .pre) (load .result) (load .ensures))
 
 returns : tie.Need-returns
 returns c =
-    enters-at (c .before .before .before .before .before .before .before .before .before .pre) (c .before .before .before .before .before .before .before .load .result) (c .before .before .before .before .before .before .before .load .ensures) _ (c .before .before .before .before .phase .given .1)
+    let load = c .before .before .before .before .before .before .before .load in
+    enters-at (c .before .before .before .before .before .before .before .before .before .pre) (load .result) (load .ensures) _ (c .before .before .before .before .phase .given .1)
 
 returns-2 : tie.Need-returns-2
 returns-2 c =
-    enters-never (c .before .before .before .before .pre) (c .before .before .load .result) (c .before .before .load .ensures) (λ q p. let z = ap (tagOf the-type) p in ⊎-elim (λ w. omega arith) (λ w. omega arith) (c .match .keys2))
+    let load = c .before .before .load in
+    enters-never (c .before .before .before .before .pre) (load .result) (load .ensures) (λ q p. let z = ap (tagOf the-type) p in ⊎-elim (λ w. omega arith) (λ w. omega arith) (c .match .keys2))
 
 pub enters-now-spec : {M : Type 1} → statement M
 enters-now-spec =

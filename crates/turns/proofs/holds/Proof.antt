@@ -1,3 +1,4 @@
+-- `turns::holds` meets its contract. Assumes nothing.
 use Rattle.rules.specs.Sizes.{holds}
 use mathlib.Core.Path.{refl}
 use borrow.Author.Needs.{needs}

@@ -1,3 +1,4 @@
+-- `turns::lead_fits` meets its contract. Assumes nothing.
 use Rattle.turns.proofs.Leading.{now-leads, never-fits, now-fits}
 use borrow.Author.Tests.{not-true, not-false}
 use mathlib.Core.Path.{sym, _∙_}

@@ -1,3 +1,4 @@
+-- `turns::leads` meets its contract, by the loaded numbers. Assumes nothing.
 use Rattle.turns.proofs.Moments.{some-stations, loaded-outside, loaded-leads}
 use Rattle.store.proofs.Forms.{form-long}
 use borrow.Author.Tests.{not-true, not-false}
@@ -14,18 +15,21 @@ is-in-requires c κs = search needs
 
 returns : tie.Need-returns
 returns c =
-    loaded-outside (c .before .before .before .before .before .pre) (c .before .before .before .load .result) (c .before .before .before .load .ensures) _ (c .before .is-in .ensures) (not-true _ (c .if1 .taken))
+    let load = c .before .before .before .load in
+    loaded-outside (c .before .before .before .before .before .pre) (load .result) (load .ensures) _ (c .before .is-in .ensures) (not-true _ (c .if1 .taken))
 
 cast-leader : tie.Need-cast-leader
 cast-leader c = search needs
 
 leader-requires : tie.Need-leader-requires
 leader-requires c κs =
-    some-stations (c .before .before .before .before .before .before .pre) (c .before .before .before .before .load .result) (c .before .before .before .before .load .ensures)
+    let load = c .before .before .before .before .load in
+    some-stations (c .before .before .before .before .before .before .pre) (load .result) (load .ensures)
 
 returns-2 : tie.Need-returns-2
 returns-2 c =
-    loaded-leads (c .before .before .before .before .before .before .before .before .pre) (c .before .before .before .before .before .before .load .result) (c .before .before .before .before .before .before .load .ensures) _ _ (c .before .before .before .before .is-in .ensures) (not-false _ (c .before .before .before .if1 .left)) (c .before .leader .ensures)
+    let load = c .before .before .before .before .before .before .load in
+    loaded-leads (c .before .before .before .before .before .before .before .before .pre) (load .result) (load .ensures) _ _ (c .before .before .before .before .is-in .ensures) (not-false _ (c .before .before .before .if1 .left)) (c .before .leader .ensures)
 
 pub leads-spec : {M : Type 1} → statement M
 leads-spec =

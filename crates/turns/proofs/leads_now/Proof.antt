@@ -1,3 +1,4 @@
+-- `turns::leads_now` meets its contract, by the loaded numbers. Assumes nothing.
 use Rattle.turns.proofs.Moments.{short-delay, leads-never, loaded-now}
 use Rattle.store.proofs.Forms.{form-long}
 use borrow.Author.Tests.{not-true, not-false}
@@ -26,19 +27,23 @@ cast-result-2 c = search needs
 
 mul-result : tie.Need-mul-result
 mul-result c =
-    omega (arith, short-delay (c .before .before .before .before .before .before .before .before .pre) (c .before .before .before .before .load .result) (c .before .before .before .before .load .ensures))
+    let load = c .before .before .before .before .load in
+    omega (arith, short-delay (c .before .before .before .before .before .before .before .before .pre) (load .result) (load .ensures))
 
 add-result : tie.Need-add-result
 add-result c =
-    omega (arith, short-delay (c .before .before .before .before .before .before .before .before .pre) (c .before .before .before .before .load .result) (c .before .before .before .before .load .ensures))
+    let load = c .before .before .before .before .load in
+    omega (arith, short-delay (c .before .before .before .before .before .before .before .before .pre) (load .result) (load .ensures))
 
 add-result-2 : tie.Need-add-result-2
 add-result-2 c =
-    omega (arith, short-delay (c .before .before .before .before .before .before .before .before .pre) (c .before .before .before .before .load .result) (c .before .before .before .before .load .ensures))
+    let load = c .before .before .before .before .load in
+    omega (arith, short-delay (c .before .before .before .before .before .before .before .before .pre) (load .result) (load .ensures))
 
 returns-2 : tie.Need-returns-2
 returns-2 c =
-    loaded-now (c .before .before .before .before .before .before .before .before .pre) (c .before .before .before .before .load .result) (c .before .before .before .before .load .ensures) (sym (c .before .before .before .before .before .before .leads .ensures) ∙ not-false _ (c .before .before .before .before .before .if1 .left))
+    let load = c .before .before .before .before .load in
+    loaded-now (c .before .before .before .before .before .before .before .before .pre) (load .result) (load .ensures) (sym (c .before .before .before .before .before .before .leads .ensures) ∙ not-false _ (c .before .before .before .before .before .if1 .left))
 
 pub leads-now-spec : {M : Type 1} → statement M
 leads-now-spec =

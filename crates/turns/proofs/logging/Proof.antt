@@ -1,3 +1,4 @@
+-- `turns::logging` meets its contract. The invariant: the names up to k are logged and reported. The measure is what is left. Assumes nothing.
 use Rattle.fields.specs.Names.{nameOf}
 use Rattle.turns.proofs.Names.{Logged, logged-none, logged-next, logged-count, logged-name, logged-ends, logged-done, committed-bytes}
 use Rattle.store.proofs.Loaded.{loaded-logged}
@@ -30,19 +31,25 @@ loop-holds c =
 
 shared-slice-read-statement-at : tie.Need-shared-slice-read-statement-at Inv-loop μ-loop
 shared-slice-read-statement-at c =
-    omega (arith, c .before .before .before .before .before .before .before .before .before .pre .fits, c .before .before .before .before .before .before .before .before .before .pre .long, c .before .before .loop-test .taken)
+    let pre = c .before .before .before .before .before .before .before .before .before .pre in
+    omega (arith, pre .fits, pre .long, c .before .before .loop-test .taken)
 
 cast-statement-at : tie.Need-cast-statement-at Inv-loop μ-loop
 cast-statement-at c =
-    omega (arith, c .before .before .before .before .before .before .before .before .before .pre .stored (c .before .before .before .loop .k) (c .before .before .before .loop .inv .1 .low) (c .before .before .loop-test .taken), form-statements _ (c .before .before .before .before .before .before .before .before .before .pre .form))
+    let pre = c .before .before .before .before .before .before .before .before .before .pre in
+    let loop = c .before .before .before .loop in
+    omega (arith, pre .stored (loop .k) (loop .inv .1 .low) (c .before .before .loop-test .taken), form-statements _ (pre .form))
 
 statement-at-requires : tie.Need-statement-at-requires Inv-loop μ-loop
 statement-at-requires c κs =
-    (form-long _ (c .before .before .before .loop .inv .1 .left .form), omega (arith, c .before .before .before .before .before .before .before .before .before .pre .stored (c .before .before .before .loop .k) (c .before .before .before .loop .inv .1 .low) (c .before .before .loop-test .taken), form-statements _ (c .before .before .before .before .before .before .before .before .before .pre .form)))
+    let pre = c .before .before .before .before .before .before .before .before .before .pre in
+    let loop = c .before .before .before .loop in
+    (form-long _ (loop .inv .1 .left .form), omega (arith, pre .stored (loop .k) (loop .inv .1 .low) (c .before .before .loop-test .taken), form-statements _ (pre .form)))
 
 append-name-requires : tie.Need-append-name-requires Inv-loop μ-loop
 append-name-requires c κs =
-    ((c .before .before .before .before .before .before .loop .inv .1 .left .form), omega (arith, logged-count _ _ _ _ (c .before .before .before .before .before .before .loop .inv .1), c .before .before .before .before .before .loop-test .taken, c .before .before .before .before .before .before .before .before .before .before .before .before .pre .fits))
+    let loop = c .before .before .before .before .before .before .loop in
+    ((loop .inv .1 .left .form), omega (arith, logged-count _ _ _ _ (loop .inv .1), c .before .before .before .before .before .loop-test .taken, c .before .before .before .before .before .before .before .before .before .before .before .before .pre .fits))
 
 add-committed : tie.Need-add-committed Inv-loop μ-loop
 add-committed c =
@@ -69,10 +76,12 @@ loop-less c =
 
 loop-again : tie.Need-loop-again Inv-loop μ-loop
 loop-again c =
+    let loop-test = c .before .before .before .before .before .before .before .before .before .before .before .before .loop-test in
+    let statement-at = c .before .before .before .before .before .before .before .before .before .statement-at in
     let l = c .before .before .before .before .before .before .before .before .before .before .before .before .before .loop in
     let p = c .before .before .before .before .before .before .before .before .before .before .before .before .before .before .before .before .before .before .before .pre in
     let a = c .before .before .before .before .before .before .before .before .before .before .before .before .before .before .before .before .before .before .before .args in
-    (omega (arith, c .before .before .before .before .before .before .before .before .before .before .before .before .loop-test .taken), logged-next (a .store .now) (a .gained .now) (a .out .now) (a .at) (l .inv .1) _ (logged-name (a .store .now) (a .gained .now) (a .out .now) (a .at) (l .inv .1) (c .before .before .before .before .before .before .before .before .before .statement-at .result) (p .stored (l .k) (l .inv .1 .low) (c .before .before .before .before .before .before .before .before .before .before .before .before .loop-test .taken)) (c .before .before .before .before .before .before .before .before .before .statement-at .ensures)) (c .before .before .before .before .before .before .append-name .ensures) (c .before .before .committed .ensures))
+    (omega (arith, loop-test .taken), logged-next (a .store .now) (a .gained .now) (a .out .now) (a .at) (l .inv .1) _ (logged-name (a .store .now) (a .gained .now) (a .out .now) (a .at) (l .inv .1) (statement-at .result) (p .stored (l .k) (l .inv .1 .low) (loop-test .taken)) (statement-at .ensures)) (c .before .before .before .before .before .before .append-name .ensures) (c .before .before .committed .ensures))
 
 same-length : tie.Need-same-length Inv-loop μ-loop
 same-length c =

@@ -1,5 +1,5 @@
-use Rattle.turns.proofs.Moments.{short-wait}
-use Rattle.turns.proofs.Moments.{view-limits, short-delay, few-votes, entered-before, loaded-calm, loaded-blamed, loaded-overdue}
+-- `turns::overdue` meets its contract: each test is one of the rule's, by the loaded numbers. Assumes nothing.
+use Rattle.turns.proofs.Moments.{view-limits, short-delay, few-votes, short-wait, entered-before, loaded-calm, loaded-blamed, loaded-overdue}
 use Rattle.store.proofs.Forms.{form-long}
 use native.Mathlib.Omega.{arith}
 use borrow.Author.Tests.{not-true, not-false}
@@ -18,59 +18,73 @@ is-in-requires c κs = search needs
 
 returns : tie.Need-returns
 returns c =
-    loaded-calm (c .before .before .before .before .before .pre) (c .before .before .before .load .result) (c .before .before .before .load .ensures) _ (c .before .is-in .ensures) (not-true _ (c .if1 .taken))
+    let load = c .before .before .before .load in
+    loaded-calm (c .before .before .before .before .before .pre) (load .result) (load .ensures) _ (c .before .is-in .ensures) (not-true _ (c .if1 .taken))
 
 cast-blame-at : tie.Need-cast-blame-at
 cast-blame-at c = search needs
 
 sub-blame-at : tie.Need-sub-blame-at
 sub-blame-at c =
-    view-limits (c .before .before .before .before .before .before .pre) (c .before .before .before .before .load .result) (c .before .before .before .before .load .ensures) .0
+    let load = c .before .before .before .before .load in
+    view-limits (c .before .before .before .before .before .before .pre) (load .result) (load .ensures) .0
 
 blame-at-requires : tie.Need-blame-at-requires
 blame-at-requires c κs =
-    (form-long _ (c .before .before .before .before .before .before .pre .form), omega (arith, view-limits (c .before .before .before .before .before .before .pre) (c .before .before .before .before .load .result) (c .before .before .before .before .load .ensures)))
+    let pre = c .before .before .before .before .before .before .pre in
+    let load = c .before .before .before .before .load in
+    (form-long _ (pre .form), omega (arith, view-limits pre (load .result) (load .ensures)))
 
 cast-holds : tie.Need-cast-holds
 cast-holds c = search needs
 
 holds-requires : tie.Need-holds-requires
 holds-requires c κs =
-    own-small (c .before .before .before .before .before .before .before .pre) (c .before .before .before .before .before .load .result) (c .before .before .before .before .before .load .ensures)
+    let load = c .before .before .before .before .before .load in
+    own-small (c .before .before .before .before .before .before .before .pre) (load .result) (load .ensures)
 
 returns-2 : tie.Need-returns-2
 returns-2 c =
-    loaded-blamed (c .before .before .before .before .before .before .before .before .before .pre) (c .before .before .before .before .before .before .before .load .result) (c .before .before .before .before .before .before .before .load .ensures) _ (c .before .before .blame-at .ensures) (sym (c .before .holds .ensures) ∙ c .if2 .taken)
+    let load = c .before .before .before .before .before .before .before .load in
+    loaded-blamed (c .before .before .before .before .before .before .before .before .before .pre) (load .result) (load .ensures) _ (c .before .before .blame-at .ensures) (sym (c .before .holds .ensures) ∙ c .if2 .taken)
 
 votes-requires : tie.Need-votes-requires
 votes-requires c κs = search needs
 
 mul-wait : tie.Need-mul-wait
 mul-wait c =
-    omega (arith, few-votes (c .before .before .before .before .before .before .before .before .before .before .pre) (c .before .before .before .before .before .before .before .before .load .result) (c .before .before .before .before .before .before .before .before .load .ensures) _ (c .votes .ensures))
+    let load = c .before .before .before .before .before .before .before .before .load in
+    omega (arith, few-votes (c .before .before .before .before .before .before .before .before .before .before .pre) (load .result) (load .ensures) _ (c .votes .ensures))
 
 add-wait : tie.Need-add-wait
 add-wait c =
-    omega (arith, few-votes (c .before .before .before .before .before .before .before .before .before .before .pre) (c .before .before .before .before .before .before .before .before .load .result) (c .before .before .before .before .before .before .before .before .load .ensures) _ (c .votes .ensures))
+    let load = c .before .before .before .before .before .before .before .before .load in
+    omega (arith, few-votes (c .before .before .before .before .before .before .before .before .before .before .pre) (load .result) (load .ensures) _ (c .votes .ensures))
 
 mul-wait-2 : tie.Need-mul-wait-2
 mul-wait-2 c =
-    omega (arith, short-wait (c .before .votes .result) (c .before .before .before .before .before .before .before .before .before .load .result .settings .delay) (few-votes (c .before .before .before .before .before .before .before .before .before .before .before .pre) (c .before .before .before .before .before .before .before .before .before .load .result) (c .before .before .before .before .before .before .before .before .before .load .ensures) _ (c .before .votes .ensures)) (short-delay (c .before .before .before .before .before .before .before .before .before .before .before .pre) (c .before .before .before .before .before .before .before .before .before .load .result) (c .before .before .before .before .before .before .before .before .before .load .ensures)))
+    let pre = c .before .before .before .before .before .before .before .before .before .before .before .pre in
+    let load = c .before .before .before .before .before .before .before .before .before .load in
+    omega (arith, short-wait (c .before .votes .result) (load .result .settings .delay) (few-votes pre (load .result) (load .ensures) _ (c .before .votes .ensures)) (short-delay pre (load .result) (load .ensures)))
 
 add-wait-2 : tie.Need-add-wait-2
 add-wait-2 c =
-    omega (arith, short-wait (c .before .votes .result) (c .before .before .before .before .before .before .before .before .before .load .result .settings .delay) (few-votes (c .before .before .before .before .before .before .before .before .before .before .before .pre) (c .before .before .before .before .before .before .before .before .before .load .result) (c .before .before .before .before .before .before .before .before .before .load .ensures) _ (c .before .votes .ensures)) (short-delay (c .before .before .before .before .before .before .before .before .before .before .before .pre) (c .before .before .before .before .before .before .before .before .before .load .result) (c .before .before .before .before .before .before .before .before .before .load .ensures)))
+    let pre = c .before .before .before .before .before .before .before .before .before .before .before .pre in
+    let load = c .before .before .before .before .before .before .before .before .before .load in
+    omega (arith, short-wait (c .before .votes .result) (load .result .settings .delay) (few-votes pre (load .result) (load .ensures) _ (c .before .votes .ensures)) (short-delay pre (load .result) (load .ensures)))
 
 sub-result : tie.Need-sub-result
 sub-result c =
-    entered-before (c .before .before .before .before .before .before .before .before .before .before .before .before .pre) (c .before .before .before .before .before .before .before .before .before .before .load .result) (c .before .before .before .before .before .before .before .before .before .before .load .ensures)
+    let load = c .before .before .before .before .before .before .before .before .before .before .load in
+    entered-before (c .before .before .before .before .before .before .before .before .before .before .before .before .pre) (load .result) (load .ensures)
 
 cast-result : tie.Need-cast-result
 cast-result c = search needs
 
 returns-3 : tie.Need-returns-3
 returns-3 c =
-    loaded-overdue (c .before .before .before .before .before .before .before .before .before .before .before .before .pre) (c .before .before .before .before .before .before .before .before .before .before .load .result) (c .before .before .before .before .before .before .before .before .before .before .load .ensures) _ _ _ (c .before .before .before .before .before .before .before .before .is-in .ensures) (not-false _ (c .before .before .before .before .before .before .before .if1 .left)) (c .before .before .before .before .before .blame-at .ensures) (sym (c .before .before .before .before .holds .ensures) ∙ c .before .before .before .if2 .left) (c .before .before .votes .ensures)
+    let load = c .before .before .before .before .before .before .before .before .before .before .load in
+    loaded-overdue (c .before .before .before .before .before .before .before .before .before .before .before .before .pre) (load .result) (load .ensures) _ _ _ (c .before .before .before .before .before .before .before .before .is-in .ensures) (not-false _ (c .before .before .before .before .before .before .before .if1 .left)) (c .before .before .before .before .before .blame-at .ensures) (sym (c .before .before .before .before .holds .ensures) ∙ c .before .before .before .if2 .left) (c .before .before .votes .ensures)
 
 pub overdue-spec : {M : Type 1} → statement M
 overdue-spec =

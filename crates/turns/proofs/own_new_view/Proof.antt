@@ -1,3 +1,4 @@
+-- `turns::own_new_view` meets its contract: what it makes is the rules' new-view, and may be sent. Assumes nothing.
 use Rattle.turns.proofs.Leading.{made-is, made-sendable}
 use Rattle.store.proofs.Forms.{form-long}
 use native.Mathlib.Omega.{arith}
@@ -18,13 +19,16 @@ cast-t7 c = search needs
 
 cast-t8 : tie.Need-cast-t8
 cast-t8 c =
-    record { fits = omega (arith, own-small (c .before .before .before .before .before .before .before .pre .0) (c .before .before .before .before .before .load .result) (c .before .before .before .before .before .load .ensures)) }
+    let load = c .before .before .before .before .before .load in
+    record { fits = omega (arith, own-small (c .before .before .before .before .before .before .before .pre .0) (load .result) (load .ensures)) }
 
 returns : tie.Need-returns
 returns c =
-    let k = c .before .before .before .before .before .before .before .pre .0 in
+    let pre = c .before .before .before .before .before .before .before .pre in
+    let load = c .before .before .before .before .before .load in
+    let k = pre .0 in
     let t = c .before .before .before .highest in
-    (made-is k (c .before .before .before .before .before .load .result) (c .before .before .before .before .before .load .ensures) (t .result) (t .ensures), made-sendable k (c .before .before .before .before .before .load .result) (c .before .before .before .before .before .load .ensures) (t .result) (t .ensures) (c .before .before .before .before .before .before .before .pre .1))
+    (made-is k (load .result) (load .ensures) (t .result) (t .ensures), made-sendable k (load .result) (load .ensures) (t .result) (t .ensures) (pre .1))
 
 pub own-new-view-spec : {M : Type 1} → statement M
 own-new-view-spec = tie.close (tie.spec load-requires highest-requires cast-t7 cast-t8 returns)

@@ -1,3 +1,4 @@
+-- `turns::vote_in_order` meets its contract. The invariant: the first j were voted on, and the rest decides. The measure is what is left. Assumes nothing.
 use Rattle.turns.proofs.Ballots.{Voted, voted-none, voted-done, voted-stands, voted-next}
 use Rattle.store.proofs.Forms.{form-long, form-statements}
 use native.Mathlib.Omega.{arith}
@@ -16,7 +17,8 @@ abbrev μ-loop : tie.MeasureT-loop
 
 loop-holds : tie.Need-loop-holds Inv-loop μ-loop
 loop-holds c =
-    voted-none (c .before .before .before .args .store .now) (c .before .before .before .args .order .now) (c .before .before .before .args .out .now) (c .before .before .before .args .at) (c .before .before .before .args .count) (c .before .before .before .pre .formed)
+    let args = c .before .before .before .args in
+    voted-none (args .store .now) (args .order .now) (args .out .now) (args .at) (args .count) (c .before .before .before .pre .formed)
 
 shared-slice-read-place : tie.Need-shared-slice-read-place Inv-loop μ-loop
 shared-slice-read-place c =
@@ -24,16 +26,23 @@ shared-slice-read-place c =
 
 cast-place : tie.Need-cast-place Inv-loop μ-loop
 cast-place c =
-    omega (arith, c .before .before .before .before .before .before .pre .inside (c .before .before .loop .j) (c .before .loop-test .taken), form-statements _ (c .before .before .before .before .before .before .pre .formed .form))
+    let pre = c .before .before .before .before .before .before .pre in
+    omega (arith, pre .inside (c .before .before .loop .j) (c .before .loop-test .taken), form-statements _ (pre .formed .form))
 
 statement-at-requires : tie.Need-statement-at-requires Inv-loop μ-loop
 statement-at-requires c κs =
-    (form-long _ (c .before .before .before .loop .inv .formed .form), omega (arith, (c .before .before .before .before .before .before .before .pre .inside (c .before .before .before .loop .j) (c .before .before .loop-test .taken)), form-statements _ (c .before .before .before .before .before .before .before .pre .formed .form)))
+    let pre = c .before .before .before .before .before .before .before .pre in
+    let loop = c .before .before .before .loop in
+    (form-long _ (loop .inv .formed .form), omega (arith, (pre .inside (loop .j) (c .before .before .loop-test .taken)), form-statements _ (pre .formed .form)))
 
 voting-requires : tie.Need-voting-requires Inv-loop μ-loop
 voting-requires c κs =
+    let args = c .before .before .before .before .before .before .before .before .before .before .args in
+    let pre = c .before .before .before .before .before .before .before .before .before .before .pre in
     let l = c .before .before .before .before .before .before .loop in
-    (l .inv .formed, voted-stands (c .before .before .before .before .before .before .before .before .before .before .args .store .now) (c .before .before .before .before .before .before .before .before .before .before .args .order .now) (c .before .before .before .before .before .before .before .before .before .before .args .out .now) (c .before .before .before .before .before .before .before .before .before .before .args .at) (c .before .before .before .before .before .before .before .before .before .before .args .count) (l .inv) (c .before .before .before .before .before .before .before .before .before .before .pre .inside (c .before .before .before .before .before .before .loop .j) (c .before .before .before .before .before .loop-test .taken)) (c .before .before .statement-at .result) (c .before .before .statement-at .ensures), omega (arith, l .inv .ends, l .inv .long, c .before .before .before .before .before .before .before .before .before .before .pre .space, c .before .before .before .before .before .loop-test .taken))
+    let loop-test = c .before .before .before .before .before .loop-test in
+    let statement-at = c .before .before .statement-at in
+    (l .inv .formed, voted-stands (args .store .now) (args .order .now) (args .out .now) (args .at) (args .count) (l .inv) (pre .inside (l .j) (loop-test .taken)) (statement-at .result) (statement-at .ensures), omega (arith, l .inv .ends, l .inv .long, pre .space, loop-test .taken))
 
 add-j : tie.Need-add-j Inv-loop μ-loop
 add-j c =
@@ -45,7 +54,11 @@ loop-less c =
 
 loop-again : tie.Need-loop-again Inv-loop μ-loop
 loop-again c =
-    voted-next (c .before .before .before .before .before .before .before .before .before .before .before .before .before .before .before .args .store .now) (c .before .before .before .before .before .before .before .before .before .before .before .before .before .before .before .args .order .now) (c .before .before .before .before .before .before .before .before .before .before .before .before .before .before .before .args .out .now) (c .before .before .before .before .before .before .before .before .before .before .before .before .before .before .before .args .at) (c .before .before .before .before .before .before .before .before .before .before .before .before .before .before .before .args .count) (c .before .before .before .before .before .before .before .before .before .before .before .loop .inv) (c .before .before .before .before .before .before .before .before .before .before .before .before .before .before .before .pre .inside (c .before .before .before .before .before .before .before .before .before .before .before .loop .j) (c .before .before .before .before .before .before .before .before .before .before .loop-test .taken)) (c .before .before .before .before .before .before .before .statement-at .result) (c .before .before .before .before .before .before .before .statement-at .ensures) (c .before .before .before .before .before .before .before .before .before .before .loop-test .taken) (c .before .before .before .before .voting .ensures)
+    let args = c .before .before .before .before .before .before .before .before .before .before .before .before .before .before .before .args in
+    let loop = c .before .before .before .before .before .before .before .before .before .before .before .loop in
+    let loop-test = c .before .before .before .before .before .before .before .before .before .before .loop-test in
+    let statement-at = c .before .before .before .before .before .before .before .statement-at in
+    voted-next (args .store .now) (args .order .now) (args .out .now) (args .at) (args .count) (loop .inv) (c .before .before .before .before .before .before .before .before .before .before .before .before .before .before .before .pre .inside (loop .j) (loop-test .taken)) (statement-at .result) (statement-at .ensures) (loop-test .taken) (c .before .before .before .before .voting .ensures)
 
 same-length : tie.Need-same-length Inv-loop μ-loop
 same-length c =
@@ -57,7 +70,8 @@ same-length-2 c =
 
 returns : tie.Need-returns Inv-loop μ-loop
 returns c =
-    voted-done (c .before .before .before .before .before .args .store .now) (c .before .before .before .before .before .args .order .now) (c .before .before .before .before .before .args .out .now) (c .before .before .before .before .before .args .at) (c .before .before .before .before .before .args .count) (c .before .loop .inv) (omega (arith, c .loop-test .left))
+    let args = c .before .before .before .before .before .args in
+    voted-done (args .store .now) (args .order .now) (args .out .now) (args .at) (args .count) (c .before .loop .inv) (omega (arith, c .loop-test .left))
 
 pub vote-in-order-spec : {M : Type 1} → statement M
 vote-in-order-spec =
