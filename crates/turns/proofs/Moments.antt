@@ -1,0 +1,157 @@
+-- When the parts of a tick are due, by the numbers of a loaded station. Assumes nothing.
+use Prim.Native.Nat.{ℕ, _+_, _-_, _*_, _≤_, _<_}
+use mathlib.Core.Path.{_≡_, refl, sym, ap, _∙_}
+use mathlib.Core.Bool.{Bool, true, false, not, _&&_}
+use mathlib.Core.List.{List}
+use mathlib.Core.Option.{none, some}
+use native.Mathlib.Omega.{arith}
+use native.Mathlib.Nat.{mul-le-mul-left}
+use lib.Dec.{leb, ltb, eqb}
+use lib.ListN.{length}
+use Rattle.rules.specs.Limits.{lastView, mostDelay, mostStatements}
+use Rattle.rules.specs.Sizes as sizes
+use Rattle.rules.specs.Sizes.{leader, holds}
+use Rattle.rules.specs.Messages.{viewAllowed}
+use Rattle.rules.specs.Words as words
+use Rattle.rules.specs.Words.{State, inView, waiting, stopped}
+use Rattle.rules.specs.Inputs.{isIn, leads, blamesOf, votes, overdue, leadsNow, entersNow}
+use Rattle.rules.proofs.Tests.{by-bool}
+use Rattle.fields.specs.Records.{fields}
+use Rattle.settings.specs.Made.{settingsOf}
+use Rattle.store.specs.Layout.{headerFormat}
+use Rattle.store.specs.Decode.{blameAt, stateOf}
+use Rattle.store.specs.Meaning.{courseOf, headerOf}
+use Rattle.store.specs.declared.Station.{Station}
+use Rattle.store.specs.declared.Phase.{Phase}
+use Rattle.store.specs.declared.Phase.the-variants.{InView, Waiting, Stopped}
+use Rattle.store.proofs.Loaded.{loaded-settings, loaded-phase, loaded-view, loaded-entry, loaded-clock}
+use Rattle.kept.proofs.Lists.{keep-length}
+use Rattle.kept.proofs.Allowed.{view-within}
+use Rattle.kept.proofs.Facts.{sizes-of, clocks-of}
+use Rattle.acts.specs.Works.{Formed}
+use Rattle.acts.proofs.Works.{formed-parts}
+use Rattle.acts.proofs.Stores.{blame-place}
+
+-- ---- by the rules' names
+
+module _ (s : State) where
+  pub calm-outside : isIn (s .view) s ≡ false → false ≡ overdue s
+  unfolding overdue
+  calm-outside q = rw q
+
+  pub calm-once-blamed : holds (blamesOf (s .view) s) (s .settings .own) ≡ true → false ≡ overdue s
+  unfolding overdue
+  calm-once-blamed q = by-bool (isIn (s .view) s) (λ p. rw (p, q)) (λ p. rw p)
+
+  pub overdue-by : isIn (s .view) s ≡ true → holds (blamesOf (s .view) s) (s .settings .own) ≡ false
+      → leb ((2 * votes s + 6) * s .settings .D + 2) (s .clock - s .entry) ≡ overdue s
+  unfolding overdue
+  overdue-by p q = rw (p, q)
+
+  pub leads-outside : isIn (s .view) s ≡ false → false ≡ leads s
+  unfolding leads
+  leads-outside q = rw q
+
+  pub leads-by : isIn (s .view) s ≡ true → eqb (leader (s .settings) (s .view)) (s .settings .own) ≡ leads s
+  unfolding leads
+  leads-by q = rw q
+
+  pub leads-never : leads s ≡ false → false ≡ leadsNow s
+  unfolding leadsNow
+  leads-never q = rw q
+
+  pub leads-at : leads s ≡ true → eqb (s .clock) (s .entry + 2 * s .settings .D + 1) ≡ leadsNow s
+  unfolding leadsNow
+  leads-at q = rw q
+
+  unfoldable entersIf : words.Phase → Bool
+  entersIf p = elim p [ inView ↦ false | waiting q ↦ ltb (s .view) lastView && eqb (s .clock) (q + s .settings .D + 1) | stopped c ↦ false ]
+
+  by-phase : entersIf (s .phase) ≡ entersNow s
+  unfolding entersIf entersNow
+  by-phase = refl
+
+-- "m being proposes voted for" are not more than are stored
+pub votes-few : (s : State) → votes s ≤ length (s .statements)
+unfolding votes
+votes-few s =
+    keep-length (λ x. not (x .isNewView) && eqb (x .view) (s .view) && elim (x .voted) [ none ↦ false | some c ↦ true ]) (s .statements)
+
+-- so the wait is a small number
+pub short-wait : (m d : ℕ) → m ≤ mostStatements → d ≤ mostDelay → (2 * m + 6) * d + 2 ≤ 2_620_002
+short-wait m d f l = let h : (2 * m + 6) * d ≤ (2 * m + 6) * mostDelay = mul-le-mul-left (2 * m + 6) l in omega arith
+
+-- ---- by the loaded numbers
+
+module _ {b : List ℕ} (k : Formed b) (s : Station) (e : headerOf s ≡ fields b 0 headerFormat) where
+  abbrev S : State
+  S = stateOf b
+
+  part : (f : sizes.Settings → ℕ) → f (settingsOf (s .settings)) ≡ f (S .settings)
+  part f = ap f (loaded-settings s b e)
+
+  pub view-of-loaded : viewAllowed (s .view) ≡ true
+  view-of-loaded = ap viewAllowed (loaded-view s b e) ∙ formed-parts k .formed .view
+
+  pub view-limits : (1 ≤ s .view) × (s .view ≤ lastView)
+  view-limits = view-within (s .view) view-of-loaded
+
+  pub short-delay : s .settings .delay ≤ mostDelay
+  short-delay = let z = sizes-of (formed-parts k .formed) in omega (arith, part (λ g. g .D))
+
+  pub some-stations : 0 < s .settings .n
+  some-stations = let z = sizes-of (formed-parts k .formed) in omega (arith, part (λ g. g .n))
+
+  pub few-votes : (m : ℕ) → m ≡ votes S → m ≤ mostStatements
+  few-votes m q = omega (arith, votes-few S, formed-parts k .fewStatements)
+
+  pub entered-before : s .entry ≤ s .clock
+  entered-before = let c = clocks-of (formed-parts k .formed) in omega (arith, loaded-entry s b e, loaded-clock s b e)
+
+  in-own : (q : Bool) → q ≡ isIn (s .view) S → q ≡ isIn (S .view) S
+  in-own q r = r ∙ ap (λ (v : ℕ). isIn v S) (loaded-view s b e)
+
+  own-held : (m : ℕ) → m ≡ blameAt b (s .view - 1) → holds m (s .settings .own) ≡ holds (blamesOf (S .view) S) (S .settings .own)
+  own-held m q =
+      let w : m ≡ blamesOf (S .view) S = q ∙ blame-place b (s .view) view-of-loaded ∙ ap (λ (v : ℕ). blamesOf v S) (loaded-view s b e) in
+      λ i. holds (w i) (part (λ g. g .own) i)
+
+  pub loaded-calm : (q : Bool) → q ≡ isIn (s .view) S → q ≡ false → false ≡ overdue S
+  loaded-calm q r f = calm-outside S (sym (in-own q r) ∙ f)
+
+  pub loaded-blamed : (m : ℕ) → m ≡ blameAt b (s .view - 1) → holds m (s .settings .own) ≡ true → false ≡ overdue S
+  loaded-blamed m q h = calm-once-blamed S (sym (own-held m q) ∙ h)
+
+  pub loaded-overdue : (q : Bool) (m n : ℕ) → q ≡ isIn (s .view) S → q ≡ true → m ≡ blameAt b (s .view - 1) → holds m (s .settings .own) ≡ false → n ≡ votes S
+      → leb ((2 * n + 6) * s .settings .delay + 2) (s .clock - s .entry) ≡ overdue S
+  loaded-overdue q m n r t w h v =
+      (λ i. leb ((2 * v i + 6) * part (λ g. g .D) i + 2) (loaded-clock s b e i - loaded-entry s b e i))
+      ∙ overdue-by S (sym (in-own q r) ∙ t) (sym (own-held m w) ∙ h)
+
+  pub loaded-outside : (q : Bool) → q ≡ isIn (s .view) S → q ≡ false → false ≡ leads S
+  loaded-outside q r f = leads-outside S (sym (in-own q r) ∙ f)
+
+  pub loaded-leads : (q : Bool) (l : ℕ) → q ≡ isIn (s .view) S → q ≡ true → l ≡ leader (settingsOf (s .settings)) (s .view) → eqb l (s .settings .own) ≡ leads S
+  loaded-leads q l r t w =
+      (λ i. eqb ((w ∙ (λ j. leader (loaded-settings s b e j) (loaded-view s b e j))) i) (part (λ g. g .own) i)) ∙ leads-by S (sym (in-own q r) ∙ t)
+
+  pub loaded-now : leads S ≡ true → eqb (s .clock) (s .entry + 2 * s .settings .delay + 1) ≡ leadsNow S
+  loaded-now h = (λ i. eqb (loaded-clock s b e i) (loaded-entry s b e i + 2 * part (λ g. g .D) i + 1)) ∙ leads-at S h
+
+  loaded-enters : entersIf S (courseOf (s .phase)) ≡ entersNow S
+  loaded-enters = ap (entersIf S) (loaded-phase s b e) ∙ by-phase S
+
+  pub enters-at : (q : ℕ) → s .phase ≡ Waiting q → (ltb (s .view) lastView && eqb (s .clock) (q + s .settings .delay + 1)) ≡ entersNow S
+  unfolding entersIf
+  enters-at q p =
+      (λ i. ltb (loaded-view s b e i) lastView && eqb (loaded-clock s b e i) (q + part (λ g. g .D) i + 1))
+      ∙ sym (ap (λ (r : Phase). entersIf S (courseOf r)) p) ∙ loaded-enters
+
+  pub enters-never : ((q : ℕ) → s .phase ≡ Waiting q → ⊥) → false ≡ entersNow S
+  unfolding entersIf
+  enters-never n = go (s .phase) refl
+    where
+      go : (p : Phase) → s .phase ≡ p → false ≡ entersNow S
+      go InView q = sym (ap (λ (r : Phase). entersIf S (courseOf r)) q) ∙ loaded-enters
+      go (Waiting c) q = absurd (n c q)
+      go (Stopped c) q = sym (ap (λ (r : Phase). entersIf S (courseOf r)) q) ∙ loaded-enters

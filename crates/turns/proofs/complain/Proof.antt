@@ -1,0 +1,95 @@
+-- `turns::complain` meets its contract: the blame is said, then joined. Assumes nothing.
+use Rattle.wire.specs.Meaning.{messageOf}
+use Rattle.turns.proofs.Parts.{works-still, complain-calm, blame-bytes, complained}
+use Rattle.turns.proofs.Moments.{view-of-loaded}
+use Rattle.store.proofs.Forms.{form-long}
+use borrow.Author.Tests.{not-true, not-false}
+use native.Mathlib.Omega.{arith}
+use mathlib.Core.Path.{sym, ap, _∙_}
+use Rattle.acts.proofs.Votes.{loaded-own, own-small, only-small}
+use Rattle.kept.proofs.Allowed.{only-lt}
+use Rattle.kept.proofs.Facts.{sizes-of}
+use Rattle.acts.proofs.Works.{formed-parts}
+use Rattle.store.specs.Decode.{stateOf}
+use Rattle.rules.specs.Sizes.{only}
+use Rattle.wire.proofs.Writing.{says-length}
+use Rattle.store.proofs.Loaded.{loaded-view}
+use borrow.Author.Needs.{needs}
+use Rattle.turns.proofs.complain.Statement.{statement}
+use Rattle.turns.proofs.complain.Tie as tie
+
+overdue-requires : tie.Need-overdue-requires
+overdue-requires c κs = search needs
+
+same-length : tie.Need-same-length
+same-length c = search needs
+
+returns : tie.Need-returns
+returns c =
+    let args = c .before .before .before .before .before .args in
+    works-still (args .out .now) (args .at) (c .before .before .before .before .before .pre .0 .form) (complain-calm _ (sym (c .before .overdue .ensures) ∙ not-true _ (c .if1 .taken)))
+
+load-requires : tie.Need-load-requires
+load-requires c κs =
+    form-long _ (c .before .before .before .before .before .before .pre .0 .form)
+
+cast-t15 : tie.Need-cast-t15
+cast-t15 c =
+    record { fits = omega (arith, own-small (c .before .before .before .before .before .before .before .before .pre .0) (c .before .load .result) (c .before .load .ensures)) }
+
+to-all-requires : tie.Need-to-all-requires
+unfolding messageOf
+to-all-requires c κs =
+    let load = c .before .before .load in
+    (tt, omega (arith, blame-bytes (load .result .view) (load .result .settings .own), c .before .before .before .before .before .before .before .before .before .pre .1))
+
+only-requires : tie.Need-only-requires
+only-requires c κs =
+    let load = c .before .before .before .before .before .before .before .load in
+    own-small (c .before .before .before .before .before .before .before .before .before .before .before .before .before .before .pre .0) (load .result) (load .ensures)
+
+cast-blaming : tie.Need-cast-blaming
+cast-blaming c =
+    let load = c .before .before .before .before .before .before .before .before .load in
+    record { fits = omega (arith, c .only .ensures, only-small (c .before .before .before .before .before .before .before .before .before .before .before .before .before .before .before .pre .0) (load .result) (load .ensures)) }
+
+blaming-requires : tie.Need-blaming-requires
+unfolding messageOf
+blaming-requires c κs =
+    let pre = c .before .before .before .before .before .before .before .before .before .before .before .before .before .before .before .pre in
+    let load = c .before .before .before .before .before .before .before .before .load in
+    let to-all = c .before .before .before .before .before .to-all in
+    let a = c .before .before .before .before .before .before .before .before .before .before .before .before .before .before .before .args in
+    let k = pre .0 in
+    let s = stateOf (a .store .now) in
+    (k, view-of-loaded k (load .result) (load .ensures), omega (arith, c .only .ensures, ap only (loaded-own k (load .result) (load .ensures)), only-lt (s .settings) (s .settings .own) (sizes-of (formed-parts k .formed) .own)), omega (arith, to-all .ensures .ends, blame-bytes (load .result .view) (load .result .settings .own), says-length (to-all .ensures), pre .1))
+
+same-length-2 : tie.Need-same-length-2
+same-length-2 c = search needs
+
+same-length-3 : tie.Need-same-length-3
+same-length-3 c = search needs
+
+returns-2 : tie.Need-returns-2
+unfolding messageOf
+returns-2 c =
+    let load = c .before .before .before .before .before .before .before .before .before .before .before .before .before .load in
+    let k = c .before .before .before .before .before .before .before .before .before .before .before .before .before .before .before .before .before .before .before .before .pre .0 in
+    complained (load .result .view) (load .result .settings .own) _ (k .form) (sym (c .before .before .before .before .before .before .before .before .before .before .before .before .before .before .before .before .overdue .ensures) ∙ not-false _ (c .before .before .before .before .before .before .before .before .before .before .before .before .before .before .before .if1 .left)) (loaded-view (load .result) _ (load .ensures)) (loaded-own k (load .result) (load .ensures)) (c .before .before .before .before .before .only .ensures) (c .before .before .before .before .before .before .before .before .before .before .to-all .ensures) (c .before .before .before .before .blaming .ensures)
+
+pub complain-spec : {M : Type 1} → statement M
+complain-spec =
+    tie.close
+    (tie.spec
+    overdue-requires
+    same-length
+    returns
+    load-requires
+    cast-t15
+    to-all-requires
+    only-requires
+    cast-blaming
+    blaming-requires
+    same-length-2
+    same-length-3
+    returns-2)

@@ -1,0 +1,62 @@
+-- `turns::enter` meets its contract: the view is entered, then the station arrives in it. Assumes nothing.
+use Rattle.turns.proofs.Arriving.{enter-not, enter-goes, entered-formed}
+use Rattle.turns.proofs.Entering.{report-ends}
+use Rattle.turns.proofs.Parts.{works-still, works-then}
+use Rattle.acts.proofs.Works.{works-is}
+use Rattle.rules.specs.Inputs.{arrive}
+use Rattle.wire.proofs.Writing.{says-length}
+use borrow.Author.Tests.{not-true, not-false}
+use native.Mathlib.Omega.{arith}
+use mathlib.Core.Path.{sym, _∙_}
+use borrow.Author.Needs.{needs}
+use Rattle.turns.proofs.enter.Statement.{statement}
+use Rattle.turns.proofs.enter.Tie as tie
+
+enters-now-requires : tie.Need-enters-now-requires
+enters-now-requires c κs = search needs
+
+same-length : tie.Need-same-length
+same-length c = search needs
+
+returns : tie.Need-returns
+returns c =
+    let args = c .before .before .before .before .before .before .args in
+    works-still (args .out .now) (args .at) (c .before .before .before .before .before .before .pre .0 .form) (enter-not _ (sym (c .before .enters-now .ensures) ∙ not-true _ (c .if1 .taken)))
+
+entered-requires : tie.Need-entered-requires
+entered-requires c κs =
+    let pre = c .before .before .before .before .before .before .before .before .pre in
+    (pre .0, sym (c .before .before .before .enters-now .ensures) ∙ not-false _ (c .before .before .if1 .left), omega (arith, pre .1))
+
+arrive-requires : tie.Need-arrive-requires
+arrive-requires c κs =
+    let pre = c .before .before .before .before .before .before .before .before .before .before .before .before .before .before .before .before .pre in
+    let w = c .before .before .before .before .before .before .before .entered .ensures in
+    (entered-formed (pre .0) (sym (c .before .before .before .before .before .before .before .before .before .before .before .enters-now .ensures) ∙ not-false _ (c .before .before .before .before .before .before .before .before .before .before .if1 .left)) w, omega (arith, report-ends _ w, says-length (w .says), pre .1), pre .2)
+
+same-length-2 : tie.Need-same-length-2
+same-length-2 c = search needs
+
+same-length-3 : tie.Need-same-length-3
+same-length-3 c = search needs
+
+same-length-4 : tie.Need-same-length-4
+same-length-4 c = search needs
+
+returns-2 : tie.Need-returns-2
+returns-2 c =
+    works-is (enter-goes _ (sym (c .before .before .before .before .before .before .before .before .before .before .before .before .before .before .before .before .before .before .enters-now .ensures) ∙ not-false _ (c .before .before .before .before .before .before .before .before .before .before .before .before .before .before .before .before .before .if1 .left))) (works-then arrive (c .before .before .before .before .before .before .before .before .before .before .before .before .before .before .entered .ensures) (c .before .before .before .before .before .before .arrive .ensures))
+
+pub enter-spec : {M : Type 1} → statement M
+enter-spec =
+    tie.close
+    (tie.spec
+    enters-now-requires
+    same-length
+    returns
+    entered-requires
+    arrive-requires
+    same-length-2
+    same-length-3
+    same-length-4
+    returns-2)

@@ -1,0 +1,54 @@
+-- `turns::lead` meets its contract: the new-view is handled as a statement. Assumes nothing.
+use Rattle.turns.proofs.Leading.{now-leads, lead-never, lead-now, now-fits}
+use Rattle.turns.proofs.Parts.{works-still}
+use borrow.Author.Tests.{not-true, not-false}
+use mathlib.Core.Path.{sym, _∙_}
+use Rattle.acts.proofs.Works.{works-is}
+use borrow.Author.Needs.{needs}
+use Rattle.turns.proofs.lead.Statement.{statement}
+use Rattle.turns.proofs.lead.Tie as tie
+
+leads-now-requires : tie.Need-leads-now-requires
+leads-now-requires c κs = search needs
+
+same-length : tie.Need-same-length
+same-length c = search needs
+
+returns : tie.Need-returns
+returns c =
+    let args = c .before .before .before .before .before .args in
+    works-still (args .out .now) (args .at) (c .before .before .before .before .before .pre .0 .form) (lead-never _ (sym (c .before .leads-now .ensures) ∙ not-true _ (c .if1 .taken)))
+
+own-new-view-requires : tie.Need-own-new-view-requires
+own-new-view-requires c κs =
+    (c .before .before .before .before .before .before .pre .0, now-leads _ (sym (c .before .before .leads-now .ensures) ∙ not-false _ (c .before .if1 .left)))
+
+statement-requires : tie.Need-statement-requires
+statement-requires c κs =
+    let pre = c .before .before .before .before .before .before .before .before .before .pre in
+    let own-new-view = c .before .before .own-new-view in
+    (pre .0, own-new-view .ensures .1, now-fits _ (own-new-view .result) (sym (c .before .before .before .before .before .leads-now .ensures) ∙ not-false _ (c .before .before .before .before .if1 .left)) (own-new-view .ensures .0) ∙ pre .1, pre .2)
+
+same-length-2 : tie.Need-same-length-2
+same-length-2 c = search needs
+
+same-length-3 : tie.Need-same-length-3
+same-length-3 c = search needs
+
+returns-2 : tie.Need-returns-2
+returns-2 c =
+    let own-new-view = c .before .before .before .before .before .before .before .own-new-view in
+    works-is (lead-now _ (sym (c .before .before .before .before .before .before .before .before .before .before .leads-now .ensures) ∙ not-false _ (c .before .before .before .before .before .before .before .before .before .if1 .left)) (own-new-view .result) (own-new-view .ensures .0)) (c .before .before .before .before .statement .ensures)
+
+pub lead-spec : {M : Type 1} → statement M
+lead-spec =
+    tie.close
+    (tie.spec
+    leads-now-requires
+    same-length
+    returns
+    own-new-view-requires
+    statement-requires
+    same-length-2
+    same-length-3
+    returns-2)

@@ -1,0 +1,60 @@
+-- `turns::leads_now` meets its contract, by the loaded numbers. Assumes nothing.
+use Rattle.turns.proofs.Moments.{short-delay, leads-never, loaded-now}
+use Rattle.store.proofs.Forms.{form-long}
+use borrow.Author.Tests.{not-true, not-false}
+use native.Mathlib.Omega.{arith}
+use mathlib.Core.Path.{sym, _∙_}
+use borrow.Author.Needs.{needs}
+use Rattle.turns.proofs.leads_now.Statement.{statement}
+use Rattle.turns.proofs.leads_now.Tie as tie
+
+leads-requires : tie.Need-leads-requires
+leads-requires c κs = search needs
+
+returns : tie.Need-returns
+returns c =
+    leads-never _ (sym (c .before .leads .ensures) ∙ not-true _ (c .if1 .taken))
+
+load-requires : tie.Need-load-requires
+load-requires c κs =
+    form-long _ (c .before .before .before .pre .form)
+
+cast-result : tie.Need-cast-result
+cast-result c = search needs
+
+cast-result-2 : tie.Need-cast-result-2
+cast-result-2 c = search needs
+
+mul-result : tie.Need-mul-result
+mul-result c =
+    let load = c .before .before .before .before .load in
+    omega (arith, short-delay (c .before .before .before .before .before .before .before .before .pre) (load .result) (load .ensures))
+
+add-result : tie.Need-add-result
+add-result c =
+    let load = c .before .before .before .before .load in
+    omega (arith, short-delay (c .before .before .before .before .before .before .before .before .pre) (load .result) (load .ensures))
+
+add-result-2 : tie.Need-add-result-2
+add-result-2 c =
+    let load = c .before .before .before .before .load in
+    omega (arith, short-delay (c .before .before .before .before .before .before .before .before .pre) (load .result) (load .ensures))
+
+returns-2 : tie.Need-returns-2
+returns-2 c =
+    let load = c .before .before .before .before .load in
+    loaded-now (c .before .before .before .before .before .before .before .before .pre) (load .result) (load .ensures) (sym (c .before .before .before .before .before .before .leads .ensures) ∙ not-false _ (c .before .before .before .before .before .if1 .left))
+
+pub leads-now-spec : {M : Type 1} → statement M
+leads-now-spec =
+    tie.close
+    (tie.spec
+    leads-requires
+    returns
+    load-requires
+    cast-result
+    cast-result-2
+    mul-result
+    add-result
+    add-result-2
+    returns-2)

@@ -1,0 +1,257 @@
+// The parts of a tick, as acts on a well-formed store: what each does to it, and what it writes into the out buffer from a place on.
+ghost use mathlib.Core.Path.{_≡_};
+ghost use mathlib.Core.Bool.{true};
+ghost use mathlib.Core.Option.{none};
+ghost use Prim.Native.Nat.{_+_, _*_, _≤_, _<_};
+ghost use lib.ListN.{length};
+ghost use Rattle.rules.specs.Limits.{mostStatements, maskBits};
+ghost use Rattle.rules.specs.Sizes as sizes;
+ghost use Rattle.rules.specs.Words.{message as said};
+ghost use Rattle.rules.specs.Inputs as inputs;
+ghost use Rattle.rules.specs.Refusals.{hasRoom};
+ghost use Rattle.wire.specs.Meaning.{statementOf};
+ghost use Rattle.store.specs.Decode.{rows, stateOf};
+ghost use Rattle.search.specs.Orders.{standing};
+ghost use Rattle.kept.specs.Said.{Sendable};
+ghost use Rattle.acts.specs.Works.{Formed, Works};
+ghost use Rattle.turns.specs.Gains.{grownLog, Enough};
+ghost use Rattle.turns.specs.Ballots.{Listed};
+use fields::Name;
+use search::Pair;
+use settings::Settings;
+use store::Phase;
+use store::Station;
+use wire::Message;
+use wire::Statement;
+
+// Whether a mask has a station's bit.
+fn holds(mask: u64, station: u64) -> bool
+    requires { ⌜ station < maskBits ⌝ }
+    ensures { λ r. ⌜ r ≡ sizes.holds mask station ⌝ }
+{
+    (mask >> station) % 2 == 1
+}
+
+// Whether the station's own blame is due.
+pub fn overdue(store: &[u8]) -> bool
+    requires { ⌜ Formed (now store) ⌝ }
+    ensures { λ r. ⌜ r ≡ inputs.overdue (stateOf (now (store .entry))) ⌝ }
+{
+    let station = Station::load(store);
+    let settings = station.settings;
+    if !acts::is_in(store, station.view) {
+        return false;
+    }
+    let blames = store::blame_at(store, station.view as usize - 1);
+    if holds(blames as u64, settings.own) {
+        return false;
+    }
+    let votes = commit::votes(store, station);
+    let wait = (2 * votes as u64 + 6) * settings.delay + 2;
+    wait <= (station.clock - station.entry) as u64
+}
+
+// Where it is due, the station blames its view: to all, and into the mask, which may be full then.
+pub fn complain(store: &mut [u8], out: &mut [u8], at: usize) -> usize
+    requires { ⌜ (Formed (now store)) × (at + 37 ≤ length (now out)) ⌝ }
+    ensures { λ r. ⌜ Works (inputs.complain (stateOf (now (store .entry)))) (now (out .entry)) at (now (store .exit)) (now (out .exit)) r ⌝ }
+{
+    if !overdue(store) {
+        return at;
+    }
+    let station = Station::load(store);
+    let settings = station.settings;
+    let own = settings.own;
+    let blame = Message::Blame {
+        view: station.view,
+        author: own as u8,
+    };
+    let next = wire::to_all(out, at, blame);
+    acts::blaming(store, out, next, station.view, settings::only(own) as u16)
+}
+
+// Whether the station is in a view and leads it.
+pub fn leads(store: &[u8]) -> bool
+    requires { ⌜ Formed (now store) ⌝ }
+    ensures { λ r. ⌜ r ≡ inputs.leads (stateOf (now (store .entry))) ⌝ }
+{
+    let station = Station::load(store);
+    let settings = station.settings;
+    if !acts::is_in(store, station.view) {
+        return false;
+    }
+    settings.leader(station.view as u64) == settings.own
+}
+
+// Whether it is the leader's moment to make a new-view.
+pub fn leads_now(store: &[u8]) -> bool
+    requires { ⌜ Formed (now store) ⌝ }
+    ensures { λ r. ⌜ r ≡ inputs.leadsNow (stateOf (now (store .entry))) ⌝ }
+{
+    if !leads(store) {
+        return false;
+    }
+    let station = Station::load(store);
+    let settings = station.settings;
+    station.clock as u64 == station.entry as u64 + 2 * settings.delay + 1
+}
+
+// Whether a waiting station's wait is over.
+pub fn enters_now(store: &[u8]) -> bool
+    requires { ⌜ Formed (now store) ⌝ }
+    ensures { λ r. ⌜ r ≡ inputs.entersNow (stateOf (now (store .entry))) ⌝ }
+{
+    let station = Station::load(store);
+    let settings = station.settings;
+    let phase = station.phase;
+    match phase {
+        Phase::Waiting(quit) => {
+            ((station.view as u64) < Settings::LAST_VIEW)
+                & (station.clock as u64 == quit as u64 + settings.delay + 1)
+        }
+        _ => false,
+    }
+}
+
+// The new-view that the leader makes from the highest certificate of an earlier view.
+pub fn own_new_view(store: &[u8]) -> Statement
+    requires { ⌜ (Formed (now store)) × (inputs.leads (stateOf (now store)) ≡ true) ⌝ }
+    ensures { λ r. ⌜ (said (statementOf r none) ≡ inputs.ownNewView (stateOf (now (store .entry)))) × (Sendable (stateOf (now (store .entry)) .settings) (said (statementOf r none))) ⌝ }
+{
+    let station = Station::load(store);
+    let settings = station.settings;
+    let best = search::highest(store, station.view);
+    let name = best.name;
+    let link = Name {
+        first: 0,
+        second: 0,
+        third: 0,
+        fourth: best.view as u64,
+    };
+    Statement {
+        is_new_view: true,
+        view: station.view,
+        height: best.height,
+        name,
+        link,
+        mask: best.mask,
+        author: settings.own as u8,
+    }
+}
+
+// Whether there is room for the leader's new-view, if it makes one now.
+pub fn lead_fits(store: &[u8]) -> bool
+    requires { ⌜ Formed (now store) ⌝ }
+    ensures { λ r. ⌜ r ≡ hasRoom (inputs.lead (stateOf (now (store .entry))) .now) ⌝ }
+{
+    if !leads_now(store) {
+        return true;
+    }
+    let x = own_new_view(store);
+    acts::statement_fits(store, x)
+}
+
+// At its moment the leader makes a new-view, handled as received.
+pub fn lead(store: &mut [u8], out: &mut [u8], at: usize) -> usize
+    requires { ⌜ (Formed (now store)) × (hasRoom (inputs.lead (stateOf (now store)) .now) ≡ true) × (at + 200 ≤ length (now out)) ⌝ }
+    ensures { λ r. ⌜ Works (inputs.lead (stateOf (now (store .entry)))) (now (out .entry)) at (now (store .exit)) (now (out .exit)) r ⌝ }
+{
+    if !leads_now(store) {
+        return at;
+    }
+    let x = own_new_view(store);
+    acts::statement(store, out, at, x)
+}
+
+// The next view is entered, with the highest certificate as its lock, which goes to the new leader.
+fn entered(store: &mut [u8], out: &mut [u8], at: usize) -> usize
+    requires { ⌜ (Formed (now store)) × (inputs.entersNow (stateOf (now store)) ≡ true) × (at + 62 ≤ length (now out)) ⌝ }
+    ensures { λ r. ⌜ Works (inputs.entered (stateOf (now (store .entry)))) (now (out .entry)) at (now (store .exit)) (now (out .exit)) r ⌝ }
+{
+    let station = Station::load(store);
+    let settings = station.settings;
+    let view = station.view + 1;
+    let lock = search::highest(store, view);
+    store::enter(store, view, lock);
+    let to = settings.leader(view as u64);
+    if to == settings.own {
+        return at;
+    }
+    let name = lock.name;
+    let status = Message::Status {
+        height: lock.height,
+        name,
+        cert: lock.view,
+        mask: lock.mask,
+    };
+    wire::to_one(out, at, to as u8, status)
+}
+
+// The log grows by the names of the statements whose places stand in a table, each reported.
+pub fn logging(store: &mut [u8], out: &mut [u8], at: usize, gained: &[u8], len: usize) -> usize
+    requires { ⌜ Enough (now store) (now gained) len at (length (now out)) ⌝ }
+    ensures { λ r. ⌜ Works (inputs.logging (grownLog (now (store .entry)) (now (gained .entry)) len) (stateOf (now (store .entry)))) (now (out .entry)) at (now (store .exit)) (now (out .exit)) r ⌝ }
+{
+    let station = Station::load(store);
+    let mut k = station.logged;
+    let mut next = at;
+    while k < len {
+        let x = store::statement_at(store, gained[k] as usize);
+        let name = x.name;
+        store::append_name(store, name);
+        next = wire::committed(out, next, (k + 1) as u32, name);
+        k += 1;
+    }
+    next
+}
+
+// Votes on the statements whose places stand in a table, in its order.
+fn vote_in_order(store: &mut [u8], out: &mut [u8], at: usize, order: &[u8], count: usize) -> usize
+    requires { ⌜ Listed (now store) (now order) count at (length (now out)) ⌝ }
+    ensures { λ r. ⌜ Works (inputs.votingAll (rows (standing (now (store .entry)) (now (order .entry))) 0 count) (stateOf (now (store .entry)))) (now (out .entry)) at (now (store .exit)) (now (out .exit)) r ⌝ }
+{
+    let mut j: usize = 0;
+    let mut next = at;
+    while j < count {
+        let place = order[j] as usize;
+        let x = store::statement_at(store, place);
+        next = acts::voting(store, out, next, place, x);
+        j += 1;
+    }
+    next
+}
+
+// What the station finds in the view that it entered: a full blame mask or a conflict, and quits, or statements to vote on.
+fn arrive(store: &mut [u8], out: &mut [u8], at: usize, order: &mut [u8]) -> usize
+    requires { ⌜ (Formed (now store)) × (at + 160 * mostStatements ≤ length (now out)) × (mostStatements ≤ length (now order)) ⌝ }
+    ensures { λ r. ⌜ Works (inputs.arrive (stateOf (now (store .entry)))) (now (out .entry)) at (now (store .exit)) (now (out .exit)) r ⌝ }
+{
+    let station = Station::load(store);
+    let view = station.view;
+    if acts::blame_full(store, view) {
+        return acts::quit_with_set(store, out, at, view);
+    }
+    match search::find_pair(store, view) {
+        Pair::At(i, j) => {
+            let earlier = store::statement_at(store, i);
+            let later = store::statement_at(store, j);
+            acts::quit_with_pair(store, out, at, earlier, later)
+        }
+        Pair::Nothing => {
+            let count = search::in_order(store, view, order);
+            vote_in_order(store, out, at, order, count)
+        }
+    }
+}
+
+// A waiting station whose wait is over enters the next view.
+pub fn enter(store: &mut [u8], out: &mut [u8], at: usize, order: &mut [u8]) -> usize
+    requires { ⌜ (Formed (now store)) × (at + 62 + 160 * mostStatements ≤ length (now out)) × (mostStatements ≤ length (now order)) ⌝ }
+    ensures { λ r. ⌜ Works (inputs.enter (stateOf (now (store .entry)))) (now (out .entry)) at (now (store .exit)) (now (out .exit)) r ⌝ }
+{
+    if !enters_now(store) {
+        return at;
+    }
+    let next = entered(store, out, at);
+    arrive(store, out, next, order)
+}

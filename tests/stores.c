@@ -1,0 +1,125 @@
+/* Stores that are not well formed: each gets its number and keeps every byte. An empty message is unreadable, 4, exactly
+   where the store is well formed, so the answer shows the check alone. */
+#include <stdio.h>
+#include <string.h>
+
+#include "../include/station.h"
+
+enum { STATEMENTS = 68, STATEMENT = 80, TALLIES = 10308, TALLY = 42, BLAMES = 21060, LOG = 21124, NAME = 32 };
+
+static uint8_t good[STATION_STORE_LENGTH], store[STATION_STORE_LENGTH + 1], kept[STATION_STORE_LENGTH + 1];
+static uint8_t out[STATION_OUT_LENGTH];
+static unsigned looked, failed;
+
+static void answers(uint64_t number, size_t length, const char *what)
+{
+    memcpy(kept, store, sizeof store);
+    memset(out, 0x77, sizeof out);
+    uint64_t answer = station_step(store, length, store, 0, out, sizeof out);
+    int same = memcmp(kept, store, sizeof store) == 0;
+    for (size_t i = 0; i < sizeof out; i++)
+        same &= out[i] == 0x77;
+    looked++;
+    if (answer != number << 32 || !same) {
+        failed++;
+        printf("tests/stores.c: %s: answered %llu, %s\n", what, (unsigned long long)(answer >> 32), same ? "unchanged" : "changed");
+    }
+    memcpy(store, good, sizeof good);
+}
+
+static void bad(const char *what) { answers(2, STATION_STORE_LENGTH, what); }
+
+static void put(size_t at, size_t width, uint64_t value)
+{
+    while (width-- > 0) {
+        store[at + width] = (uint8_t)value;
+        value >>= 8;
+    }
+}
+
+static void statement(int i, uint64_t view, uint64_t height, uint64_t name, int kind, int author, int mask, uint64_t link, uint64_t vote)
+{
+    size_t at = STATEMENTS + STATEMENT * (size_t)i;
+    put(at, 4, view);
+    put(at + 4, 4, height);
+    put(at + 32, 8, name);
+    put(at + 40, 1, (uint64_t)kind);
+    put(at + 41, 1, (uint64_t)author);
+    put(at + 42, 2, (uint64_t)mask);
+    put(at + 68, 8, link);
+    put(at + 76, 4, vote);
+}
+
+static void tally(int i, uint64_t view, uint64_t height, uint64_t name, int mask)
+{
+    size_t at = TALLIES + TALLY * (size_t)i;
+    put(at, 4, view);
+    put(at + 4, 4, height);
+    put(at + 32, 8, name);
+    put(at + 40, 2, (uint64_t)mask);
+}
+
+static void counts(uint64_t statements, uint64_t tallies, uint64_t logged)
+{
+    put(62, 2, statements);
+    put(64, 2, tallies);
+    put(66, 2, logged);
+}
+
+/* Station 2 of three at clock 9, in view 1: two blocks, the first of them logged. */
+static void build(void)
+{
+    if (station_fresh(store, STATION_STORE_LENGTH, 3, 2, 2) != 0)
+        failed++;
+    put(16, 4, 9);
+    statement(0, 1, 1, 77, 2, 1, 3, 0, 3);
+    statement(1, 1, 2, 79, 2, 1, 6, 77, 9);
+    tally(0, 1, 0, 0, 3);
+    tally(1, 1, 1, 77, 7);
+    tally(2, 1, 2, 79, 4);
+    put(LOG + 24, 8, 77);
+    counts(2, 3, 1);
+    memcpy(good, store, sizeof good);
+}
+
+int main(void)
+{
+    build();
+    answers(4, STATION_STORE_LENGTH, "a good store");
+    answers(1, STATION_STORE_LENGTH - 1, "one byte short");
+    answers(1, STATION_STORE_LENGTH + 1, "one byte long");
+    memset(store, 0, STATION_STORE_LENGTH), bad("all zero");
+    memset(store, 0xff, STATION_STORE_LENGTH), bad("all FF");
+    put(62, 2, 129), bad("129 statements");
+    put(64, 2, 257), bad("257 tallies");
+    put(66, 2, 129), bad("129 logged names");
+    put(4, 1, 4), bad("n of 4");
+    put(5, 2, 0), bad("D of 0");
+    put(7, 1, 3), bad("own number n");
+    put(8, 4, 33), bad("view 33");
+    put(12, 4, 10), bad("entry after the clock");
+    put(16, 4, 4000000001), bad("clock past its end");
+    put(0, 4, 14), bad("quit after the clock");
+    put(0, 4, 0xffffffff), bad("phase out of range");
+    put(20, 4, 1), put(24, 4, 1), put(52, 8, 77), put(60, 2, 3), bad("lock of the view itself");
+    put(60, 2, 1), bad("lock on genesis with a mask");
+    put(TALLIES + 40, 2, 0xb), bad("tally with a mask bit at n");
+    put(BLAMES, 2, 8), bad("blame mask with a bit at n");
+    put(BLAMES + 62, 2, 8), bad("blame mask of view 32 with a bit at n");
+    statement(2, 1, 1, 77, 2, 1, 5, 0, 0), counts(3, 3, 1), bad("a statement twice");
+    tally(3, 1, 1, 77, 0), counts(2, 4, 1), bad("a tally twice");
+    memset(store + TALLIES + 2 * TALLY, 0, TALLY), counts(2, 2, 1), bad("no tally for an own block");
+    tally(0, 1, 3, 99, 3), bad("no tally for a certified block");
+    put(STATEMENTS + 40, 1, 3), bad("kind 3");
+    put(STATEMENTS + 41, 1, 2), bad("a statement not of the leader");
+    put(STATEMENTS + 42, 2, 1), bad("a statement without a quorum");
+    put(STATEMENTS + 76, 4, 11), bad("a vote after the clock");
+    put(LOG + 24, 8, 78), bad("a logged name without its propose");
+    put(LOG + NAME + 24, 8, 79), counts(2, 3, 2), answers(4, STATION_STORE_LENGTH, "both blocks logged");
+    statement(1, 1, 2, 79, 2, 1, 6, 70, 9), tally(3, 1, 1, 70, 0), put(LOG + NAME + 24, 8, 79), counts(2, 4, 2), bad("a broken link");
+    put(STATEMENTS + STATEMENT * 127 + 79, 1, 1), bad("a byte behind the statements");
+    put(TALLIES + TALLY * 3, 1, 1), bad("a byte behind the tallies");
+    put(STATION_STORE_LENGTH - 1, 1, 1), bad("the last byte");
+    printf("%u looked at, %u failed\n", looked, failed);
+    return failed != 0;
+}
