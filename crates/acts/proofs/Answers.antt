@@ -1,15 +1,14 @@
 -- A statement's way through the rules: it is handled alike in both kinds; a new one is stored, then answered. Assumes nothing.
-use Prim.Native.Nat.{ℕ}
 use mathlib.Core.Path.{_≡_, refl, sym, ap, _∙_}
 use mathlib.Core.Bool.{Bool, true, false}
 use mathlib.Core.List.{List, [], _∷_, _++_}
-use mathlib.Core.Option.{Option, none, some}
+use mathlib.Core.Option.{none, some}
 use Rattle.rules.specs.Lists.{iff, first, any}
 use Rattle.rules.specs.Messages.{toAll}
 use Rattle.rules.specs.Words.{Statement, message, sameStatement, conflict, ownBlock, certificate, sameBlock, joinCertificate, State}
 use Rattle.rules.specs.Inputs.{Work, saying, withPhase, withTables, isIn, quit, voting, stored, statement, handled}
 use Rattle.rules.specs.Refusals.{hasRoom}
-use Rattle.rules.proofs.Tests.{by-bool, by-option, no-bool, eqb-self}
+use Rattle.rules.proofs.Tests.{by-bool, by-option, eqb-self}
 use Rattle.kept.proofs.Tallies.{block-self, join-there}
 use Rattle.acts.specs.Answers.{answered}
 use Rattle.acts.proofs.Rooms.{voting-room}

@@ -1,12 +1,12 @@
 -- A stored statement by its place: it is the first that is the same, it may be sent, and its own block's tally is there. Assumes nothing.
-use Prim.Native.Nat.{ℕ, zero, suc, _+_, _^_, _≤_, _<_}
-use mathlib.Core.Path.{_≡_, refl, sym, ap, ap₂, _∙_, subst}
-use mathlib.Core.Bool.{Bool, true, false, not}
-use mathlib.Core.List.{List, [], _∷_, _++_}
-use mathlib.Core.Option.{Option, none, some}
+use Prim.Native.Nat.{ℕ, zero, suc, _+_, _≤_, _<_}
+use mathlib.Core.Path.{_≡_, refl, sym, ap, _∙_, subst}
+use mathlib.Core.Bool.{Bool, true, not}
+use mathlib.Core.List.{List}
+use mathlib.Core.Option.{Option, none}
 use native.Mathlib.Omega.{arith}
 use native.Mathlib.Nat.{add-zero, zero-add}
-use lib.ListN.{length, getD, length-append}
+use lib.ListN.{length}
 use borrow.Author.Tests.{not-true}
 use Rattle.rules.specs.Limits.{mostTallies}
 use Rattle.rules.specs.Lists.{any, distinct, alter}
@@ -19,10 +19,9 @@ use Rattle.wire.specs.Meaning.{statementOf, Linked}
 use Rattle.wire.specs.declared.Statement as code
 use Rattle.store.specs.Layout.{statementTable, countOf}
 use Rattle.store.specs.Decode.{rows, statementAt, statements, tallies, stateFrom, stateOf, Left}
-use Rattle.store.specs.Changes.{firstFrom, changeAt, joining, noting}
-use Rattle.store.specs.declared.Found.{Found}
-use Rattle.store.specs.declared.Found.the-variants.{At, Nothing}
-use Rattle.store.proofs.Rows.{rows-at, rows-length, rows-all}
+use Rattle.store.specs.Changes.{firstFrom, joining, noting}
+use Rattle.store.specs.declared.Found.the-variants.{At}
+use Rattle.store.proofs.Rows.{rows-all}
 use Rattle.store.proofs.Searches.{alter-found}
 use Rattle.search.specs.Lookups.{Certifies}
 use Rattle.search.proofs.Statements.{same-unvoted, certifies-allowed}

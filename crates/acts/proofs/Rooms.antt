@@ -1,9 +1,9 @@
 -- How many records a rule adds: none for a repeat or a vote, else one for the statement and one for each block without a tally.
 -- Assumes nothing.
-use Prim.Native.Nat.{ℕ, suc, _+_, _-_, _≤_, _<_}
+use Prim.Native.Nat.{ℕ, suc, _+_, _-_, _≤_}
 use mathlib.Core.Path.{_≡_, refl, sym, ap, ap₂, _∙_}
 use mathlib.Core.Bool.{Bool, true, false, _&&_, _||_}
-use mathlib.Core.List.{List, [], _∷_, _++_}
+use mathlib.Core.List.{List, [], _∷_}
 use native.Mathlib.Omega.{arith}
 use lib.Dec.{leb, ltb, eqb}
 use lib.ListN.{length, length-append}
@@ -12,7 +12,7 @@ use Rattle.rules.specs.Limits.{mostStatements, mostTallies}
 use Rattle.rules.specs.Lists.{iff, any, alter}
 use Rattle.rules.specs.Sizes.{Settings, only}
 use Rattle.rules.specs.Words.{Statement, message, sameStatement, Tally, ownBlock, certificate, sameBlock, grown, join, joinCertificate, State}
-use Rattle.rules.specs.Inputs.{saying, withTables, belowLock, noted, votedFor, voting, certificateJoined, stored, statement, tallied}
+use Rattle.rules.specs.Inputs.{saying, withPhase, withTables, withBlames, isIn, quit, belowLock, noted, votedFor, voting, certificateJoined, stored, statement, tallied, blamed, blameFull, blaming}
 use Rattle.rules.specs.Refusals.{hasRoom}
 use Rattle.rules.specs.WellFormed.{talliesThere}
 use Rattle.rules.proofs.Tests.{by-bool, no-bool, eqb-self}
@@ -182,3 +182,8 @@ voting-room x s h =
     (λ q.
     rw (q, voting)
     (room-same (votedFor x s) s (alter-length (sameStatement x) (noted (s .clock)) (s .statements)) (there-length (ownBlock x m) (s .tallies) (own-any x m (s .tallies) ∙ h))))
+
+-- a blame mask is always there
+pub blaming-room : (v m : ℕ) (s : State) → hasRoom (blaming v m s .now) ≡ hasRoom s
+unfolding blaming blamed withBlames quit saying withPhase hasRoom
+blaming-room v m s = by-bool (isIn v (blamed v m s) && blameFull v (blamed v m s)) (λ q. rw (q, blaming)) (λ q. rw (q, blaming))

@@ -1,7 +1,7 @@
 -- A statement: whether it was stored before, what it needs, and what is left once it is stored. Assumes nothing.
-use Prim.Native.Nat.{ℕ, suc, _+_, _≤_, _<_}
+use Prim.Native.Nat.{ℕ, _+_, _≤_, _<_}
 use mathlib.Core.Path.{_≡_, refl, sym, ap, ap₂, _∙_}
-use mathlib.Core.Bool.{Bool, true, false, _&&_}
+use mathlib.Core.Bool.{true, false, _&&_}
 use mathlib.Core.List.{List, [], _∷_, _++_}
 use mathlib.Core.Option.{none, some}
 use native.Mathlib.Omega.{arith}
@@ -12,12 +12,13 @@ use lib.Seq.{getD-at}
 use Rattle.rules.specs.Limits.{mostStatements, mostTallies}
 use Rattle.rules.specs.Lists.{first, any}
 use Rattle.rules.specs.Words.{Statement, message, sameStatement, conflict, Tally, ownBlock, certificate, join, joinCertificate, State}
-use Rattle.rules.specs.Inputs.{saying, withTables, certificateJoined, stored, statement}
+use Rattle.rules.specs.Inputs.{saying, withTables, certificateJoined, stored, statement, handled}
 use Rattle.rules.specs.Refusals.{hasRoom}
-use Rattle.wire.specs.Meaning.{statementOf}
+use Rattle.wire.specs.Meaning.{statementOf, messageOf}
 use Rattle.wire.specs.declared.Statement as code
+use Rattle.wire.specs.declared.Message.the-variants.{Stated}
 use Rattle.store.specs.Layout.{statementTable, tallyTable, countOf}
-use Rattle.store.specs.Decode.{rows, statementAt, statements, tallies, stateFrom, stateOf, Left}
+use Rattle.store.specs.Decode.{statementAt, statements, tallies, stateFrom, stateOf, Left}
 use Rattle.store.specs.Changes.{firstFrom, joining, certifying, storing}
 use Rattle.store.specs.declared.Found.{Found}
 use Rattle.store.specs.declared.Found.the-variants.{At, Nothing}
@@ -26,11 +27,23 @@ use Rattle.store.proofs.Searches.{found-any, missing-any}
 use Rattle.search.specs.Finds.{foundIn, Inside, Finds}
 use Rattle.search.proofs.Searches.{found-first}
 use Rattle.kept.specs.Said.{Sendable}
-use Rattle.acts.specs.Answers.{answered, Stands}
-use Rattle.acts.specs.Works.{Formed, Works}
+use Rattle.acts.specs.Answers.{Stands}
+use Rattle.acts.specs.Works.{Formed}
 use Rattle.acts.proofs.Works.{count-statements, count-tallies, formed-parts}
 use Rattle.acts.proofs.Rooms.{repeat-length, join-grows, both-length, own-differs, room-parts, stored-room}
-use Rattle.acts.proofs.Answers.{statement-new, new-room}
+use Rattle.acts.proofs.Answers.{handled-statement, new-room}
+
+-- ---- as the code has it
+
+module _ (x : code.Statement) where
+  pub code-unvoted : statementOf x none .voted ≡ none
+  unfolding statementOf
+  code-unvoted = refl
+
+  -- so as a message it is handled as the statement that it is
+  pub handled-stated : handled (messageOf (Stated x)) ≡ statement (statementOf x none)
+  unfolding messageOf
+  handled-stated = handled-statement (statementOf x none) code-unvoted
 
 -- ---- what was found
 
@@ -116,10 +129,6 @@ module _ (b : List ℕ) (x : Statement) (room : hasRoom (stored x (stateOf b)) �
 at-place : (b : List ℕ) (d : Statement) (i : ℕ) → i < countOf statementTable b → getD (stateOf b .statements) i d ≡ statementAt b i
 unfolding stateOf stateFrom statements
 at-place b d i l = rows-at (statementAt b) d 0 (countOf statementTable b) i l ∙ ap (statementAt b) (zero-add i)
-
-pub code-unvoted : (x : code.Statement) → statementOf x none .voted ≡ none
-unfolding statementOf
-code-unvoted x = refl
 
 -- it stands behind the others
 pub stored-stands : (b : List ℕ) {b′ : List ℕ} (x : code.Statement) (i : ℕ) → i ≡ countOf statementTable b → Left b′ (stored (statementOf x none) (stateOf b)) → Stands b′ i x

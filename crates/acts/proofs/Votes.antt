@@ -1,6 +1,6 @@
 -- A vote: below the lock nothing is said; else the statement, then the vote. Assumes nothing.
 use Prim.Native.Nat.{ℕ, _^_, _<_}
-use mathlib.Core.Path.{_≡_, refl, sym, ap, _∙_}
+use mathlib.Core.Path.{_≡_, sym, ap, _∙_}
 use mathlib.Core.Bool.{true, false}
 use mathlib.Core.List.{List, [], _∷_}
 use mathlib.Core.Option.{none}
@@ -9,8 +9,8 @@ use Rattle.rules.specs.Limits.{maskBits}
 use Rattle.rules.specs.Sizes as sizes
 use Rattle.rules.specs.Sizes.{only}
 use Rattle.rules.specs.Messages.{Effect, toAll}
-use Rattle.rules.specs.Words.{Statement, Tally, State}
-use Rattle.rules.specs.Inputs.{Work, saying, belowLock, votedFor, ballot, voting}
+use Rattle.rules.specs.Words.{Statement, State}
+use Rattle.rules.specs.Inputs.{saying, belowLock, votedFor, ballot, voting}
 use Rattle.fields.specs.Records.{fields}
 use Rattle.wire.specs.Meaning.{statementOf, messageOf}
 use Rattle.wire.specs.declared.Statement as code

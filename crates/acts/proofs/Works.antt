@@ -1,22 +1,21 @@
 -- Acts put together: what is left and what is said, one after another, by the rules' names. Assumes nothing.
 use Prim.Native.Nat.{ℕ, _+_, _≤_}
-use mathlib.Core.Path.{_≡_, refl, sym, ap, _∙_, subst}
-use mathlib.Core.Bool.{true}
+use mathlib.Core.Path.{_≡_, sym, ap, _∙_, subst}
 use mathlib.Core.List.{List, [], _∷_}
 use native.Mathlib.Omega.{arith}
 use lib.ListN.{length}
-use Rattle.rules.specs.Limits.{mostStatements, mostTallies}
-use Rattle.rules.specs.Messages.{Message, Effect, toAll, blameSet, vote, effect, outgoing}
+use Rattle.rules.specs.Messages.{Effect, toAll, blameSet, vote, effect, outgoing}
 use Rattle.rules.specs.Words.{Statement, message, State}
-use Rattle.rules.specs.Inputs.{Work, saying, quit}
+use Rattle.rules.specs.Inputs.{Work, saying, _▸_, quit}
 use Rattle.wire.specs.Wrote.{Says}
-use Rattle.wire.proofs.Writing.{says-none, says-both, says-one}
+use Rattle.wire.proofs.Writing.{says-none, says-both, says-one, says-length, says-outgoing}
 use Rattle.store.specs.Layout.{statementTable, tallyTable, countOf}
-use Rattle.store.specs.Decode.{statementAt, tallyAt, statements, tallies, stateFrom, stateOf, Form, Left}
+use Rattle.store.specs.Decode.{statementAt, tallyAt, statements, tallies, stateFrom, stateOf, Left}
 use Rattle.store.proofs.Rows.{rows-length}
 use Rattle.store.proofs.Forms.{form-statements, form-tallies}
 use Rattle.kept.specs.Parts as kept
 use Rattle.kept.proofs.WellFormed.{parts, whole}
+use Rattle.kept.proofs.Keeps.{Keeps}
 use Rattle.kept.proofs.Lengths.{size, weight, bytes, bytes-cons, bytes-none, length-effect, statement-size}
 use Rattle.acts.specs.Works.{Formed, Works}
 
@@ -93,3 +92,22 @@ module _ {b′ o o′ : List ℕ} {at r : ℕ} where
 pub works-none : {b′ : List ℕ} {s : State} (o : List ℕ) (at : ℕ) → Left b′ s → Works (saying s []) o at b′ o at
 unfolding outgoing
 works-none o at l = works-saying [] l (says-none o at)
+
+-- what a work says ends within its bytes, and the buffer stays as long as it was
+module _ {w : Work} {b′ o o′ : List ℕ} {at r : ℕ} (k : Works w o at b′ o′ r) where
+  pub works-end : (n : ℕ) → bytes (w .out) ≤ n → r ≤ at + n
+  works-end n h = omega (arith, k .says .ends)
+
+  pub works-length : length o′ ≡ length o
+  works-length = says-length (k .says)
+
+  -- a work that keeps a formed state leaves a formed store
+  pub works-formed : {s : State} → Keeps s w → Formed b′
+  works-formed h = left-formed (k .left) (h .formed)
+
+  -- one rule, then another
+  pub works-then : {b″ o″ : List ℕ} {end : ℕ} (f : State → Work) → Works (f (stateOf b′)) o′ r b″ o″ end → Works (w ▸ f) o at b″ o″ end
+  unfolding _▸_
+  works-then {b″} {o″} {end} f h =
+      let q : Works (f (w .now)) o′ r b″ o″ end = works-is (ap f (k .left .is)) h in
+      record { left = q .left; says = says-outgoing o at (w .out) (f (w .now) .out) o′ o″ r end (k .says) (q .says) }

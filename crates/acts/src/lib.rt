@@ -1,19 +1,18 @@
 // What a message does to a well-formed store, and what it writes into the out buffer from a place on.
 ghost use mathlib.Core.Path.{_≡_};
-ghost use mathlib.Core.Bool.{true, false};
+ghost use mathlib.Core.Bool.{true};
 ghost use mathlib.Core.List.{[], _∷_};
 ghost use mathlib.Core.Option.{none};
 ghost use Prim.Native.Nat.{_+_, _^_, _≤_, _<_};
 ghost use lib.ListN.{length};
-ghost use Rattle.rules.specs.Lists.{any};
 ghost use Rattle.rules.specs.Messages.{viewAllowed, toAll, blameSet, outgoing};
-ghost use Rattle.rules.specs.Words.{message as said, sameStatement, sameBlock, ownBlock, certificate, join, joinCertificate};
+ghost use Rattle.rules.specs.Words.{message as said, join, joinCertificate};
 ghost use Rattle.rules.specs.Inputs as inputs;
 ghost use Rattle.rules.specs.Refusals.{hasRoom};
 ghost use Rattle.wire.specs.Meaning.{statementOf, messageOf, Writable, Linked};
 ghost use Rattle.wire.specs.Wrote.{Says};
 ghost use Rattle.store.specs.Layout.{tallyTable, countOf};
-ghost use Rattle.store.specs.Decode.{stateOf, tallies, statements, Form, Left};
+ghost use Rattle.store.specs.Decode.{stateOf, tallies, Form, Left};
 ghost use Rattle.store.specs.Meaning.{tallyOf};
 ghost use Rattle.search.specs.Lookups.{Certifies};
 ghost use Rattle.kept.specs.Said.{Sendable};
@@ -74,9 +73,9 @@ pub fn quit_with_set(store: &mut [u8], out: &mut [u8], at: usize, view: u32) -> 
     requires { ⌜ (Formed (now store)) × (viewAllowed view ≡ true) × (at + 19 ≤ length (now out)) ⌝ }
     ensures { λ r. ⌜ Works (inputs.quit (toAll (blameSet view (inputs.blamesOf view (stateOf (now (store .entry))))) ∷ []) (stateOf (now (store .entry)))) (now (out .entry)) at (now (store .exit)) (now (out .exit)) r ⌝ }
 {
-    let mask = store::blame_at(store, view as usize - 1);
+    let held = store::blame_at(store, view as usize - 1);
     quit(store);
-    wire::to_all(out, at, Message::BlameSet { view, mask })
+    wire::to_all(out, at, Message::BlameSet { view, mask: held })
 }
 
 // A mask joins the blames of a view; at f+1, while the station is in that view, it sends the set and quits.
@@ -177,16 +176,14 @@ pub fn statement_fits(store: &[u8], x: Statement) -> bool
     requires { ⌜ (Formed (now store)) × (Sendable (stateOf (now store) .settings) (said (statementOf x none))) ⌝ }
     ensures { λ r. ⌜ r ≡ hasRoom (inputs.statement (statementOf x none) (stateOf (now (store .entry))) .now) ⌝ }
 {
-    match store::find_statement(store, x) {
-        Found::At(_) => true,
-        Found::Nothing => {
-            let station = Station::load(store);
-            let certified = certificate_missing(store, search::certificate(x));
-            let needed = certified + missing(store, search::own_block(x, 0));
-            (station.statements < Settings::MOST_STATEMENTS)
-                & (station.tallies + needed <= Settings::MOST_TALLIES)
-        }
-    }
+    let Found::Nothing = store::find_statement(store, x) else {
+        return true;
+    };
+    let station = Station::load(store);
+    let certified = certificate_missing(store, search::certificate(x));
+    let needed = certified + missing(store, search::own_block(x, 0));
+    (station.statements < Settings::MOST_STATEMENTS)
+        & (station.tallies + needed <= Settings::MOST_TALLIES)
 }
 
 // A new statement is stored, and the tallies of its two blocks are opened.

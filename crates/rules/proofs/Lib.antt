@@ -3,3 +3,17 @@ pub mod Bytes
 pub mod Masks
 pub mod Written
 pub mod ReadBack
+pub mod Truths
+pub mod Searches
+pub mod Statements
+pub mod Tallies
+pub mod Allowed
+pub mod Moves
+pub mod Kept
+pub mod Orderly
+pub mod Held
+pub mod Votes
+pub mod Locks
+pub mod Proper
+pub mod Commits
+pub mod Splits

@@ -1,6 +1,31 @@
 // The exported calls, on numbers and byte buffers. Each contract says the result and every byte left, for all inputs.
 ghost use mathlib.Core.Path.{_≡_};
+ghost use mathlib.Core.Bool.{true};
+ghost use mathlib.Core.Option.{none};
+ghost use Prim.Native.Nat.{_*_, _^_, _≤_, _<_};
+ghost use lib.ListN.{length};
+ghost use Rattle.rules.specs.Limits.{mostStations};
+ghost use Rattle.rules.specs.Sizes.{only};
+ghost use Rattle.rules.specs.Messages.{viewAllowed};
+ghost use Rattle.rules.specs.Words.{full, message as said};
+ghost use Rattle.rules.specs.Inputs as inputs;
+ghost use Rattle.rules.specs.Refusals.{stopping, ifRoom, running};
+ghost use Rattle.wire.specs.Meaning.{statementOf, messageOf};
+ghost use Rattle.store.specs.Decode.{stateOf, Form};
 ghost use Rattle.store.specs.Fresh.{answer, freshly};
+ghost use Rattle.store.specs.Meaning.{tallyOf};
+ghost use Rattle.kept.specs.Said.{Sendable};
+ghost use Rattle.calls.specs.Calls.{stepCalled, Gives};
+ghost use Rattle.acts.specs.Works.{Formed};
+ghost use Rattle.station.specs.Answers.{barred, Answers, Mutely};
+use settings::Settings;
+use store::Cause;
+use store::Phase;
+use store::Station;
+use store::Tally;
+use wire::Message;
+use wire::Read;
+use wire::Statement;
 
 // Makes a fresh store of whatever was in it.
 #[no_mangle]
@@ -8,4 +33,157 @@ pub extern "C" fn station_fresh(store: &mut [u8], n: u64, d: u64, own: u64) -> u
     ensures { λ r. ⌜ answer r (now (store .exit)) ≡ freshly (now (store .entry)) n d own ⌝ }
 {
     store::fresh(store, n, d, own)
+}
+
+// A message came: what it makes the station do, or why it is refused.
+#[no_mangle]
+pub extern "C" fn station_step(store: &mut [u8], message: &[u8], out: &mut [u8]) -> u64
+    ensures { λ r. ⌜ Gives (stepCalled (now (message .entry)) (now (store .entry)) (now (out .entry))) r (now (store .exit)) (now (out .exit)) ⌝ }
+{
+    let number = barred(store, out);
+    if number != 0 {
+        return refuse(number);
+    }
+    let Read::Readable(m) = wire::read_message(message) else {
+        return refuse(4);
+    };
+    let station = Station::load(store);
+    if !wire::allowed(station.settings, m) {
+        return refuse(5);
+    }
+    handled(store, out, m)
+}
+
+// What a host is told of a refusal: its number times 2^32, and no bytes.
+fn refuse(number: u64) -> u64
+    requires { ⌜ number < 2 ^ 32 ⌝ }
+    ensures { λ r. ⌜ r ≡ number * 2 ^ 32 ⌝ }
+{
+    number << 32
+}
+
+// Whether a station is in a view or waiting.
+fn is_running(store: &[u8]) -> bool
+    requires { ⌜ Form (now store) ⌝ }
+    ensures { λ r. ⌜ r ≡ running (stateOf (now (store .entry))) ⌝ }
+{
+    let station = Station::load(store);
+    let phase = station.phase;
+    match phase {
+        Phase::Stopped(_) => false,
+        _ => true,
+    }
+}
+
+// What bars every call alike: 1 for the lengths, 2 for a store not well formed, 3 for a station that stopped; else 0.
+fn barred(store: &[u8], out: &[u8]) -> u64
+    ensures { λ r. ⌜ r ≡ barred (now (store .entry)) (now (out .entry)) ⌝ }
+{
+    if store.len() != store::LENGTH {
+        return 1;
+    }
+    if out.len() < Settings::LEAST_OUT {
+        return 1;
+    }
+    if !formed::well_formed(store) {
+        return 2;
+    }
+    if !is_running(store) {
+        return 3;
+    }
+    0
+}
+
+// No record is free: the station stops.
+fn stop_full(store: &mut [u8]) -> u64
+    requires { ⌜ Form (now store) ⌝ }
+    ensures { λ r. ⌜ Mutely (stopping 6 full (stateOf (now (store .entry)))) (now (store .exit)) r ⌝ }
+{
+    store::set_phase(store, Phase::Stopped(Cause::Full));
+    refuse(6)
+}
+
+// A statement that may be sent.
+fn stated(store: &mut [u8], out: &mut [u8], x: Statement) -> u64
+    requires { ⌜ (Formed (now store)) × (Sendable (stateOf (now store) .settings) (said (statementOf x none))) × (200 ≤ length (now out)) ⌝ }
+    ensures { λ r. ⌜ Answers (ifRoom (stateOf (now (store .entry))) (inputs.statement (statementOf x none) (stateOf (now (store .entry))))) (now (out .entry)) (now (store .exit)) (now (out .exit)) r ⌝ }
+{
+    if !acts::statement_fits(store, x) {
+        return stop_full(store);
+    }
+    acts::statement(store, out, 0, x) as u64
+}
+
+// A vote or a status.
+fn counted(store: &mut [u8], tally: Tally) -> u64
+    requires { ⌜ Form (now store) ⌝ }
+    ensures { λ r. ⌜ Mutely (ifRoom (stateOf (now (store .entry))) (inputs.tallied (tallyOf tally) (stateOf (now (store .entry))))) (now (store .exit)) r ⌝ }
+{
+    if !acts::tally_fits(store, tally) {
+        return stop_full(store);
+    }
+    acts::tallied(store, tally);
+    0
+}
+
+// A blame or a blame set.
+fn blamed(store: &mut [u8], out: &mut [u8], view: u32, mask: u16) -> u64
+    requires { ⌜ (Formed (now store)) × (viewAllowed view ≡ true) × (mask < 2 ^ (stateOf (now store) .settings .n)) × (200 ≤ length (now out)) ⌝ }
+    ensures { λ r. ⌜ Answers (ifRoom (stateOf (now (store .entry))) (inputs.blaming view mask (stateOf (now (store .entry))))) (now (out .entry)) (now (store .exit)) (now (out .exit)) r ⌝ }
+{
+    acts::blaming(store, out, 0, view, mask) as u64
+}
+
+// The mask of one author.
+fn voter(author: u8) -> u16
+    requires { ⌜ author < mostStations ⌝ }
+    ensures { λ r. ⌜ r ≡ only author ⌝ }
+{
+    settings::only(author as u64) as u16
+}
+
+// A message that is allowed, by its kind.
+fn handled(store: &mut [u8], out: &mut [u8], message: Message) -> u64
+    requires { ⌜ (Formed (now store)) × (Sendable (stateOf (now store) .settings) (messageOf message)) × (200 ≤ length (now out)) ⌝ }
+    ensures { λ r. ⌜ Answers (ifRoom (stateOf (now (store .entry))) (inputs.handled (messageOf message) (stateOf (now (store .entry))))) (now (out .entry)) (now (store .exit)) (now (out .exit)) r ⌝ }
+{
+    match message {
+        Message::Stated(x) => stated(store, out, x),
+        Message::Vote {
+            view,
+            height,
+            name,
+            author,
+        } => {
+            let mask = voter(author);
+            counted(
+                store,
+                Tally {
+                    view,
+                    height,
+                    name,
+                    mask,
+                },
+            )
+        }
+        Message::Blame { view, author } => {
+            let mask = voter(author);
+            blamed(store, out, view, mask)
+        }
+        Message::BlameSet { view, mask } => blamed(store, out, view, mask),
+        Message::Status {
+            height,
+            name,
+            cert,
+            mask,
+        } => counted(
+            store,
+            Tally {
+                view: cert,
+                height,
+                name,
+                mask,
+            },
+        ),
+    }
 }

@@ -1,35 +1,34 @@
 -- What each write makes of the state that a store holds. Assumes nothing.
-use Prim.Native.Nat.{ℕ, zero, suc, _+_, _-_, _*_, _^_, _<_, _≤_}
-use mathlib.Core.Path.{_≡_, refl, sym, ap, ap₂, _∙_}
-use mathlib.Core.Bool.{Bool, true, false}
+use Prim.Native.Nat.{ℕ, suc, _+_, _-_, _*_, _^_, _<_, _≤_}
+use mathlib.Core.Path.{_≡_, refl, sym, ap, _∙_}
+use mathlib.Core.Bool.{true}
 use mathlib.Core.List.{List, [], _∷_, _++_}
 use mathlib.Core.Option.{some}
 use native.Mathlib.Omega.{arith}
 use native.Mathlib.Nat.{add-zero, zero-add}
 use native.Mathlib.Numerals.{add-one}
-use native.Mathlib.Decide.{decLt}
 use lib.ListN.{length, getD, set}
 use Rattle.rules.specs.Limits.{lastView, mostStatements, mostTallies}
 use Rattle.rules.specs.Lists.{all, within}
 use Rattle.rules.specs.Sizes.{joined}
-use Rattle.rules.specs.Words.{Statement, Tally, Phase, State, grown}
-use Rattle.rules.specs.Inputs.{withPhase, withClock, withTables, withBlames, withLog, entering, noted, blamesOf, blamed}
+use Rattle.rules.specs.Words.{Statement, Tally, Phase, grown}
+use Rattle.rules.specs.Inputs.{withPhase, withClock, withTables, withBlames, withLog, noted, blamesOf, blamed}
 use Rattle.rules.proofs.Masks.{joined-lt}
 use Rattle.rules.proofs.Tests.{and-left, and-right}
 use Rattle.fields.specs.Places.{number, put, Bytes}
 use Rattle.fields.specs.Records.{fields, puts, Fit}
 use Rattle.fields.proofs.Records.{length-puts, bytes-puts, fields-puts}
 use Rattle.fields.proofs.Laws.{number-lt, number-put-same, length-put, bytes-put}
-use Rattle.store.specs.Layout.{headerFormat, statementFormat, tallyFormat, maskFormat, nameFormat, Table, statementTable, tallyTable, logTable, blameBase, storeLength, countOf, placeOf}
+use Rattle.store.specs.Layout.{headerFormat, statementFormat, tallyFormat, nameFormat, Table, statementTable, tallyTable, logTable, blameBase, storeLength, countOf, placeOf}
 use Rattle.store.specs.Decode.{nth, phaseNumber, kindNumber, voteOf, statementFrom, statementValues, tallyFrom, tallyValues, statementAt, tallyAt, blameAt, nameAt, kindAt, statements, tallies, blames, names, kinds, rows, stateFrom, stateOf, Form, Left}
-use Rattle.store.specs.Changes.{changeAt, growing, opening, storing, noting, appending}
+use Rattle.store.specs.Changes.{growing, opening, storing, noting, appending}
 use Rattle.store.proofs.Values.{number-phase, number-kind}
 use Rattle.store.proofs.Rows.{rows-at, change-none}
 use Rattle.store.proofs.Kept.{SameIn, part, put-low, put-high, puts-high, fields-same, field-put}
 use Rattle.store.proofs.Decoded.{statement-back}
-use Rattle.store.proofs.Tables.{Holds, holds-same, rows-kept, rows-put, rows-more}
+use Rattle.store.proofs.Tables.{Holds, holds-same, rows-kept, rows-put}
 use Rattle.store.proofs.Forms.{orderedHeader, orderedStatement, orderedTally, localStatement, localKind, localTally, localBlame, localName, Parts, parts, left}
-use Rattle.store.proofs.Writes.{endOf, Placed, Changed, Added, put-record, add-record}
+use Rattle.store.proofs.Writes.{endOf, Placed, put-record, add-record}
 
 -- where the tables stand
 placedStatements : Placed statementTable 11

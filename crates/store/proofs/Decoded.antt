@@ -1,23 +1,23 @@
 -- The bytes of a state whose numbers fit have the form, and hold that state. Assumes nothing.
-use Prim.Native.Nat.{ℕ, zero, suc, _+_, _*_, _^_, _<_, _≤_}
+use Prim.Native.Nat.{ℕ, _+_, _*_, _≤_}
 use mathlib.Core.Path.{_≡_, refl, sym, ap, _∙_, subst}
-use mathlib.Core.Bool.{Bool, true, false}
+use mathlib.Core.Bool.{true}
 use mathlib.Core.List.{List, [], _∷_, _++_, append-assoc, append-nil, map, map-id}
 use native.Mathlib.Omega.{arith}
 use native.Mathlib.Nat.{add-zero}
-use lib.ListN.{length, getD, drop, length-append}
+use lib.ListN.{length, drop, length-append}
 use Rattle.rules.specs.Limits.{lastView, mostStatements, mostTallies}
 use Rattle.rules.specs.Lists.{all, within}
 use Rattle.rules.specs.Words.{Statement, Tally, State}
 use Rattle.fields.specs.Places.{number, Bytes}
-use Rattle.fields.specs.Records.{Format, fields, Fit}
-use Rattle.store.specs.Layout.{headerFormat, statementFormat, tallyFormat, maskFormat, nameFormat, Table, statementTable, tallyTable, logTable, blameBase, storeLength, countOf, placeOf}
-use Rattle.store.specs.Decode.{nth, kindNumber, statementFrom, statementValues, tallyFrom, tallyValues, statementAt, tallyAt, blameAt, nameAt, kindAt, rows, blames, kinds, stateFrom, stateOf, hasForm, headerValues, bytesOf, flat, tableOf, Left, encode}
+use Rattle.fields.specs.Records.{fields, Fit}
+use Rattle.store.specs.Layout.{headerFormat, statementFormat, tallyFormat, maskFormat, nameFormat, statementTable, tallyTable, logTable, blameBase, storeLength, countOf, placeOf}
+use Rattle.store.specs.Decode.{nth, kindNumber, statementFrom, statementValues, tallyFrom, tallyValues, statementAt, tallyAt, blameAt, nameAt, kindAt, rows, blames, kinds, stateFrom, headerValues, bytesOf, flat, tableOf, Left, encode}
 use Rattle.store.proofs.Values.{number-phase, number-vote, number-kind}
 use Rattle.store.proofs.Tables.{Holds}
 use Rattle.store.proofs.Forms.{left}
-use Rattle.store.proofs.Pieces.{Tiled, total}
-use Rattle.store.proofs.ReadBack.{Each, Fits, bytes, fields-bytes, length-bytes, length-flat, length-table, bytes-append, bytes-record, bytes-flat, bytes-table, rows-flat, table-used, table-rows}
+use Rattle.store.proofs.Pieces.{Tiled}
+use Rattle.store.proofs.ReadBack.{Each, bytes, fields-bytes, length-bytes, length-flat, length-table, bytes-append, bytes-record, bytes-flat, bytes-table, rows-flat, table-used, table-rows}
 
 abbrev single : ℕ → List ℕ
 single n = n ∷ []

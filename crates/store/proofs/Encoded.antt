@@ -1,18 +1,17 @@
 -- A store of the form is the bytes of its state. Assumes nothing.
 use Prim.Native.Nat.{ℕ, _+_, _*_, _<_}
-use mathlib.Core.Path.{_≡_, refl, sym, ap, ap₂, _∙_}
-use mathlib.Core.Bool.{Bool, true, false, _&&_}
+use mathlib.Core.Path.{_≡_, sym, ap, ap₂, _∙_}
 use mathlib.Core.List.{List, [], _∷_, _++_}
 use native.Mathlib.Omega.{arith}
 use native.Mathlib.Nat.{add-zero}
-use lib.ListN.{length, getD, drop}
+use lib.ListN.{getD}
 use lib.Dec.{eqb}
 use Rattle.rules.specs.Limits.{lastView}
-use Rattle.rules.specs.Lists.{all, within}
+use Rattle.rules.specs.Lists.{within}
 use Rattle.fields.specs.Places.{number}
 use Rattle.fields.specs.Records.{fields}
-use Rattle.store.specs.Layout.{headerFormat, statementFormat, tallyFormat, maskFormat, nameFormat, statementTable, tallyTable, logTable, blameBase, storeLength, placeOf, countOf}
-use Rattle.store.specs.Decode.{kindNumber, statementValues, tallyValues, statementAt, tallyAt, blameAt, nameAt, kindAt, statements, tallies, blames, names, kinds, rows, stateFrom, stateOf, Form, headerValues, bytesOf, flat, tableOf, encode}
+use Rattle.store.specs.Layout.{headerFormat, statementFormat, tallyFormat, maskFormat, nameFormat, statementTable, tallyTable, logTable, blameBase, placeOf, countOf}
+use Rattle.store.specs.Decode.{kindNumber, statementValues, tallyValues, statementAt, tallyAt, blameAt, nameAt, kindAt, statements, tallies, blames, names, kinds, stateFrom, stateOf, Form, headerValues, bytesOf, encode}
 use Rattle.store.proofs.Values.{phase-number, vote-number, kind-number}
 use Rattle.store.proofs.Rows.{rows-append, rows-length, rows-all}
 use Rattle.store.proofs.Forms.{Parts, parts}

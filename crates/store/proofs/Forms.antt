@@ -1,21 +1,21 @@
 -- What the form of a store gives, table by table, and what gives the form. Assumes nothing.
-use Prim.Native.Nat.{ℕ, _+_, _*_, _<_, _≤_}
-use mathlib.Core.Path.{_≡_, refl, sym, ap, _∙_}
-use mathlib.Core.Bool.{Bool, true, false, _&&_}
-use mathlib.Core.List.{List, [], _∷_}
+use Prim.Native.Nat.{ℕ, _+_, _*_, _≤_}
+use mathlib.Core.Path.{_≡_, refl, ap}
+use mathlib.Core.Bool.{true, _&&_}
+use mathlib.Core.List.{List}
 use native.Mathlib.Omega.{arith}
 use lib.ListN.{length}
 use lib.Dec.{leb, eqb}
 use borrow.Author.Tests.{eqb-true, leb-true, eq-eqb, le-leb}
 use Rattle.rules.specs.Limits.{mostStatements, mostTallies}
 use Rattle.rules.specs.Lists.{all, within}
-use Rattle.rules.specs.Words.{Statement, Tally, State}
+use Rattle.rules.specs.Words.{Statement, Tally}
 use Rattle.rules.proofs.Tests.{and-left, and-right}
-use Rattle.fields.specs.Places.{number, Bytes}
-use Rattle.fields.specs.Records.{Format, fields, Ordered}
-use Rattle.store.specs.Layout.{headerFormat, statementFormat, tallyFormat, Table, statementTable, tallyTable, logTable, blameBase, storeLength, countOf, placeOf, unused}
+use Rattle.fields.specs.Places.{Bytes}
+use Rattle.fields.specs.Records.{fields, Ordered}
+use Rattle.store.specs.Layout.{headerFormat, statementFormat, tallyFormat, Table, statementTable, tallyTable, logTable, blameBase, storeLength, countOf, placeOf}
 use Rattle.store.specs.Decode.{statementFrom, tallyFrom, statementAt, tallyAt, blameAt, nameAt, kindAt, statements, tallies, blames, names, kinds, stateFrom, stateOf, tableFits, hasForm, Form, Left}
-use Rattle.store.proofs.Kept.{SameIn, part, fields-same}
+use Rattle.store.proofs.Kept.{part, fields-same}
 use Rattle.store.proofs.Tables.{Local, Used, Holds}
 
 -- the fields of each record lie in order

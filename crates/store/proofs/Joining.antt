@@ -1,7 +1,7 @@
 -- Joining by the place found: the tally there grows, or one is opened; genesis in view 0 is left out. Assumes nothing.
-use Prim.Native.Nat.{ℕ, _+_, _<_, _≤_}
-use mathlib.Core.Path.{_≡_, refl, sym, ap, _∙_}
-use mathlib.Core.List.{List, [], _∷_, _++_}
+use Prim.Native.Nat.{ℕ, _<_, _≤_}
+use mathlib.Core.Path.{_≡_, sym, ap, _∙_}
+use mathlib.Core.List.{List, [], _∷_}
 use native.Mathlib.Omega.{arith}
 use lib.ListN.{length, length-append}
 use borrow.Author.Tests.{eq-eqb, ne-eqb}
@@ -9,7 +9,7 @@ use Rattle.rules.specs.Limits.{mostTallies}
 use Rattle.rules.specs.Words.{Tally, sameBlock, join, joinCertificate, State}
 use Rattle.rules.specs.Inputs.{withTables}
 use Rattle.store.specs.Layout.{tallyTable, countOf}
-use Rattle.store.specs.Decode.{tallyAt, tallies, stateFrom, stateOf, Form, Left}
+use Rattle.store.specs.Decode.{tallyAt, tallies, stateFrom, stateOf, Left}
 use Rattle.store.specs.Changes.{firstFrom, growing, opening, joining, certifying}
 use Rattle.store.specs.declared.Found.{Found}
 use Rattle.store.specs.declared.Found.the-variants.{At, Nothing}

@@ -1,9 +1,9 @@
 -- What a write leaves as it was, said with numbers, so that records, counts and unused parts take it alike. Assumes nothing.
-use Prim.Native.Nat.{ℕ, zero, suc, _+_, _-_, _*_, _^_, _<_, _≤_}
+use Prim.Native.Nat.{ℕ, zero, suc, _+_, _*_, _^_, _<_, _≤_}
 use mathlib.Core.Path.{_≡_, refl, sym, ap, ap₂, _∙_}
-use mathlib.Core.List.{List, [], _∷_, _++_}
+use mathlib.Core.List.{List, [], _∷_}
 use native.Mathlib.Omega.{arith}
-use native.Mathlib.Nat.{add-suc, add-assoc, mul-suc, mul-le-mul-left}
+use native.Mathlib.Nat.{add-suc, add-assoc}
 use lib.Dec.{leb→le}
 use lib.ListN.{length, getD, set}
 use Rattle.fields.specs.Places.{number, put}

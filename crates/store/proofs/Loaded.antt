@@ -1,11 +1,9 @@
 -- The parts of a loaded station are those of the state that the store holds. Assumes nothing.
 use Prim.Native.Nat.{ℕ}
 use mathlib.Core.Path.{_≡_, sym, ap, _∙_}
-use mathlib.Core.List.{List, [], _∷_}
+use mathlib.Core.List.{List}
 use Rattle.settings.specs.Made.{settingsOf}
 use Rattle.fields.specs.Records.{fields}
-use Rattle.rules.specs.Words.{Tally}
-use Rattle.rules.specs.Sizes.{Settings}
 use Rattle.store.specs.Layout.{headerFormat, statementTable, tallyTable, logTable, countOf}
 use Rattle.store.specs.Decode.{nth, phaseOf, stateFrom, stateOf}
 use Rattle.store.specs.Meaning.{courseOf, tallyOf, headerOf}

@@ -1,14 +1,14 @@
 -- A store is well formed exactly when it is the bytes of a well-formed state. Assumes nothing.
 use Prim.Native.Nat.{ℕ}
-use mathlib.Core.Path.{_≡_, refl, sym, ap, _∙_}
-use mathlib.Core.Bool.{Bool, true, false, _&&_}
+use mathlib.Core.Path.{_≡_, sym, ap, _∙_}
+use mathlib.Core.Bool.{true, _&&_}
 use mathlib.Core.List.{List}
-use mathlib.Core.Option.{Option, none, some, Option·some-injective}
+use mathlib.Core.Option.{some, Option·some-injective}
 use Rattle.rules.specs.Words.{State}
 use Rattle.rules.specs.WellFormed.{wellFormed}
 use Rattle.rules.proofs.Tests.{by-bool, no-some, and-left, and-right}
 use Rattle.fields.specs.Places.{Bytes}
-use Rattle.store.specs.Decode.{stateOf, hasForm, decode, Form, Left, encode}
+use Rattle.store.specs.Decode.{stateOf, hasForm, decode, Left, encode}
 use Rattle.store.proofs.Encoded.{encode-state}
 
 good : {b : List ℕ} {s : State} → Left b s → wellFormed s ≡ true → (hasForm b && wellFormed (stateOf b)) ≡ true

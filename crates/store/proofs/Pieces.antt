@@ -1,18 +1,18 @@
 -- The bytes of records and of tables, and the numbers that they are read back as: once for every format. Assumes nothing.
 use Prim.Native.Nat.{ℕ, zero, suc, _+_, _-_, _*_, _/_, _%_, _^_, _<_, _≤_}
 use mathlib.Core.Path.{_≡_, refl, sym, ap, ap₂, _∙_}
-use mathlib.Core.List.{List, [], _∷_, _++_, append-assoc}
+use mathlib.Core.List.{List, [], _∷_, _++_}
 use native.Mathlib.Omega.{arith}
-use native.Mathlib.Nat.{add-zero, add-assoc, mul-zero, mul-suc, zero-div, zero-mod, mod-lt, div-add-mod', mul-add-div-right, mul-add-mod-self-right, div-eq-of-lt, mod-eq-of-lt, mul-le-mul-left}
+use native.Mathlib.Nat.{add-zero, add-assoc, mul-zero, mul-suc, zero-div, zero-mod, mul-add-div-right, mul-add-mod-self-right, div-eq-of-lt, mod-eq-of-lt, mul-le-mul-left}
 use lib.Dec.{T, eqb, eqb→eq}
-use lib.ListN.{length, getD, replicate, length-append}
+use lib.ListN.{length, getD, replicate}
 use Rattle.rules.specs.Lists.{unbe}
-use Rattle.rules.proofs.Bytes.{length-unbe, pow-pos}
+use Rattle.rules.proofs.Bytes.{pow-pos}
 use Rattle.fields.specs.Places.{number, Bytes}
-use Rattle.fields.specs.Records.{Format, fields, Fit}
+use Rattle.fields.specs.Records.{Format, fields}
 use Rattle.fields.proofs.Laws.{number-lt}
-use Rattle.fields.proofs.Lists.{number-head, number-cons, number-append-left, number-append-right}
-use Rattle.store.specs.Layout.{Table, countOf, unused}
+use Rattle.fields.proofs.Lists.{number-head}
+use Rattle.store.specs.Layout.{Table, countOf}
 use Rattle.store.specs.Decode.{bytesOf, rows, flat, tableOf}
 use Rattle.store.proofs.Rows.{rows-append, rows-length, rows-shift}
 use Rattle.store.proofs.Tables.{Used}

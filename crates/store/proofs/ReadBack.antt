@@ -5,17 +5,17 @@ use mathlib.Core.List.{List, [], _∷_, _++_, append-assoc, map}
 use native.Mathlib.Omega.{arith}
 use native.Mathlib.Nat.{add-zero, mul-zero, mul-suc, mod-lt, div-add-mod', mul-le-mul-left}
 use lib.Dec.{eqb→eq}
-use lib.ListN.{length, getD, replicate, length-append, length-replicate}
+use lib.ListN.{length, replicate, length-append, length-replicate}
 use Rattle.rules.specs.Lists.{unbe}
 use Rattle.rules.proofs.Bytes as digits
 use Rattle.rules.proofs.Bytes.{length-unbe, pow-pos, bytes-unbe}
 use Rattle.fields.specs.Places.{number, Bytes}
 use Rattle.fields.specs.Records.{Format, fields, Fit}
-use Rattle.fields.proofs.Lists.{number-cons, number-append-left, number-append-right}
-use Rattle.store.specs.Layout.{Table, countOf, unused}
+use Rattle.fields.proofs.Lists.{number-cons, number-append-right}
+use Rattle.store.specs.Layout.{Table, countOf}
 use Rattle.store.specs.Decode.{bytesOf, rows, flat, tableOf}
 use Rattle.store.proofs.Pieces.{Tiled, total}
-use Rattle.store.proofs.Tables.{Used, Holds}
+use Rattle.store.proofs.Tables.{Used}
 
 -- a number that stands behind a beginning
 number-behind : (p r : List ℕ) (at w : ℕ) → at ≡ length p → number (p ++ r) at w ≡ number r 0 w

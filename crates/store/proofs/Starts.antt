@@ -6,7 +6,7 @@ use mathlib.Core.List.{List, [], _∷_}
 use native.Mathlib.Omega.{arith}
 use native.Mathlib.Nat.{zero-add, mul-zero, mul-le-mul-left}
 use lib.ListN.{length, replicate}
-use lib.Dec.{leb, ltb, eqb}
+use lib.Dec.{leb, eqb}
 use borrow.Author.Tests.{leb-true, ltb-true, eq-eqb, ne-eqb}
 use Rattle.rules.specs.Limits.{leastStations, mostStations, leastDelay, mostDelay, lastView}
 use Rattle.rules.specs.Lists.{all, within}
@@ -14,7 +14,6 @@ use Rattle.rules.specs.Sizes.{Settings, goodSettings}
 use Rattle.rules.specs.Words.{inView, fresh}
 use Rattle.settings.specs.Made.{made, pick}
 use Rattle.settings.specs.declared.Settings as declared
-use Rattle.settings.specs.declared.Made.{Made}
 use Rattle.settings.specs.declared.Made.the-variants.{Good, Bad}
 use Rattle.rules.specs.Inputs.{entering}
 use Rattle.rules.proofs.Tests.{by-bool, and-left, and-right}
@@ -24,7 +23,7 @@ use Rattle.fields.specs.Records.{fields, puts, Fit}
 use Rattle.fields.proofs.Laws.{number-put-same, number-split, length-put, bytes-put}
 use Rattle.fields.proofs.Records.{fit-fields}
 use Rattle.store.specs.Layout.{headerFormat, tallyFormat, Table, statementTable, tallyTable, logTable, blameBase, storeLength, countOf}
-use Rattle.store.specs.Decode.{nth, tallyValues, statementAt, tallyAt, blameAt, nameAt, kindAt, blames, kinds, rows, statements, tallies, names, stateFrom, stateOf, headerValues, Form, Left, encode}
+use Rattle.store.specs.Decode.{tallyValues, statementAt, tallyAt, blameAt, nameAt, kindAt, blames, kinds, rows, statements, tallies, names, stateFrom, stateOf, headerValues, Form, Left}
 use Rattle.store.specs.Meaning.{tallyOf, headerOf}
 use Rattle.store.specs.declared.Phase.the-variants.{InView}
 use Rattle.store.specs.declared.Tally.{Tally}
@@ -32,7 +31,7 @@ use Rattle.store.specs.declared.Station.{Station}
 use Rattle.store.specs.Fresh.{answer, freshly}
 use Rattle.store.proofs.Loaded.{loaded-settings, loaded-clock, loaded-statements, loaded-tallies, loaded-logged}
 use Rattle.store.proofs.Kept.{zero-end}
-use Rattle.store.proofs.Tables.{Used, Holds}
+use Rattle.store.proofs.Tables.{Holds}
 use Rattle.store.proofs.Forms.{left}
 use Rattle.store.proofs.OneForm.{left-bytes}
 use Rattle.store.proofs.Changes.{put-station}

@@ -1,5 +1,5 @@
 -- Each number of the store is one value's, and each value one number's. Assumes nothing.
-use Prim.Native.Nat.{ℕ, zero, suc, _+_, _-_, _≤_}
+use Prim.Native.Nat.{ℕ, zero, suc, _-_, _≤_}
 use mathlib.Core.Path.{_≡_, refl, sym, ap}
 use mathlib.Core.Bool.{Bool, true, false}
 use mathlib.Core.List.{List}
@@ -9,7 +9,7 @@ use lib.Dec.{leb, eqb}
 use borrow.Author.Tests.{leb-true}
 use Rattle.rules.specs.Lists.{within}
 use Rattle.rules.proofs.Tests.{no-bool, and-right}
-use Rattle.rules.specs.Words.{Phase, inView, waiting, stopped, Cause, full, split, clock, Statement, Tally}
+use Rattle.rules.specs.Words.{Phase, inView, waiting, stopped, full, split, clock}
 use Rattle.store.specs.Decode.{phaseOf, phaseNumber, voteOf, voteNumber, kindNumber, statementAt, voteAt}
 
 pub phase-waiting : (k : ℕ) → 4 ≤ k → waiting (k - 4) ≡ phaseOf k

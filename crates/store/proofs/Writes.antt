@@ -1,11 +1,11 @@
 -- What a write makes of one table, and what it leaves of the rest of the store: each law once for every table. Assumes nothing.
-use Prim.Native.Nat.{ℕ, zero, suc, _+_, _-_, _*_, _^_, _<_, _≤_}
-use mathlib.Core.Path.{_≡_, refl, sym, ap, ap₂, _∙_, subst}
+use Prim.Native.Nat.{ℕ, suc, _+_, _*_, _^_, _<_, _≤_}
+use mathlib.Core.Path.{_≡_, sym, ap, ap₂, _∙_, subst}
 use mathlib.Core.List.{List, [], _∷_, _++_}
 use native.Mathlib.Omega.{arith}
 use native.Mathlib.Nat.{zero-add, mul-suc, mul-le-mul-left}
 use lib.ListN.{length, getD, set}
-use Rattle.fields.specs.Places.{number, put, Bytes}
+use Rattle.fields.specs.Places.{put, Bytes}
 use Rattle.fields.specs.Records.{Format, fields, puts, Ordered, Fit}
 use Rattle.fields.proofs.Laws.{number-put-same, length-put, bytes-put}
 use Rattle.fields.proofs.Records.{length-puts, bytes-puts, fields-puts}
@@ -13,7 +13,7 @@ use Rattle.store.specs.Layout.{headerFormat, Table, storeLength, countOf
 use Rattle.store.specs.Changes.{changeAt}
 use Rattle.store.proofs.Rows.{rows-change}
 use Rattle.store.proofs.Kept.{SameIn, part, then, put-low, put-high, puts-low, puts-high, fields-same, field-put}
-use Rattle.store.proofs.Tables.{Local, Used, Holds, holds-same, holds-set, holds-more}
+use Rattle.store.proofs.Tables.{Local, Holds, holds-set, holds-more}
 use Rattle.store.proofs.Forms.{orderedHeader}
 
 -- where a table's records end

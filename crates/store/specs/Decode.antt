@@ -8,7 +8,7 @@ use lib.ListN.{length, getD, replicate, drop}
 use lib.Dec.{leb, eqb}
 use Rattle.rules.specs.Limits.{lastView}
 use Rattle.rules.specs.Lists.{unbe, all, within}
-use Rattle.rules.specs.Words.{Statement, Tally, Phase, inView, waiting, stopped, Cause, full, split, clock, State}
+use Rattle.rules.specs.Words.{Statement, Tally, Phase, inView, waiting, stopped, full, split, clock, State}
 use Rattle.rules.specs.WellFormed.{wellFormed}
 use Rattle.fields.specs.Places.{number, Bytes}
 use Rattle.fields.specs.Records.{Format, fields}

@@ -1,7 +1,7 @@
 -- Where each number of a store is: docs/STORE.md has the same list. Offsets and widths in bytes. Assumes nothing.
 use Prim.Native.Nat.{ℕ, _+_, _*_, _-_}
 use mathlib.Core.List.{List, [], _∷_}
-use Rattle.rules.specs.Limits.{lastView, mostStatements, mostTallies}
+use Rattle.rules.specs.Limits.{mostStatements, mostTallies}
 use Rattle.fields.specs.Places.{number}
 use Rattle.fields.specs.Records.{Format}
 

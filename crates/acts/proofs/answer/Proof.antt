@@ -1,3 +1,4 @@
+-- `acts::answer` meets its contract. Assumes nothing.
 use Rattle.rules.specs.Inputs as inputs
 use Rattle.rules.specs.Words.{message}
 use Rattle.rules.specs.Messages.{Message, toAll}
@@ -8,7 +9,7 @@ use Rattle.acts.proofs.Places.{sendable-linked, place-sendable, place-m
 use Rattle.acts.proofs.Answers.{answered-out, answered-votes, answered-quits}
 use Rattle.acts.proofs.Works.{works-is, works-none}
 use Rattle.store.proofs.Forms.{form-long, form-statements}
-use Rattle.store.specs.Decode.{stateOf, statementAt}
+use Rattle.store.specs.Decode.{stateOf}
 use Rattle.wire.specs.Meaning.{statementOf}
 use borrow.Author.Tests.{not-true, not-false}
 use mathlib.Core.Option.{none}
@@ -17,23 +18,13 @@ use mathlib.Core.Path.{refl, sym, _∙_}
 use borrow.Author.Needs.{needs}
 use Rattle.acts.proofs.answer.Statement.{statement}
 use Rattle.acts.proofs.answer.Tie as tie
-use Rattle.acts.proofs.answer.Reads as reads
-use Rattle.acts.proofs.answer.Lts as lts
-use Rattle.acts.proofs.is_in.Reads as is-in-reads
-use Rattle.acts.proofs.quit_with_pair.Reads as quit-with-pair-reads
-use Rattle.acts.proofs.voting.Reads as voting-reads
-use Rattle.search.proofs.find_conflict.Reads as find-conflict-reads
-use Rattle.store.proofs.statement_at.Reads as statement-at-reads
 
--- src/lib.rt:201:9
 is-in-requires : tie.Need-is-in-requires
 is-in-requires c κs = search needs
 
--- src/lib.rt:202:9
 same-length : tie.Need-same-length
 same-length c = search needs
 
--- src/lib.rt:202:9
 returns : tie.Need-returns
 unfolding statementOf
 returns c =
@@ -41,20 +32,16 @@ returns c =
     works-is (sym (answered-out (statementOf (c .before .before .before .before .before .args .x) none) s (sym (c .before .is-in .ensures) ∙ not-true _ (c .if1 .taken))))
     (works-none (c .before .before .before .before .before .args .out .now) (c .before .before .before .before .before .args .at) (record { form = c .before .before .before .before .before .pre .0 .form; is = refl }))
 
--- src/lib.rt:204:11
 find-conflict-requires : tie.Need-find-conflict-requires
 find-conflict-requires c κs = search needs
 
--- src/lib.rt:205:19
 enum-known-i : tie.Need-enum-known-i
 enum-known-i c = search needs
 
--- src/lib.rt:206:17
 statement-at-requires : tie.Need-statement-at-requires
 statement-at-requires c κs =
     (form-long _ (c .before .before .before .before .before .before .before .before .before .before .before .pre .0 .form), omega (arith, conflict-within (c .before .before .before .before .before .before .before .before .before .before .before .args .store .now) (statementOf (c .before .before .before .before .before .before .before .before .before .before .before .args .x) none) (c .before .before .before .before .find-conflict .result) (c .before .before .before .before .find-conflict .ensures) _ (c .before .before .i .given .1), form-statements _ (c .before .before .before .before .before .before .before .before .before .before .before .pre .0 .form)))
 
--- src/lib.rt:207:13
 quit-with-pair-requires : tie.Need-quit-with-pair-requires
 quit-with-pair-requires c κs =
     let b = c .before .before .before .before .before .before .before .before .before .before .before .before .before .before .args .store .now in
@@ -62,23 +49,18 @@ quit-with-pair-requires c κs =
     let w = conflict-within b (statementOf (c .before .before .before .before .before .before .before .before .before .before .before .before .before .before .args .x) none) (c .before .before .before .before .before .before .before .find-conflict .result) (c .before .before .before .before .before .before .before .find-conflict .ensures) _ (c .before .before .before .before .before .i .given .1) in
     (c .before .before .before .before .before .before .before .before .before .before .before .before .before .before .pre .0, sendable-linked g (c .before .before .statement-at .result) (place-sendable (c .before .before .before .before .before .before .before .before .before .before .before .before .before .before .pre .0) (record { within = w; is = c .before .before .statement-at .ensures })), sendable-linked g (c .before .before .before .before .before .before .before .before .before .before .before .before .before .before .args .x) (place-sendable (c .before .before .before .before .before .before .before .before .before .before .before .before .before .before .pre .0) (c .before .before .before .before .before .before .before .before .before .before .before .before .before .before .pre .1)), c .before .before .before .before .before .before .before .before .before .before .before .before .before .before .pre .2)
 
--- src/lib.rt:209:34
 enum-told : tie.Need-enum-told
 enum-told c = search needs
 
--- src/lib.rt:209:27
 voting-requires : tie.Need-voting-requires
 voting-requires c κs = search needs
 
--- src/lib.rt:197:1
 same-length-2 : tie.Need-same-length-2
 same-length-2 c = search needs
 
--- src/lib.rt:197:1
 same-length-3 : tie.Need-same-length-3
 same-length-3 c = search needs
 
--- src/lib.rt:197:1
 returns-2 : tie.Need-returns-2
 unfolding statementOf
 returns-2 c =
@@ -90,15 +72,12 @@ returns-2 c =
     (ap (λ (m : Message). inputs.quit (toAll m ∷ toAll (message x) ∷ []) (stateOf b)) (place-message (c .before .before .before .before .before .before .before .before .before .before .before .before .before .before .before .before .before .before .before .pre .0) (record { within = w; is = c .before .before .before .before .before .before .before .statement-at .ensures }))
     ∙ sym (answered-quits x (stateOf b) _ (sym (c .before .before .before .before .before .before .before .before .before .before .before .before .before .before .before .is-in .ensures) ∙ not-false _ (c .before .before .before .before .before .before .before .before .before .before .before .before .before .before .if1 .left)) o)) (c .before .before .before .before .quit-with-pair .ensures)
 
--- src/lib.rt:197:1
 same-length-4 : tie.Need-same-length-4
 same-length-4 c = search needs
 
--- src/lib.rt:197:1
 same-length-5 : tie.Need-same-length-5
 same-length-5 c = search needs
 
--- src/lib.rt:197:1
 returns-3 : tie.Need-returns-3
 unfolding statementOf
 returns-3 c =

@@ -1,68 +1,51 @@
+-- `acts::blaming` meets its contract. Assumes nothing.
 use Rattle.store.specs.Decode.{stateOf}
 use Rattle.acts.proofs.Blames.{goes-on-outside, goes-on-with-few, quits-with-set}
 use Rattle.acts.proofs.Works.{formed-parts, left-formed}
 use Rattle.kept.proofs.Blames.{blamed-formed}
 use Rattle.kept.proofs.Allowed.{view-within}
-use native.Mathlib.Omega.{arith}
 use borrow.Author.Tests.{not-true, not-false}
 use mathlib.Core.Path.{sym, _∙_}
 use borrow.Author.Needs.{needs}
 use Rattle.acts.proofs.blaming.Statement.{statement}
 use Rattle.acts.proofs.blaming.Tie as tie
-use Rattle.acts.proofs.blaming.Reads as reads
-use Rattle.acts.proofs.blaming.Lts as lts
-use Rattle.acts.proofs.blame_full.Reads as blame-full-reads
-use Rattle.acts.proofs.is_in.Reads as is-in-reads
-use Rattle.acts.proofs.quit_with_set.Reads as quit-with-set-reads
-use Rattle.store.proofs.join_blame.Reads as join-blame-reads
 
--- src/lib.rt:87:5
 join-blame-requires : tie.Need-join-blame-requires
 join-blame-requires c κs =
     let w = view-within (c .before .before .before .args .view) (c .before .before .before .pre .1) in (c .before .before .before .pre .0 .form, w .0, w .1)
 
--- src/lib.rt:88:9
 is-in-requires : tie.Need-is-in-requires
 is-in-requires c κs =
     c .before .before .before .join-blame .ensures .form
 
--- src/lib.rt:89:9
 same-length : tie.Need-same-length
 same-length c = search needs
 
--- src/lib.rt:89:9
 returns : tie.Need-returns
 returns c =
     goes-on-outside (stateOf (c .before .before .before .before .before .before .before .before .before .args .store .now)) (c .before .before .before .before .before .before .before .before .before .args .view) (c .before .before .before .before .before .before .before .before .before .args .mask) (c .before .before .before .before .before .join-blame .ensures) (c .before .before .before .before .before .before .before .before .before .args .out .now) (c .before .before .before .before .before .before .before .before .before .args .at) (sym (c .before .is-in .ensures) ∙ not-true _ (c .if1 .taken))
 
--- src/lib.rt:91:9
 blame-full-requires : tie.Need-blame-full-requires
 blame-full-requires c κs =
     (c .before .before .before .before .before .before .join-blame .ensures .form, c .before .before .before .before .before .before .before .before .before .before .pre .1)
 
--- src/lib.rt:92:9
 same-length-2 : tie.Need-same-length-2
 same-length-2 c = search needs
 
--- src/lib.rt:92:9
 returns-2 : tie.Need-returns-2
 returns-2 c =
     goes-on-with-few (stateOf (c .before .before .before .before .before .before .before .before .before .before .before .before .args .store .now)) (c .before .before .before .before .before .before .before .before .before .before .before .before .args .view) (c .before .before .before .before .before .before .before .before .before .before .before .before .args .mask) (c .before .before .before .before .before .before .before .before .join-blame .ensures) (c .before .before .before .before .before .before .before .before .before .before .before .before .args .out .now) (c .before .before .before .before .before .before .before .before .before .before .before .before .args .at) (sym (c .before .blame-full .ensures) ∙ not-true _ (c .if2 .taken))
 
--- src/lib.rt:94:5
 quit-with-set-requires : tie.Need-quit-with-set-requires
 quit-with-set-requires c κs =
     (left-formed (c .before .before .before .before .before .before .before .before .before .before .join-blame .ensures) (blamed-formed (formed-parts (c .before .before .before .before .before .before .before .before .before .before .before .before .before .before .pre .0) .formed) (c .before .before .before .before .before .before .before .before .before .before .before .before .before .before .args .view) (c .before .before .before .before .before .before .before .before .before .before .before .before .before .before .args .mask) (c .before .before .before .before .before .before .before .before .before .before .before .before .before .before .pre .1) (c .before .before .before .before .before .before .before .before .before .before .before .before .before .before .pre .2)), c .before .before .before .before .before .before .before .before .before .before .before .before .before .before .pre .1, c .before .before .before .before .before .before .before .before .before .before .before .before .before .before .pre .3)
 
--- src/lib.rt:83:1
 same-length-3 : tie.Need-same-length-3
 same-length-3 c = search needs
 
--- src/lib.rt:83:1
 same-length-4 : tie.Need-same-length-4
 same-length-4 c = search needs
 
--- src/lib.rt:83:1
 returns-3 : tie.Need-returns-3
 returns-3 c =
     quits-with-set (stateOf (c .before .before .before .before .before .before .before .before .before .before .before .before .before .before .before .before .before .before .before .args .store .now)) (c .before .before .before .before .before .before .before .before .before .before .before .before .before .before .before .before .before .before .before .args .view) (c .before .before .before .before .before .before .before .before .before .before .before .before .before .before .before .before .before .before .before .args .mask) (c .before .before .before .before .before .before .before .before .before .before .before .before .before .before .before .join-blame .ensures) (sym (c .before .before .before .before .before .before .before .before .before .before .before .is-in .ensures) ∙ not-false _ (c .before .before .before .before .before .before .before .before .before .before .if1 .left)) (sym (c .before .before .before .before .before .before .before .before .blame-full .ensures) ∙ not-false _ (c .before .before .before .before .before .before .before .if2 .left)) (c .before .before .before .before .quit-with-set .ensures)

@@ -1,3 +1,4 @@
+-- `acts::certificate_missing` meets its contract. Assumes nothing.
 use Rattle.acts.proofs.Stores.{genesis-needs-none, certificate-needs}
 use Rattle.store.specs.Meaning.{tallyOf}
 use native.Mathlib.Omega.{arith}
@@ -5,21 +6,15 @@ use mathlib.Core.Path.{_∙_}
 use borrow.Author.Needs.{needs}
 use Rattle.acts.proofs.certificate_missing.Statement.{statement}
 use Rattle.acts.proofs.certificate_missing.Tie as tie
-use Rattle.acts.proofs.certificate_missing.Reads as reads
-use Rattle.acts.proofs.certificate_missing.Lts as lts
-use Rattle.acts.proofs.missing.Reads as missing-reads
 
--- src/lib.rt:114:9
 returns : tie.Need-returns
 unfolding tallyOf
 returns c =
     (genesis-needs-none (c .before .before .before .args .store .now) (tallyOf (c .before .before .before .args .tally)) (c .if1 .taken), omega arith)
 
--- src/lib.rt:116:5
 missing-requires : tie.Need-missing-requires
 missing-requires c κs = search needs
 
--- src/lib.rt:109:1
 returns-2 : tie.Need-returns-2
 unfolding tallyOf
 returns-2 c =

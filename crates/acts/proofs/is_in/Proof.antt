@@ -1,3 +1,4 @@
+-- `acts::is_in` meets its contract. Assumes nothing.
 use mathlib.Core.Path.{ap}
 use mathlib.Core.Logic.{⊎-elim}
 use native.Mathlib.Omega.{arith}
@@ -8,25 +9,18 @@ use Rattle.store.proofs.Forms.{form-long}
 use borrow.Author.Needs.{needs}
 use Rattle.acts.proofs.is_in.Statement.{statement}
 use Rattle.acts.proofs.is_in.Tie as tie
-use Rattle.acts.proofs.is_in.Reads as reads
-use Rattle.acts.proofs.is_in.Lts as lts
-use Rattle.store.proofs.Station.load.Reads as load-reads
 
--- src/lib.rt:16:9
 load-requires : tie.Need-load-requires
 load-requires c κs =
     form-long _ (c .before .pre)
 
--- src/lib.rt:19:26
 enum-told : tie.Need-enum-told
 enum-told c = search needs
 
--- src/lib.rt:12:1
 returns : tie.Need-returns
 returns c =
     in-view (c .before .before .before .load .result) (c .before .before .before .before .before .args .store .now) (c .before .before .before .load .ensures) (c .before .before .before .before .before .args .view) (c .before .enum-told .given .1)
 
--- src/lib.rt:12:1
 returns-2 : tie.Need-returns-2
 returns-2 c =
     not-in-view (c .before .load .result) (c .before .before .before .args .store .now) (c .before .load .ensures) (c .before .before .before .args .view) (λ p. let z = ap (tagOf the-type) p in ⊎-elim (λ w. omega arith) (λ w. omega arith) (c .match .keys2))

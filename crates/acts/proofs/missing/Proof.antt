@@ -1,31 +1,24 @@
+-- `acts::missing` meets its contract. Assumes nothing.
 use Rattle.acts.proofs.Stores.{needs-none, needs-one}
 use Rattle.store.specs.Meaning.{tallyOf}
 use native.Mathlib.Omega.{arith}
 use borrow.Author.Needs.{needs}
 use Rattle.acts.proofs.missing.Statement.{statement}
 use Rattle.acts.proofs.missing.Tie as tie
-use Rattle.acts.proofs.missing.Reads as reads
-use Rattle.acts.proofs.missing.Lts as lts
-use Rattle.store.proofs.find_tally.Reads as find-tally-reads
 
--- src/lib.rt:102:11
 find-tally-requires : tie.Need-find-tally-requires
 find-tally-requires c κs = search needs
 
--- src/lib.rt:103:25
 enum-told : tie.Need-enum-told
 enum-told c = search needs
 
--- src/lib.rt:104:27
 enum-told-2 : tie.Need-enum-told-2
 enum-told-2 c = search needs
 
--- src/lib.rt:98:1
 returns : tie.Need-returns
 returns c =
     (needs-none (c .before .before .before .before .args .store .now) (tallyOf (c .before .before .before .before .args .tally)) (c .before .before .find-tally .result) (c .before .before .find-tally .ensures) _ (c .enum-told .given .1), omega arith)
 
--- src/lib.rt:98:1
 returns-2 : tie.Need-returns-2
 returns-2 c =
     (needs-one (c .before .before .before .before .args .store .now) (tallyOf (c .before .before .before .before .args .tally)) (c .before .before .find-tally .result) (c .before .before .find-tally .ensures) (c .enum-told2 .given .1), omega arith)

@@ -1,3 +1,4 @@
+-- `acts::quit_with_pair` meets its contract. Assumes nothing.
 use Rattle.acts.proofs.Works.{pair-bytes, works-quit}
 use Rattle.store.specs.Decode.{stateOf}
 use Rattle.wire.specs.Meaning.{statementOf, messageOf}
@@ -9,30 +10,21 @@ use native.Mathlib.Omega.{arith}
 use borrow.Author.Needs.{needs}
 use Rattle.acts.proofs.quit_with_pair.Statement.{statement}
 use Rattle.acts.proofs.quit_with_pair.Tie as tie
-use Rattle.acts.proofs.quit_with_pair.Reads as reads
-use Rattle.acts.proofs.quit_with_pair.Lts as lts
-use Rattle.acts.proofs.quit.Reads as quit-reads
-use Rattle.acts.proofs.send_both.Reads as send-both-reads
 
--- src/lib.rt:141:5
 quit-requires : tie.Need-quit-requires
 quit-requires c κs = search needs
 
--- src/lib.rt:142:5
 send-both-requires : tie.Need-send-both-requires
 unfolding messageOf
 send-both-requires c κs =
     (c .before .before .before .before .before .before .before .pre .1, c .before .before .before .before .before .before .before .pre .2, omega (arith, pair-bytes (statementOf (c .before .before .before .before .before .before .before .args .first) none) (statementOf (c .before .before .before .before .before .before .before .args .second) none), c .before .before .before .before .before .before .before .pre .3))
 
--- src/lib.rt:137:1
 same-length : tie.Need-same-length
 same-length c = search needs
 
--- src/lib.rt:137:1
 same-length-2 : tie.Need-same-length-2
 same-length-2 c = search needs
 
--- src/lib.rt:137:1
 returns : tie.Need-returns
 unfolding messageOf
 returns c =

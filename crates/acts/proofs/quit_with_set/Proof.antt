@@ -1,3 +1,4 @@
+-- `acts::quit_with_set` meets its contract. Assumes nothing.
 use Rattle.acts.proofs.Works.{set-bytes, works-quit}
 use Rattle.acts.proofs.Stores.{blame-place}
 use Rattle.kept.proofs.Allowed.{view-within}
@@ -9,46 +10,33 @@ use Rattle.rules.specs.Inputs.{blamesOf}
 use Rattle.rules.specs.Messages.{toAll, blameSet}
 use mathlib.Core.List.{[], _∷_}
 use native.Mathlib.Omega.{arith}
-use Prim.Native.Nat.{ℕ}
-use mathlib.Core.Path.{ap, _∙_}
+use mathlib.Core.Path.{_∙_}
 use borrow.Author.Needs.{needs}
 use Rattle.acts.proofs.quit_with_set.Statement.{statement}
 use Rattle.acts.proofs.quit_with_set.Tie as tie
-use Rattle.acts.proofs.quit_with_set.Reads as reads
-use Rattle.acts.proofs.quit_with_set.Lts as lts
-use Rattle.acts.proofs.quit.Reads as quit-reads
-use Rattle.store.proofs.blame_at.Reads as blame-at-reads
-use Rattle.wire.proofs.to_all.Reads as to-all-reads
 
--- src/lib.rt:77:39
 sub-blame-at : tie.Need-sub-blame-at
 sub-blame-at c =
     view-within (c .before .before .before .args .view) (c .before .before .before .pre .1) .0
 
--- src/lib.rt:77:9
 blame-at-requires : tie.Need-blame-at-requires
 blame-at-requires c κs =
     (form-long _ (c .before .before .before .pre .0 .form), omega (arith, view-within (c .before .before .before .args .view) (c .before .before .before .pre .1)))
 
--- src/lib.rt:78:5
 quit-requires : tie.Need-quit-requires
 quit-requires c κs = search needs
 
--- src/lib.rt:79:5
 to-all-requires : tie.Need-to-all-requires
 unfolding messageOf
 to-all-requires c κs =
     (tt, omega (arith, set-bytes (c .before .before .before .before .before .before .before .before .before .args .view) (c .before .before .before .before .before .blame-at .result), c .before .before .before .before .before .before .before .before .before .pre .2))
 
--- src/lib.rt:73:1
 same-length : tie.Need-same-length
 same-length c = search needs
 
--- src/lib.rt:73:1
 same-length-2 : tie.Need-same-length-2
 same-length-2 c = search needs
 
--- src/lib.rt:73:1
 returns : tie.Need-returns
 unfolding messageOf
 returns c =

@@ -1,69 +1,52 @@
+-- `acts::statement` meets its contract. Assumes nothing.
 use Rattle.acts.proofs.Statements.{repeat-fits, code-unvoted}
 use Rattle.acts.proofs.Statements.{is-repeat, is-new, stored-stands, statement-repeat, repeat-left}
 use Rattle.acts.proofs.Answers.{statement-new, new-room}
 use Rattle.acts.proofs.Places.{sendable-certifies}
-use Rattle.acts.proofs.Rooms.{repeat-length}
 use Rattle.acts.proofs.Works.{formed-parts, left-formed, works-is, works-none}
 use Rattle.acts.specs.Answers.{answered}
 use Rattle.kept.proofs.Tables.{stored-formed}
 use Rattle.store.proofs.Loaded.{loaded-statements}
 use Rattle.store.proofs.Forms.{form-long}
 use Rattle.store.specs.Meaning.{tallyOf}
-use Rattle.store.specs.Decode.{stateOf, stateFrom}
+use Rattle.store.specs.Decode.{stateOf}
 use Rattle.wire.specs.Meaning.{statementOf}
 use Rattle.rules.specs.Words.{certificate}
 use mathlib.Core.Option.{none}
-use native.Mathlib.Omega.{arith}
-use mathlib.Core.Path.{refl, sym, ap, _∙_}
+use mathlib.Core.Path.{sym, ap, _∙_}
 use borrow.Author.Needs.{needs}
 use Rattle.acts.proofs.statement.Statement.{statement}
 use Rattle.acts.proofs.statement.Tie as tie
-use Rattle.acts.proofs.statement.Reads as reads
-use Rattle.acts.proofs.statement.Lts as lts
-use Rattle.acts.proofs.answer.Reads as answer-reads
-use Rattle.acts.proofs.store_new.Reads as store-new-reads
-use Rattle.search.proofs.certificate.Reads as certificate-reads
-use Rattle.store.proofs.Station.load.Reads as load-reads
-use Rattle.store.proofs.find_statement.Reads as find-statement-reads
-use Rattle.store.proofs.join_certificate.Reads as join-certificate-reads
 
--- src/lib.rt:218:11
 find-statement-requires : tie.Need-find-statement-requires
 find-statement-requires c κs = search needs
 
--- src/lib.rt:220:37
 enum-told : tie.Need-enum-told
 enum-told c = search needs
 
--- src/lib.rt:220:44
 certificate-requires : tie.Need-certificate-requires
 certificate-requires c κs =
     sendable-certifies (stateOf (c .before .before .before .before .before .before .before .args .store .now) .settings) (c .before .before .before .before .before .before .before .args .x) (c .before .before .before .before .before .before .before .pre .1)
 
--- src/lib.rt:220:13
 join-certificate-requires : tie.Need-join-certificate-requires
 join-certificate-requires c κs =
     let b = c .before .before .before .before .before .before .before .before .args .store .now in
     let x = statementOf (c .before .before .before .before .before .before .before .before .args .x) none in
     (c .before .before .before .before .before .before .before .before .pre .0 .form, repeat-fits (c .before .before .before .before .before .before .before .before .pre .0) x (tallyOf (c .certificate .result)) (c .certificate .ensures) (is-repeat b x (c .before .before .before .before .find-statement .result) (c .before .before .before .before .find-statement .ensures) _ (c .before .before .enum-told .given .1)))
 
--- src/lib.rt:224:41
 enum-told-2 : tie.Need-enum-told-2
 enum-told-2 c = search needs
 
--- src/lib.rt:224:17
 load-requires : tie.Need-load-requires
 load-requires c κs =
     form-long _ (c .before .before .before .before .before .before .before .pre .0 .form)
 
--- src/lib.rt:226:13
 store-new-requires : tie.Need-store-new-requires
 store-new-requires c κs =
     let b = c .before .before .before .before .before .before .before .before .before .args .store .now in
     let x = statementOf (c .before .before .before .before .before .before .before .before .before .args .x) none in
     (c .before .before .before .before .before .before .before .before .before .pre .0 .form, sendable-certifies (stateOf b .settings) (c .before .before .before .before .before .before .before .before .before .args .x) (c .before .before .before .before .before .before .before .before .before .pre .1), sym (new-room x (stateOf b) (is-new b x (c .before .before .before .before .before .find-statement .result) (c .before .before .before .before .before .find-statement .ensures) (c .before .before .before .enum-told2 .given .1))) ∙ c .before .before .before .before .before .before .before .before .before .pre .2)
 
--- src/lib.rt:227:13
 answer-requires : tie.Need-answer-requires
 answer-requires c κs =
     let b = c .before .before .before .before .before .before .before .before .before .before .before .before .before .before .args .store .now in
@@ -71,11 +54,9 @@ answer-requires c κs =
     let n = is-new b x (c .before .before .before .before .before .before .before .before .before .before .find-statement .result) (c .before .before .before .before .before .before .before .before .before .before .find-statement .ensures) (c .before .before .before .before .before .before .before .before .enum-told2 .given .1) in
     (left-formed (c .before .before .before .before .store-new .ensures) (stored-formed (formed-parts (c .before .before .before .before .before .before .before .before .before .before .before .before .before .before .pre .0) .formed) x (c .before .before .before .before .before .before .before .before .before .before .before .before .before .before .pre .1) (code-unvoted (c .before .before .before .before .before .before .before .before .before .before .before .before .before .before .args .x)) n), stored-stands b (c .before .before .before .before .before .before .before .before .before .before .before .before .before .before .args .x) (c .before .before .before .before .before .before .load .result .statements) (loaded-statements (c .before .before .before .before .before .before .load .result) b (c .before .before .before .before .before .before .load .ensures)) (c .before .before .before .before .store-new .ensures), c .before .before .before .before .before .before .before .before .before .before .before .before .before .before .pre .3)
 
--- src/lib.rt:214:1
 same-length : tie.Need-same-length
 same-length c = search needs
 
--- src/lib.rt:214:1
 returns : tie.Need-returns
 returns c =
     let b = c .before .before .before .before .before .before .before .before .before .before .before .args .store .now in
@@ -83,15 +64,12 @@ returns c =
     works-is (statement-repeat x (stateOf b) (is-repeat b x (c .before .before .before .before .before .before .before .find-statement .result) (c .before .before .before .before .before .before .before .find-statement .ensures) _ (c .before .before .before .before .before .enum-told .given .1)))
     (works-none (c .before .before .before .before .before .before .before .before .before .before .before .args .out .now) (c .before .before .before .before .before .before .before .before .before .before .before .args .at) (repeat-left (c .before .before .before .before .before .before .before .before .before .before .before .pre .0) x (tallyOf (c .before .before .before .certificate .result)) (c .before .before .before .certificate .ensures) (c .before .before .join-certificate .ensures)))
 
--- src/lib.rt:214:1
 same-length-2 : tie.Need-same-length-2
 same-length-2 c = search needs
 
--- src/lib.rt:214:1
 same-length-3 : tie.Need-same-length-3
 same-length-3 c = search needs
 
--- src/lib.rt:214:1
 returns-2 : tie.Need-returns-2
 returns-2 c =
     let b = c .before .before .before .before .before .before .before .before .before .before .before .before .before .before .before .before .before .before .before .args .store .now in

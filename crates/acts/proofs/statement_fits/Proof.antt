@@ -1,3 +1,4 @@
+-- `acts::statement_fits` meets its contract. Assumes nothing.
 use Rattle.acts.proofs.Statements.{is-repeat, is-new, new-fits}
 use Rattle.acts.proofs.Places.{sendable-certifies}
 use Rattle.acts.proofs.Rooms.{repeat-room}
@@ -12,69 +13,49 @@ use native.Mathlib.Omega.{arith}
 use borrow.Author.Needs.{needs}
 use Rattle.acts.proofs.statement_fits.Statement.{statement}
 use Rattle.acts.proofs.statement_fits.Tie as tie
-use Rattle.acts.proofs.statement_fits.Reads as reads
-use Rattle.acts.proofs.statement_fits.Lts as lts
-use Rattle.acts.proofs.certificate_missing.Reads as certificate-missing-reads
-use Rattle.acts.proofs.missing.Reads as missing-reads
-use Rattle.search.proofs.certificate.Reads as certificate-reads
-use Rattle.search.proofs.own_block.Reads as own-block-reads
-use Rattle.store.proofs.Station.load.Reads as load-reads
-use Rattle.store.proofs.find_statement.Reads as find-statement-reads
 
--- src/lib.rt:174:11
 find-statement-requires : tie.Need-find-statement-requires
 find-statement-requires c κs = search needs
 
--- src/lib.rt:175:25
 enum-told : tie.Need-enum-told
 enum-told c = search needs
 
--- src/lib.rt:177:17
 enum-told-2 : tie.Need-enum-told-2
 enum-told-2 c = search needs
 
--- src/lib.rt:177:17
+returns : tie.Need-returns
+returns c =
+    repeat-room (formed-parts (c .before .before .before .before .pre .0)) (statementOf (c .before .before .before .before .args .x) none) (is-repeat (c .before .before .before .before .args .store .now) (statementOf (c .before .before .before .before .args .x) none) (c .before .before .find-statement .result) (c .before .before .find-statement .ensures) _ (c .enum-told2 .given .1))
+
 load-requires : tie.Need-load-requires
 load-requires c κs =
     form-long _ (c .before .before .before .before .pre .0 .form)
 
--- src/lib.rt:178:56
 certificate-requires : tie.Need-certificate-requires
 certificate-requires c κs =
     sendable-certifies (stateOf (c .before .before .before .before .before .args .store .now) .settings) (c .before .before .before .before .before .args .x) (c .before .before .before .before .before .pre .1)
 
--- src/lib.rt:178:17
 certificate-missing-requires : tie.Need-certificate-missing-requires
 certificate-missing-requires c κs = search needs
 
--- src/lib.rt:179:53
 own-block-requires : tie.Need-own-block-requires
 own-block-requires c κs = search needs
 
--- src/lib.rt:179:38
 missing-requires : tie.Need-missing-requires
 missing-requires c κs = search needs
 
--- src/lib.rt:179:26
 add-needed : tie.Need-add-needed
 add-needed c = search needs
 
--- src/lib.rt:181:20
 add-result : tie.Need-add-result
 add-result c =
     omega (arith, loaded-tallies (c .before .before .before .before .before .before .load .result) (c .before .before .before .before .before .before .before .before .before .before .before .args .store .now) (c .before .before .before .before .before .before .load .ensures), form-tallies _ (c .before .before .before .before .before .before .before .before .before .before .before .pre .0 .form), c .before .before .missing .ensures .1, c .before .before .before .before .certificate-missing .ensures .1)
 
--- src/lib.rt:170:1
-returns : tie.Need-returns
-returns c =
-    repeat-room (formed-parts (c .before .before .before .before .pre .0)) (statementOf (c .before .before .before .before .args .x) none) (is-repeat (c .before .before .before .before .args .store .now) (statementOf (c .before .before .before .before .args .x) none) (c .before .before .find-statement .result) (c .before .before .find-statement .ensures) _ (c .enum-told .given .1))
-
--- src/lib.rt:170:1
 returns-2 : tie.Need-returns-2
 returns-2 c =
     let b = c .before .before .before .before .before .before .before .before .before .before .before .args .store .now in
     let x = statementOf (c .before .before .before .before .before .before .before .before .before .before .before .args .x) none in
-    new-fits b x (c .before .before .before .before .before .before .before .before .before .before .before .pre .1) (is-new b x (c .before .before .before .before .before .before .before .before .before .find-statement .result) (c .before .before .before .before .before .before .before .before .before .find-statement .ensures) (c .before .before .before .before .before .before .before .enum-told2 .given .1)) (tallyOf (c .before .before .before .before .before .certificate .result)) (tallyOf (c .before .before .before .own-block .result)) (c .before .before .before .before .before .before .load .result .statements) (c .before .before .before .before .before .before .load .result .tallies) (c .before .before .before .before .certificate-missing .result) (c .before .before .missing .result)
+    new-fits b x (c .before .before .before .before .before .before .before .before .before .before .before .pre .1) (is-new b x (c .before .before .before .before .before .before .before .before .before .find-statement .result) (c .before .before .before .before .before .before .before .before .before .find-statement .ensures) (c .before .before .before .before .before .before .before .enum-told .given .1)) (tallyOf (c .before .before .before .before .before .certificate .result)) (tallyOf (c .before .before .before .own-block .result)) (c .before .before .before .before .before .before .load .result .statements) (c .before .before .before .before .before .before .load .result .tallies) (c .before .before .before .before .certificate-missing .result) (c .before .before .missing .result)
     (c .before .before .before .before .before .certificate .ensures) (c .before .before .before .own-block .ensures) (loaded-statements (c .before .before .before .before .before .before .load .result) b (c .before .before .before .before .before .before .load .ensures)) (loaded-tallies (c .before .before .before .before .before .before .load .result) b (c .before .before .before .before .before .before .load .ensures)) (c .before .before .before .before .certificate-missing .ensures .0) (c .before .before .missing .ensures .0)
 
 pub statement-fits-spec : {M : Type 1} → statement M
@@ -84,6 +65,7 @@ statement-fits-spec =
     find-statement-requires
     enum-told
     enum-told-2
+    returns
     load-requires
     certificate-requires
     certificate-missing-requires
@@ -91,5 +73,4 @@ statement-fits-spec =
     missing-requires
     add-needed
     add-result
-    returns
     returns-2)

@@ -1,3 +1,4 @@
+-- `acts::store_new` meets its contract. Assumes nothing.
 use Rattle.acts.proofs.Statements.{certificate-fits, own-fits, one-more-fits, stored-left}
 use Rattle.rules.specs.Words.{ownBlock}
 use Rattle.store.specs.Meaning.{tallyOf}
@@ -7,42 +8,28 @@ use mathlib.Core.Option.{none}
 use borrow.Author.Needs.{needs}
 use Rattle.acts.proofs.store_new.Statement.{statement}
 use Rattle.acts.proofs.store_new.Tie as tie
-use Rattle.acts.proofs.store_new.Reads as reads
-use Rattle.acts.proofs.store_new.Lts as lts
-use Rattle.search.proofs.certificate.Reads as certificate-reads
-use Rattle.search.proofs.own_block.Reads as own-block-reads
-use Rattle.store.proofs.append_statement.Reads as append-statement-reads
-use Rattle.store.proofs.join_certificate.Reads as join-certificate-reads
-use Rattle.store.proofs.join_tally.Reads as join-tally-reads
 
--- src/lib.rt:191:36
 certificate-requires : tie.Need-certificate-requires
 certificate-requires c κs = search needs
 
--- src/lib.rt:191:5
 join-certificate-requires : tie.Need-join-certificate-requires
 join-certificate-requires c κs =
     (c .before .before .before .pre .0, certificate-fits (c .before .before .before .args .store .now) (statementOf (c .before .before .before .args .x) none) (c .before .before .before .pre .2) (tallyOf (c .certificate .result)) (ownBlock (statementOf (c .before .before .before .args .x) none) 0) (c .certificate .ensures) refl)
 
--- src/lib.rt:192:30
 own-block-requires : tie.Need-own-block-requires
 own-block-requires c κs = search needs
 
--- src/lib.rt:192:5
 join-tally-requires : tie.Need-join-tally-requires
 join-tally-requires c κs =
     (c .before .before .before .before .join-certificate .ensures .form, own-fits (c .before .before .before .before .before .before .before .before .args .store .now) (statementOf (c .before .before .before .before .before .before .before .before .args .x) none) (c .before .before .before .before .before .before .before .before .pre .2) (tallyOf (c .before .before .before .before .before .certificate .result)) (tallyOf (c .own-block .result)) (c .before .before .before .before .before .certificate .ensures) (c .own-block .ensures) (c .before .before .before .before .join-certificate .ensures))
 
--- src/lib.rt:193:5
 append-statement-requires : tie.Need-append-statement-requires
 append-statement-requires c κs =
     (c .before .before .before .join-tally .ensures .form, one-more-fits (c .before .before .before .before .before .before .before .before .before .before .before .before .args .store .now) (statementOf (c .before .before .before .before .before .before .before .before .before .before .before .before .args .x) none) (c .before .before .before .before .before .before .before .before .before .before .before .before .pre .2) (tallyOf (c .before .before .before .before .before .before .before .before .before .certificate .result)) (tallyOf (c .before .before .before .before .own-block .result)) (c .before .before .before .before .before .before .before .before .before .certificate .ensures) (c .before .before .before .before .own-block .ensures) (c .before .before .before .before .before .before .before .before .join-certificate .ensures) (c .before .before .before .join-tally .ensures))
 
--- src/lib.rt:187:1
 same-length : tie.Need-same-length
 same-length c = search needs
 
--- src/lib.rt:187:1
 returns : tie.Need-returns
 returns c =
     stored-left (c .before .before .before .before .before .before .before .before .before .before .before .before .before .before .before .args .store .now) (statementOf (c .before .before .before .before .before .before .before .before .before .before .before .before .before .before .before .args .x) none) (c .before .before .before .before .before .before .before .before .before .before .before .before .before .before .before .pre .2) (tallyOf (c .before .before .before .before .before .before .before .before .before .before .before .before .certificate .result)) (tallyOf (c .before .before .before .before .before .before .before .own-block .result)) (c .before .before .before .before .before .before .before .before .before .before .before .before .certificate .ensures) (c .before .before .before .before .before .before .before .own-block .ensures) (c .before .before .before .before .before .before .before .before .before .before .before .join-certificate .ensures) (c .before .before .before .before .before .before .join-tally .ensures) (c .before .before .append-statement .ensures)

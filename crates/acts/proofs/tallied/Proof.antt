@@ -1,3 +1,4 @@
+-- `acts::tallied` meets its contract. Assumes nothing.
 use Rattle.acts.proofs.Rooms.{room-parts}
 use Rattle.store.specs.Meaning.{tallyOf}
 use Rattle.store.specs.Decode.{stateOf, stateFrom}
@@ -6,21 +7,15 @@ use Rattle.rules.specs.Inputs.{saying, tallied, withTables}
 use borrow.Author.Needs.{needs}
 use Rattle.acts.proofs.tallied.Statement.{statement}
 use Rattle.acts.proofs.tallied.Tie as tie
-use Rattle.acts.proofs.tallied.Reads as reads
-use Rattle.acts.proofs.tallied.Lts as lts
-use Rattle.store.proofs.join_certificate.Reads as join-certificate-reads
 
--- src/lib.rt:133:5
 join-certificate-requires : tie.Need-join-certificate-requires
 unfolding tallied saying withTables stateOf stateFrom
 join-certificate-requires c κs =
     (c .before .before .pre .0, room-parts (tallied (tallyOf (c .before .before .args .tally)) (stateOf (c .before .before .args .store .now)) .now) (c .before .before .pre .1) .1)
 
--- src/lib.rt:129:1
 same-length : tie.Need-same-length
 same-length c = search needs
 
--- src/lib.rt:129:1
 returns : tie.Need-returns
 unfolding tallied saying certifying
 returns c =

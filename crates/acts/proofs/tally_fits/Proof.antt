@@ -1,3 +1,4 @@
+-- `acts::tally_fits` meets its contract. Assumes nothing.
 use Rattle.acts.proofs.Rooms.{tallied-room}
 use Rattle.acts.proofs.Works.{count-statements}
 use Rattle.store.proofs.Loaded.{loaded-tallies}
@@ -10,26 +11,18 @@ use mathlib.Core.Path.{ap, _∙_}
 use borrow.Author.Needs.{needs}
 use Rattle.acts.proofs.tally_fits.Statement.{statement}
 use Rattle.acts.proofs.tally_fits.Tie as tie
-use Rattle.acts.proofs.tally_fits.Reads as reads
-use Rattle.acts.proofs.tally_fits.Lts as lts
-use Rattle.acts.proofs.certificate_missing.Reads as certificate-missing-reads
-use Rattle.store.proofs.Station.load.Reads as load-reads
 
--- src/lib.rt:124:9
 load-requires : tie.Need-load-requires
 load-requires c κs =
     form-long _ (c .before .pre)
 
--- src/lib.rt:125:23
 certificate-missing-requires : tie.Need-certificate-missing-requires
 certificate-missing-requires c κs = search needs
 
--- src/lib.rt:125:5
 add-result : tie.Need-add-result
 add-result c =
     omega (arith, loaded-tallies (c .before .before .load .result) (c .before .before .before .before .args .store .now) (c .before .before .load .ensures), form-tallies _ (c .before .before .before .before .pre), c .before .certificate-missing .ensures .1)
 
--- src/lib.rt:120:1
 returns : tie.Need-returns
 unfolding stateOf stateFrom
 returns c =

@@ -1,3 +1,4 @@
+-- `acts::voting` meets its contract. Assumes nothing.
 use Rattle.fields.specs.Names.{nameOf}
 use Rattle.acts.proofs.Votes.{voting-below, voting-cast, ballot-is, loaded-own, own-small, only-small, loaded-below}
 use Rattle.acts.proofs.Places.{sendable-certifies, sendable-linked, place-sendable, place-voted, place-room}
@@ -7,96 +8,69 @@ use Rattle.store.proofs.Loaded.{loaded-clock}
 use Rattle.store.proofs.Forms.{form-long}
 use Rattle.store.specs.Meaning.{tallyOf}
 use Rattle.store.specs.Decode.{stateOf}
-use Rattle.wire.specs.Wrote.{Says}
 use Rattle.wire.specs.Meaning.{statementOf, messageOf}
 use Rattle.rules.specs.Inputs.{ballot}
 use Rattle.rules.specs.Words.{ownBlock}
 use Rattle.rules.specs.Sizes.{only}
-use Rattle.rules.specs.Messages.{Effect, outgoing}
-use Prim.Native.Nat.{ℕ}
 use mathlib.Core.Option.{none}
-use mathlib.Core.List.{List, [], _∷_}
 use native.Mathlib.Omega.{arith}
 use mathlib.Core.Path.{refl, sym, ap, _∙_}
 use borrow.Author.Needs.{needs}
 use Rattle.acts.proofs.voting.Statement.{statement}
 use Rattle.acts.proofs.voting.Tie as tie
-use Rattle.acts.proofs.voting.Reads as reads
-use Rattle.acts.proofs.voting.Lts as lts
-use Rattle.acts.proofs.send_both.Reads as send-both-reads
-use Rattle.search.proofs.below_lock.Reads as below-lock-reads
-use Rattle.search.proofs.own_block.Reads as own-block-reads
-use Rattle.settings.proofs.only.Reads as only-reads
-use Rattle.store.proofs.Station.load.Reads as load-reads
-use Rattle.store.proofs.join_tally.Reads as join-tally-reads
-use Rattle.store.proofs.note_vote.Reads as note-vote-reads
 
--- src/lib.rt:150:9
 load-requires : tie.Need-load-requires
 load-requires c κs =
     form-long _ (c .before .before .before .pre .0 .form)
 
--- src/lib.rt:152:8
 below-lock-requires : tie.Need-below-lock-requires
 below-lock-requires c κs =
     sendable-certifies (stateOf (c .before .before .before .before .before .args .store .now) .settings) (c .before .before .before .before .before .args .x) (place-sendable (c .before .before .before .before .before .pre .0) (c .before .before .before .before .before .pre .1))
 
--- src/lib.rt:153:9
 same-length : tie.Need-same-length
 same-length c = search needs
 
--- src/lib.rt:153:9
 returns : tie.Need-returns
 returns c =
     let b = c .before .before .before .before .before .before .before .args .store .now in
     works-is (voting-below (statementOf (c .before .before .before .before .before .before .before .args .x) none) (stateOf b) (sym (loaded-below (c .before .before .before .before .before .before .before .pre .0) (c .before .before .before .load .result) (c .before .before .before .load .ensures) (statementOf (c .before .before .before .before .before .before .before .args .x) none)) ∙ sym (c .before .below-lock .ensures) ∙ c .if1 .taken))
     (works-none (c .before .before .before .before .before .before .before .args .out .now) (c .before .before .before .before .before .before .before .args .at) (record { form = c .before .before .before .before .before .before .before .pre .0 .form; is = refl }))
 
--- src/lib.rt:157:5
 note-vote-requires : tie.Need-note-vote-requires
 note-vote-requires c κs =
     (c .before .before .before .before .before .before .before .before .before .pre .0 .form, c .before .before .before .before .before .before .before .before .before .pre .1 .within, omega (arith, loaded-clock (c .before .before .before .before .before .load .result) (c .before .before .before .before .before .before .before .before .before .args .store .now) (c .before .before .before .before .before .load .ensures), clocks-of (formed-parts (c .before .before .before .before .before .before .before .before .before .pre .0) .formed) .last))
 
--- src/lib.rt:158:51
 only-requires : tie.Need-only-requires
 only-requires c κs =
     own-small (c .before .before .before .before .before .before .before .before .before .before .before .before .before .pre .0) (c .before .before .before .before .before .before .before .before .before .load .result) (c .before .before .before .before .before .before .before .before .before .load .ensures)
 
--- src/lib.rt:158:51
 cast-own-block : tie.Need-cast-own-block
 cast-own-block c =
     record { fits = omega (arith, c .only .ensures, only-small (c .before .before .before .before .before .before .before .before .before .before .before .before .before .before .pre .0) (c .before .before .before .before .before .before .before .before .before .before .load .result) (c .before .before .before .before .before .before .before .before .before .before .load .ensures)) }
 
--- src/lib.rt:158:30
 own-block-requires : tie.Need-own-block-requires
 own-block-requires c κs = search needs
 
--- src/lib.rt:158:5
 join-tally-requires : tie.Need-join-tally-requires
 join-tally-requires c κs =
     (c .before .before .before .before .before .note-vote .ensures .form, place-room (c .before .before .before .before .before .before .before .before .before .before .before .before .before .before .before .pre .0) (c .before .before .before .before .before .before .before .before .before .before .before .before .before .before .before .pre .1) _ _ (tallyOf (c .own-block .result)) (c .own-block .ensures) (c .before .before .before .before .before .note-vote .ensures))
 
--- src/lib.rt:164:17
 cast-t23 : tie.Need-cast-t23
 cast-t23 c =
     record { fits = omega (arith, own-small (c .before .before .before .before .before .before .before .before .before .before .before .before .before .before .before .before .before .before .before .pre .0) (c .before .before .before .before .before .before .before .before .before .before .before .before .before .before .before .load .result) (c .before .before .before .before .before .before .before .before .before .before .before .before .before .before .before .load .ensures)) }
 
--- src/lib.rt:166:5
 send-both-requires : tie.Need-send-both-requires
 unfolding messageOf
 send-both-requires c κs =
     let a = c .before .before .before .before .before .before .before .before .before .before .before .before .before .before .before .before .before .before .before .before .args in
     (sendable-linked (stateOf (a .store .now) .settings) (a .x) (place-sendable (c .before .before .before .before .before .before .before .before .before .before .before .before .before .before .before .before .before .before .before .before .pre .0) (c .before .before .before .before .before .before .before .before .before .before .before .before .before .before .before .before .before .before .before .before .pre .1)), tt, omega (arith, ballot-bytes (statementOf (a .x) none) (a .x .view) (a .x .height) (nameOf (a .x .name)) (c .before .before .before .before .before .before .before .before .before .before .before .before .before .before .before .before .load .result .settings .own), c .before .before .before .before .before .before .before .before .before .before .before .before .before .before .before .before .before .before .before .before .pre .2))
 
--- src/lib.rt:146:1
 same-length-2 : tie.Need-same-length-2
 same-length-2 c = search needs
 
--- src/lib.rt:146:1
 same-length-3 : tie.Need-same-length-3
 same-length-3 c = search needs
 
--- src/lib.rt:146:1
 returns-2 : tie.Need-returns-2
 returns-2 c =
     let a = c .before .before .before .before .before .before .before .before .before .before .before .before .before .before .before .before .before .before .before .before .before .before .before .args in

@@ -1,4 +1,4 @@
--- `store::append_name` meets its contract. Assumes nothing.
+-- `append_name` meets its contract: a name is put behind the last, and counted. Assumes nothing.
 use Rattle.fields.proofs.Names.{name-lt}
 use Rattle.fields.specs.Names.{nameOf}
 use Rattle.store.proofs.Changes.{add-name}
@@ -20,24 +20,30 @@ add-put-name c = search needs
 
 put-name-requires : tie.Need-put-name-requires
 put-name-requires c κs =
-    omega (arith, form-long _ (c .before .before .before .before .pre .0), c .before .before .before .before .pre .1)
+    let start = c .before .before .before .before in
+    omega (arith, form-long _ (start .pre .0), start .pre .1)
 
 add-put : tie.Need-add-put
 add-put c = search needs
 
 put-requires : tie.Need-put-requires
 put-requires c κs =
-    omega (arith, form-long _ (c .before .before .before .before .before .before .before .before .pre .0))
+    let start = c .before .before .before .before .before .before .before .before in
+    omega (arith, form-long _ (start .pre .0))
 
 same-length : tie.Need-same-length
 same-length c = search needs
 
 returns : tie.Need-returns
 returns c =
-    let a = c .before .before .before .before .before .before .before .before .before .before .before .args in
-    let n = c .before .before .before .before .before .before .before .before .before .before .before .good .1 .0 .1 .1 in
-    rw (c .before .before .put .ensures, c .before .before .before .before .before .before .put-name .ensures, c .before .before .before .before .before .before .before .before .get-count .ensures .0)
-    (add-name (a .store .now) (c .before .before .before .before .before .before .before .before .before .before .before .pre .0) (nameOf (a .name)) (c .before .before .before .before .before .before .before .before .before .before .before .pre .1) (name-lt (a .name) (n .0 .1) (n .1 .0 .1) (n .1 .1 .0 .1) (n .1 .1 .1 .0 .1)))
+    let after-put = c .before .before in
+    let after-put-name = after-put .before .before .before .before in
+    let after-get-count = after-put-name .before .before in
+    let start = after-get-count .before .before .before in
+    let a = start .args in
+    let n = start .good .1 .0 .1 .1 in
+    rw (after-put .put .ensures, after-put-name .put-name .ensures, after-get-count .get-count .ensures .0)
+    (add-name (a .store .now) (start .pre .0) (nameOf (a .name)) (start .pre .1) (name-lt (a .name) (n .0 .1) (n .1 .0 .1) (n .1 .1 .0 .1) (n .1 .1 .1 .0 .1)))
 
 pub append-name-spec : {M : Type 1} → statement M
 append-name-spec =

@@ -1,4 +1,4 @@
--- `store::append_statement` meets its contract. Assumes nothing.
+-- `append_statement` meets its contract: a record is put behind the last, and counted. Assumes nothing.
 use Rattle.store.proofs.Changes.{add-statement}
 use Rattle.store.proofs.Sized.{statement-fits}
 use Rattle.wire.specs.Meaning.{statementOf}
@@ -22,28 +22,34 @@ add-put-statement c = search needs
 
 put-statement-requires : tie.Need-put-statement-requires
 put-statement-requires c κs =
-    omega (arith, form-long _ (c .before .before .before .before .pre .0), c .before .before .before .before .pre .1)
+    let start = c .before .before .before .before in
+    omega (arith, form-long _ (start .pre .0), start .pre .1)
 
 add-put : tie.Need-add-put
 add-put c = search needs
 
 put-requires : tie.Need-put-requires
 put-requires c κs =
-    omega (arith, form-long _ (c .before .before .before .before .before .before .before .before .pre .0))
+    let start = c .before .before .before .before .before .before .before .before in
+    omega (arith, form-long _ (start .pre .0))
 
 same-length : tie.Need-same-length
 same-length c = search needs
 
 returns : tie.Need-returns
 returns c =
-    let a = c .before .before .before .before .before .before .before .before .before .before .before .args in
-    let g = c .before .before .before .before .before .before .before .before .before .before .before .good .1 .0 .1 .1 in
+    let after-put = c .before .before in
+    let after-put-statement = after-put .before .before .before .before in
+    let after-get-count = after-put-statement .before .before in
+    let start = after-get-count .before .before .before in
+    let a = start .args in
+    let g = start .good .1 .0 .1 .1 in
     let n = g .1 .1 .1 .0 .1 .1 in
     let l = g .1 .1 .1 .1 .0 .1 .1 in
     let name = name-lt (a .statement .name) (n .0 .1) (n .1 .0 .1) (n .1 .1 .0 .1) (n .1 .1 .1 .0 .1) in
     let link = name-lt (a .statement .link) (l .0 .1) (l .1 .0 .1) (l .1 .1 .0 .1) (l .1 .1 .1 .0 .1) in
-    rw (c .before .before .put .ensures, c .before .before .before .before .before .before .put-statement .ensures, c .before .before .before .before .before .before .before .before .get-count .ensures .0)
-    (add-statement (a .store .now) (c .before .before .before .before .before .before .before .before .before .before .before .pre .0) (statementOf (a .statement) none) (c .before .before .before .before .before .before .before .before .before .before .before .pre .1)
+    rw (after-put .put .ensures, after-put-statement .put-statement .ensures, after-get-count .get-count .ensures .0)
+    (add-statement (a .store .now) (start .pre .0) (statementOf (a .statement) none) (start .pre .1)
     (statement-fits (a .statement) (g .1 .0 .1) (g .1 .1 .0 .1) name link (g .1 .1 .1 .1 .1 .0 .1) (g .1 .1 .1 .1 .1 .1 .0 .1)))
 
 pub append-statement-spec : {M : Type 1} → statement M

@@ -1,4 +1,4 @@
--- `store::blame_at` meets its contract. Assumes nothing.
+-- `blame_at` meets its contract: two bytes at place i. Assumes nothing.
 use Rattle.store.specs.Decode.{blameAt}
 use borrow.Author.Needs.{needs}
 use Rattle.store.proofs.blame_at.Statement.{statement}

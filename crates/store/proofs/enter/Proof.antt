@@ -1,4 +1,4 @@
--- `store::enter` meets its contract. Assumes nothing.
+-- `enter` meets its contract: the header is written anew, with its counts as they were. Assumes nothing.
 use Rattle.store.proofs.Starts.{entered}
 use Rattle.store.proofs.Sized.{tally-fits}
 use Rattle.store.proofs.Forms.{form-long}
@@ -20,11 +20,14 @@ same-length c = search needs
 
 returns : tie.Need-returns
 returns c =
-    let a = c .before .before .before .before .before .before .before .before .args in
-    let g = c .before .before .before .before .before .before .before .before .good .1 .1 .0 .1 .1 in
+    let after-save = c .before .before in
+    let after-load = after-save .before .before .before in
+    let start = after-load .before .before .before in
+    let a = start .args in
+    let g = start .good .1 .1 .0 .1 .1 in
     let n = g .1 .1 .0 .1 .1 in
     let name = name-lt (a .lock .name) (n .0 .1) (n .1 .0 .1) (n .1 .1 .0 .1) (n .1 .1 .1 .0 .1) in
-    rw (c .before .before .save .ensures) (entered (a .store .now) (c .before .before .before .before .before .before .before .before .pre) (c .before .before .before .before .before .load .result) (c .before .before .before .before .before .load .ensures) (a .view) (a .lock) (c .before .before .before .before .before .before .before .before .fits .view .fits) (tally-fits (a .lock) (g .0 .1) (g .1 .0 .1) name (g .1 .1 .1 .0 .1)))
+    rw (after-save .save .ensures) (entered (a .store .now) (start .pre) (after-load .load .result) (after-load .load .ensures) (a .view) (a .lock) (start .fits .view .fits) (tally-fits (a .lock) (g .0 .1) (g .1 .0 .1) name (g .1 .1 .1 .0 .1)))
 
 pub enter-spec : {M : Type 1} → statement M
 enter-spec = tie.close (tie.spec load-requires save-requires same-length returns)

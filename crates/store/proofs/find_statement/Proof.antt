@@ -1,4 +1,4 @@
--- `store::find_statement` meets its contract. Assumes nothing.
+-- `find_statement` meets its contract: what is left to search answers as the whole does. Assumes nothing.
 use Rattle.store.proofs.Searches.{find-none, find-here, find-next}
 use Rattle.store.proofs.Forms.{form-long, form-statements}
 use Rattle.store.specs.Changes.{firstFrom}
@@ -34,7 +34,8 @@ loop-holds c =
 
 is-statement-requires : tie.Need-is-statement-requires Inv-loop μ-loop
 is-statement-requires c κs =
-    (form-long _ (c .before .before .before .before .pre), omega (arith, form-statements _ (c .before .before .before .before .pre), c .before .loop .inv .1))
+    let start = c .before .before .before .before in
+    (form-long _ (start .pre), omega (arith, form-statements _ (start .pre), c .before .loop .inv .1))
 
 add-i : tie.Need-add-i Inv-loop μ-loop
 add-i c =
@@ -46,8 +47,10 @@ loop-less c =
 
 loop-again : tie.Need-loop-again Inv-loop μ-loop
 loop-again c =
-    let a = c .before .before .before .before .before .before .args in
-    let l = c .before .before .before .loop in
+    let at-loop = c .before .before .before in
+    let start = at-loop .before .before .before in
+    let a = start .args in
+    let l = at-loop .loop in
     (omega arith, l .inv .1, l .inv .2 ∙ find-next (statementAt (a .store .now)) (sameStatement (statementOf (a .statement) none)) _ (l .i) (omega arith) (sym (c .before .is-statement .ensures) ∙ c .if2 .left))
 
 returns : tie.Need-returns Inv-loop μ-loop
@@ -58,8 +61,10 @@ returns c =
 
 returns-2 : tie.Need-returns-2 Inv-loop μ-loop
 returns-2 c =
-    let a = c .before .before .before .before .before .before .args in
-    let l = c .before .before .before .loop in
+    let at-loop = c .before .before .before in
+    let start = at-loop .before .before .before in
+    let a = start .args in
+    let l = at-loop .loop in
     sym (l .inv .2 ∙ find-here (statementAt (a .store .now)) (sameStatement (statementOf (a .statement) none)) _ (l .i) (omega arith) (sym (c .before .is-statement .ensures) ∙ c .if2 .taken))
 
 pub find-statement-spec : {M : Type 1} → statement M

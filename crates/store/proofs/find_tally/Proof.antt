@@ -1,4 +1,4 @@
--- `store::find_tally` meets its contract. Assumes nothing.
+-- `find_tally` meets its contract: what is left to search answers as the whole does. Assumes nothing.
 use Rattle.store.proofs.Searches.{find-none, find-here, find-next}
 use Rattle.store.proofs.Forms.{form-long, form-tallies}
 use Rattle.store.specs.Changes.{firstFrom}
@@ -33,7 +33,8 @@ loop-holds c =
 
 is-tally-requires : tie.Need-is-tally-requires Inv-loop μ-loop
 is-tally-requires c κs =
-    (form-long _ (c .before .before .before .before .pre), omega (arith, form-tallies _ (c .before .before .before .before .pre), c .before .loop .inv .1))
+    let start = c .before .before .before .before in
+    (form-long _ (start .pre), omega (arith, form-tallies _ (start .pre), c .before .loop .inv .1))
 
 add-i : tie.Need-add-i Inv-loop μ-loop
 add-i c =
@@ -45,8 +46,10 @@ loop-less c =
 
 loop-again : tie.Need-loop-again Inv-loop μ-loop
 loop-again c =
-    let a = c .before .before .before .before .before .before .args in
-    let l = c .before .before .before .loop in
+    let at-loop = c .before .before .before in
+    let start = at-loop .before .before .before in
+    let a = start .args in
+    let l = at-loop .loop in
     (omega arith, l .inv .1, l .inv .2 ∙ find-next (tallyAt (a .store .now)) (sameBlock (tallyOf (a .tally))) _ (l .i) (omega arith) (sym (c .before .is-tally .ensures) ∙ c .if2 .left))
 
 returns : tie.Need-returns Inv-loop μ-loop
@@ -57,8 +60,10 @@ returns c =
 
 returns-2 : tie.Need-returns-2 Inv-loop μ-loop
 returns-2 c =
-    let a = c .before .before .before .before .before .before .args in
-    let l = c .before .before .before .loop in
+    let at-loop = c .before .before .before in
+    let start = at-loop .before .before .before in
+    let a = start .args in
+    let l = at-loop .loop in
     sym (l .inv .2 ∙ find-here (tallyAt (a .store .now)) (sameBlock (tallyOf (a .tally))) _ (l .i) (omega arith) (sym (c .before .is-tally .ensures) ∙ c .if2 .taken))
 
 pub find-tally-spec : {M : Type 1} → statement M

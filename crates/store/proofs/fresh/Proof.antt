@@ -1,18 +1,14 @@
--- `store::fresh` meets its contract. Assumes nothing.
-use Rattle.store.specs.Decode.{Left, headerValues}
-use Rattle.rules.specs.Words.{fresh}
-use Rattle.settings.specs.Made.{settingsOf}
-use mathlib.Core.Bool.{true}
-use mathlib.Core.Path.{_≡_, sym, ap, _∙_}
+-- `fresh` meets its contract: the length decides, then the settings; a cleared store with the fresh header is the bytes of the fresh state. Assumes nothing.
+use mathlib.Core.Path.{sym, _∙_}
 use Rattle.store.proofs.Starts.{length-refused, settings-refused, made-good, made-bad, made-fresh, fresh-left}
-use Rattle.store.specs.Layout.{storeLength}
 use borrow.Author.Needs.{needs}
 use Rattle.store.proofs.fresh.Statement.{statement}
 use Rattle.store.proofs.fresh.Tie as tie
 
 returns : tie.Need-returns
 returns c =
-    length-refused (c .before .before .args .store .now) (c .before .before .args .n) (c .before .before .args .d) (c .before .before .args .own) (c .if1 .taken)
+    let start = c .before .before in
+    length-refused (start .args .store .now) (start .args .n) (start .args .d) (start .args .own) (c .if1 .taken)
 
 new-requires : tie.Need-new-requires
 new-requires c κs = search needs
@@ -25,9 +21,12 @@ enum-told c = search needs
 
 returns-2 : tie.Need-returns-2
 returns-2 c =
-    let a = c .before .before .before .before .before .args in
-    settings-refused (a .store .now) (a .n) (a .d) (a .own) (c .before .before .before .if1 .left)
-    (made-bad (a .store .now) (a .n) (a .d) (a .own) (sym (c .before .before .new .ensures) ∙ c .enum-told .given .1))
+    let after-new = c .before .before in
+    let at-if1 = after-new .before in
+    let start = at-if1 .before .before in
+    let a = start .args in
+    settings-refused (a .store .now) (a .n) (a .d) (a .own) (at-if1 .if1 .left)
+    (made-bad (a .store .now) (a .n) (a .d) (a .own) (sym (after-new .new .ensures) ∙ c .enum-told .given .1))
 
 clear-requires : tie.Need-clear-requires
 clear-requires c κs = search needs
@@ -43,11 +42,19 @@ same-length c = search needs
 
 returns-3 : tie.Need-returns-3
 returns-3 c =
-    let a = c .before .before .before .before .before .before .before .before .before .before .before .before .before .before .before .args in
-    let m = made-good (a .store .now) (a .n) (a .d) (a .own) _ (sym (c .before .before .before .before .before .before .before .before .before .before .before .before .new .ensures) ∙ c .before .before .before .before .before .before .before .before .before .before .settings .given .1) in
-    let l = c .before .before .before .before .before .before .before .before .before .before .before .before .before .if1 .left in
+    let after-save = c .before .before in
+    let after-starting = after-save .before .before in
+    let after-clear = after-starting .before .before .before in
+    let after-settings = after-clear .before .before .before in
+    let after-new = after-settings .before .before in
+    let at-if1 = after-new .before in
+    let after-slice-known = at-if1 .before in
+    let start = after-slice-known .before in
+    let a = start .args in
+    let m = made-good (a .store .now) (a .n) (a .d) (a .own) _ (sym (after-new .new .ensures) ∙ after-settings .settings .given .1) in
+    let l = at-if1 .if1 .left in
     made-fresh (a .store .now) (a .n) (a .d) (a .own) l (m .0)
-    (rw (c .before .before .save .ensures, c .before .before .before .before .starting .ensures, c .before .before .before .before .before .before .before .clear .ensures, m .1) (fresh-left (a .store .now) (c .before .before .before .before .before .before .before .before .before .before .before .before .before .before .slice-known .given) l _ (m .0)))
+    (rw (after-save .save .ensures, after-starting .starting .ensures, after-clear .clear .ensures, m .1) (fresh-left (a .store .now) (after-slice-known .slice-known .given) l _ (m .0)))
 
 pub fresh-spec : {M : Type 1} → statement M
 fresh-spec =

@@ -1,4 +1,4 @@
--- `store::get_tally` meets its contract. Assumes nothing.
+-- `get_tally` meets its contract: each field is the number at its place of the record. Assumes nothing.
 use Rattle.store.specs.Meaning.{tallyOf}
 use borrow.Author.Needs.{needs}
 use Rattle.store.proofs.get_tally.Statement.{statement}
@@ -31,7 +31,9 @@ get-two-requires c κs = search needs
 returns : tie.Need-returns
 unfolding tallyOf
 returns c =
-    rw (c .before .before .before .get-four .ensures, c .before .before .get-four2 .ensures, c .before .get-name .ensures .0, c .get-two .ensures)
+    let after-get-four2 = c .before .before in
+    let after-get-four = after-get-four2 .before in
+    rw (after-get-four .get-four .ensures, after-get-four2 .get-four2 .ensures, c .before .get-name .ensures .0, c .get-two .ensures)
 
 pub get-tally-spec : {M : Type 1} → statement M
 get-tally-spec =

@@ -1,4 +1,4 @@
--- `store::is_block` meets its contract. Assumes nothing.
+-- `is_block` meets its contract: view and height as one number decide, and then the name. Assumes nothing.
 use Rattle.fields.specs.Names.{nameOf}
 use lib.Dec.{eqb}
 use borrow.Author.Tests.{eq-eqb, ne-eqb}
@@ -25,7 +25,10 @@ same-requires c κs = search needs
 
 returns-2 : tie.Need-returns-2
 returns-2 c =
-    rw (eq-eqb _ _ (c .before .before .if1 .left ∙ c .before .before .before .get .ensures .0)) (c .same .ensures ∙ ap (eqb (nameOf (c .before .before .before .before .before .args .name))) (c .before .get-name .ensures .0))
+    let at-if1 = c .before .before in
+    let after-get = at-if1 .before in
+    let start = after-get .before .before in
+    rw (eq-eqb _ _ (at-if1 .if1 .left ∙ after-get .get .ensures .0)) (c .same .ensures ∙ ap (eqb (nameOf (start .args .name))) (c .before .get-name .ensures .0))
 
 pub is-block-spec : {M : Type 1} → statement M
 is-block-spec =

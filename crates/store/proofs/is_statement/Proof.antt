@@ -1,14 +1,10 @@
--- `store::is_statement` meets its contract. Assumes nothing.
-use Rattle.wire.specs.declared.Statement.{Statement}
-use lib.Dec.{eqb}
-use mathlib.Core.Bool.{_&&_}
+-- `is_statement` meets its contract: the block decides, then the kind, the author and the link. Assumes nothing.
 use Rattle.store.proofs.Searches.{other-block, same-block, beq-iff}
-use Rattle.store.specs.Decode.{statementAt}
 use Rattle.wire.specs.Meaning.{statementOf}
 use Rattle.rules.specs.Lists.{iff}
 use borrow.Author.Tests.{eq-eqb, ne-eqb, not-true, not-false}
 use mathlib.Core.Option.{none}
-use mathlib.Core.Path.{_≡_, sym, ap, _∙_}
+use mathlib.Core.Path.{_≡_, sym, _∙_}
 use mathlib.Core.Bool.{true, false}
 use mathlib.Core.Path.{_≡_}
 use borrow.Author.Needs.{needs}
@@ -30,8 +26,11 @@ is-block-requires c κs = search needs
 returns : tie.Need-returns
 unfolding statementOf
 returns c =
-    let a = c .before .before .before .before .args in
-    other-block (a .store .now) (c .before .before .before .shared-slice-known .given) (statementOf (a .statement) none) (a .i) _ (c .before .before .before .before .good .1 .1 .0 .1 .1 .1 .1 .0 .1) (c .before .before .key-of .ensures) _ (c .before .is-block .ensures) (c .if1 .taken)
+    let after-key-of = c .before .before in
+    let after-shared-slice-known = after-key-of .before in
+    let start = after-shared-slice-known .before in
+    let a = start .args in
+    other-block (a .store .now) (after-shared-slice-known .shared-slice-known .given) (statementOf (a .statement) none) (a .i) _ (start .good .1 .1 .0 .1 .1 .1 .1 .0 .1) (after-key-of .key-of .ensures) _ (c .before .is-block .ensures) (c .if1 .taken)
 
 statement-at-requires : tie.Need-statement-at-requires
 statement-at-requires c κs = search needs
@@ -39,20 +38,33 @@ statement-at-requires c κs = search needs
 returns-2 : tie.Need-returns-2
 unfolding statementOf
 returns-2 c =
-    let a = c .before .before .before .before .before .before .before .before .args in
+    let after-statement-at = c .before .before .before in
+    let at-if1 = after-statement-at .before in
+    let after-is-block = at-if1 .before in
+    let after-key-of = after-is-block .before in
+    let after-shared-slice-known = after-key-of .before in
+    let start = after-shared-slice-known .before in
+    let a = start .args in
     let x = statementOf (a .statement) none in
-    let y = c .before .before .before .statement-at .result in
+    let y = after-statement-at .statement-at .result in
     let d : iff (a .statement .«is_new_view») (y .«is_new_view») ≡ false = sym (beq-iff _ _) ∙ not-true _ (c .if2 .taken) in
-    rw d at (same-block (a .store .now) (c .before .before .before .before .before .before .before .shared-slice-known .given) x (a .i) _ (c .before .before .before .before .before .before .before .before .good .1 .1 .0 .1 .1 .1 .1 .0 .1) (c .before .before .before .before .before .before .key-of .ensures) _ (c .before .before .before .before .before .is-block .ensures) (c .before .before .before .before .if1 .left) _ (c .before .before .before .statement-at .ensures))
+    rw d at (same-block (a .store .now) (after-shared-slice-known .shared-slice-known .given) x (a .i) _ (start .good .1 .1 .0 .1 .1 .1 .1 .0 .1) (after-key-of .key-of .ensures) _ (after-is-block .is-block .ensures) (at-if1 .if1 .left) _ (after-statement-at .statement-at .ensures))
 
 returns-3 : tie.Need-returns-3
 unfolding statementOf
 returns-3 c =
-    let a = c .before .before .before .before .before .before .before .before .before .before .before .args in
+    let at-if2 = c .before .before .before in
+    let after-statement-at = at-if2 .before .before .before in
+    let at-if1 = after-statement-at .before in
+    let after-is-block = at-if1 .before in
+    let after-key-of = after-is-block .before in
+    let after-shared-slice-known = after-key-of .before in
+    let start = after-shared-slice-known .before in
+    let a = start .args in
     let x = statementOf (a .statement) none in
-    let y = c .before .before .before .before .before .before .statement-at .result in
-    let d : iff (a .statement .«is_new_view») (y .«is_new_view») ≡ true = sym (beq-iff _ _) ∙ not-false _ (c .before .before .before .if2 .left) in
-    rw (d, ne-eqb (a .statement .author) (y .author) (c .if3 .taken)) at (same-block (a .store .now) (c .before .before .before .before .before .before .before .before .before .before .shared-slice-known .given) x (a .i) _ (c .before .before .before .before .before .before .before .before .before .before .before .good .1 .1 .0 .1 .1 .1 .1 .0 .1) (c .before .before .before .before .before .before .before .before .before .key-of .ensures) _ (c .before .before .before .before .before .before .before .before .is-block .ensures) (c .before .before .before .before .before .before .before .if1 .left) _ (c .before .before .before .before .before .before .statement-at .ensures))
+    let y = after-statement-at .statement-at .result in
+    let d : iff (a .statement .«is_new_view») (y .«is_new_view») ≡ true = sym (beq-iff _ _) ∙ not-false _ (at-if2 .if2 .left) in
+    rw (d, ne-eqb (a .statement .author) (y .author) (c .if3 .taken)) at (same-block (a .store .now) (after-shared-slice-known .shared-slice-known .given) x (a .i) _ (start .good .1 .1 .0 .1 .1 .1 .1 .0 .1) (after-key-of .key-of .ensures) _ (after-is-block .is-block .ensures) (at-if1 .if1 .left) _ (after-statement-at .statement-at .ensures))
 
 same-requires : tie.Need-same-requires
 same-requires c κs = search needs
@@ -60,11 +72,18 @@ same-requires c κs = search needs
 returns-4 : tie.Need-returns-4
 unfolding statementOf
 returns-4 c =
-    let a = c .before .before .before .before .before .before .before .before .before .before .before .before .args in
+    let at-if2 = c .before .before .before .before in
+    let after-statement-at = at-if2 .before .before .before in
+    let at-if1 = after-statement-at .before in
+    let after-is-block = at-if1 .before in
+    let after-key-of = after-is-block .before in
+    let after-shared-slice-known = after-key-of .before in
+    let start = after-shared-slice-known .before in
+    let a = start .args in
     let x = statementOf (a .statement) none in
-    let y = c .before .before .before .before .before .before .before .statement-at .result in
-    let d : iff (a .statement .«is_new_view») (y .«is_new_view») ≡ true = sym (beq-iff _ _) ∙ not-false _ (c .before .before .before .before .if2 .left) in
-    rw (d, eq-eqb (a .statement .author) (y .author) (c .before .if3 .left), ← c .same .ensures) at (same-block (a .store .now) (c .before .before .before .before .before .before .before .before .before .before .before .shared-slice-known .given) x (a .i) _ (c .before .before .before .before .before .before .before .before .before .before .before .before .good .1 .1 .0 .1 .1 .1 .1 .0 .1) (c .before .before .before .before .before .before .before .before .before .before .key-of .ensures) _ (c .before .before .before .before .before .before .before .before .before .is-block .ensures) (c .before .before .before .before .before .before .before .before .if1 .left) _ (c .before .before .before .before .before .before .before .statement-at .ensures))
+    let y = after-statement-at .statement-at .result in
+    let d : iff (a .statement .«is_new_view») (y .«is_new_view») ≡ true = sym (beq-iff _ _) ∙ not-false _ (at-if2 .if2 .left) in
+    rw (d, eq-eqb (a .statement .author) (y .author) (c .before .if3 .left), ← c .same .ensures) at (same-block (a .store .now) (after-shared-slice-known .shared-slice-known .given) x (a .i) _ (start .good .1 .1 .0 .1 .1 .1 .1 .0 .1) (after-key-of .key-of .ensures) _ (after-is-block .is-block .ensures) (at-if1 .if1 .left) _ (after-statement-at .statement-at .ensures))
 
 pub is-statement-spec : {M : Type 1} → statement M
 is-statement-spec =

@@ -1,13 +1,7 @@
--- `store::is_tally` meets its contract. Assumes nothing.
+-- `is_tally` meets its contract: the key and the name are those of the tally's block. Assumes nothing.
 use Rattle.store.proofs.Searches.{block-tally}
 use Rattle.store.specs.Meaning.{tallyOf}
-use Rattle.fields.specs.Places.{number}
-use Rattle.fields.specs.Names.{nameOf}
-use lib.Dec.{eqb}
-use mathlib.Core.Bool.{_&&_}
-use native.Mathlib.Omega.{arith}
 use Prim.Native.Nat.{_<_, _^_}
-use mathlib.Core.Path.{_≡_, ap, _∙_}
 use borrow.Author.Needs.{needs}
 use Rattle.store.proofs.is_tally.Statement.{statement}
 use Rattle.store.proofs.is_tally.Tie as tie
@@ -27,9 +21,11 @@ is-block-requires c κs = search needs
 returns : tie.Need-returns
 unfolding tallyOf
 returns c =
-    let a = c .before .before .before .args in
-    let h : a .tally .height < 256 ^ 4 = c .before .before .before .good .1 .1 .0 .1 .1 .1 .0 .1 in
-    rw (c .is-block .ensures, c .before .key-of .ensures) (block-tally (a .store .now) (c .before .before .shared-slice-known .given) (tallyOf (a .tally)) (a .i) h)
+    let after-shared-slice-known = c .before .before in
+    let start = after-shared-slice-known .before in
+    let a = start .args in
+    let h : a .tally .height < 256 ^ 4 = start .good .1 .1 .0 .1 .1 .1 .0 .1 in
+    rw (c .is-block .ensures, c .before .key-of .ensures) (block-tally (a .store .now) (after-shared-slice-known .shared-slice-known .given) (tallyOf (a .tally)) (a .i) h)
 
 pub is-tally-spec : {M : Type 1} → statement M
 is-tally-spec =

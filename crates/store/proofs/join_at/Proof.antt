@@ -1,4 +1,4 @@
--- `store::join_at` meets its contract. Assumes nothing.
+-- `join_at` meets its contract: the mask of a record changes. Assumes nothing.
 use Rattle.store.proofs.Changes.{put-voters}
 use Rattle.store.proofs.Forms.{form-long, form-tallies}
 use Rattle.store.specs.Meaning.{tallyOf}
@@ -13,29 +13,34 @@ use Rattle.store.proofs.join_at.Tie as tie
 
 tally-at-requires : tie.Need-tally-at-requires
 tally-at-requires c κs =
-    (form-long _ (c .before .before .pre .0), omega (arith, form-tallies _ (c .before .before .pre .0), c .before .before .pre .1))
+    let start = c .before .before in
+    (form-long _ (start .pre .0), omega (arith, form-tallies _ (start .pre .0), start .pre .1))
 
 grown-requires : tie.Need-grown-requires
 grown-requires c κs = search needs
 
 mul-put : tie.Need-mul-put
 mul-put c =
-    omega (arith, form-tallies _ (c .before .before .before .before .before .pre .0), c .before .before .before .before .before .pre .1)
+    let start = c .before .before .before .before .before in
+    omega (arith, form-tallies _ (start .pre .0), start .pre .1)
 
 add-put : tie.Need-add-put
 add-put c =
-    omega (arith, form-tallies _ (c .before .before .before .before .before .pre .0), c .before .before .before .before .before .pre .1)
+    let start = c .before .before .before .before .before in
+    omega (arith, form-tallies _ (start .pre .0), start .pre .1)
 
 add-put-2 : tie.Need-add-put-2
 add-put-2 c =
-    omega (arith, form-tallies _ (c .before .before .before .before .before .pre .0), c .before .before .before .before .before .pre .1)
+    let start = c .before .before .before .before .before in
+    omega (arith, form-tallies _ (start .pre .0), start .pre .1)
 
 cast-put : tie.Need-cast-put
 cast-put c = search needs
 
 put-requires : tie.Need-put-requires
 put-requires c κs =
-    omega (arith, form-long _ (c .before .before .before .before .before .before .pre .0), form-tallies _ (c .before .before .before .before .before .before .pre .0), c .before .before .before .before .before .before .pre .1)
+    let start = c .before .before .before .before .before .before in
+    omega (arith, form-long _ (start .pre .0), form-tallies _ (start .pre .0), start .pre .1)
 
 same-length : tie.Need-same-length
 same-length c = search needs
@@ -43,10 +48,14 @@ same-length c = search needs
 returns : tie.Need-returns
 unfolding tallyOf grown
 returns c =
-    let a = c .before .before .before .before .before .before .before .before .before .args in
-    let mask : c .before .before .before .before .before .grown .result .mask ≡ joined (tallyAt (a .store .now) (a .i) .mask) (a .mask) =
-    ap (λ (t : Tally). t .mask) (c .before .before .before .before .before .grown .ensures) ∙ ap (λ (t : Tally). joined (t .mask) (a .mask)) (c .before .before .before .before .before .before .tally-at .ensures) in
-    rw (c .before .before .put .ensures, mask) (put-voters (a .store .now) (c .before .before .before .before .before .before .before .before .before .pre .0) (a .i) (a .mask) (c .before .before .before .before .before .before .before .before .before .pre .1) (c .before .before .before .before .before .before .before .before .before .fits .mask .fits))
+    let after-put = c .before .before in
+    let after-grown = after-put .before .before .before in
+    let after-tally-at = after-grown .before in
+    let start = after-tally-at .before .before .before in
+    let a = start .args in
+    let mask : after-grown .grown .result .mask ≡ joined (tallyAt (a .store .now) (a .i) .mask) (a .mask) =
+    ap (λ (t : Tally). t .mask) (after-grown .grown .ensures) ∙ ap (λ (t : Tally). joined (t .mask) (a .mask)) (after-tally-at .tally-at .ensures) in
+    rw (after-put .put .ensures, mask) (put-voters (a .store .now) (start .pre .0) (a .i) (a .mask) (start .pre .1) (start .fits .mask .fits))
 
 pub join-at-spec : {M : Type 1} → statement M
 join-at-spec =

@@ -1,4 +1,4 @@
--- `store::join_blame` meets its contract. Assumes nothing.
+-- `join_blame` meets its contract: one mask of the table changes. Assumes nothing.
 use Rattle.fields.proofs.Laws.{number-lt}
 use lib.Bits.{or-lt}
 use Rattle.store.proofs.Changes.{put-blame}
@@ -6,7 +6,6 @@ use Rattle.store.proofs.Forms.{form-long}
 use Rattle.store.specs.Decode.{blameAt}
 use Rattle.rules.specs.Sizes.{joined}
 use native.Mathlib.Omega.{arith}
-use mathlib.Core.Path.{_≡_, ap}
 use borrow.Author.Needs.{needs}
 use Rattle.store.proofs.join_blame.Statement.{statement}
 use Rattle.store.proofs.join_blame.Tie as tie
@@ -16,7 +15,8 @@ sub-i c = search needs
 
 blame-at-requires : tie.Need-blame-at-requires
 blame-at-requires c κs =
-    (form-long _ (c .before .before .pre .0), omega (arith, c .before .before .pre .1, c .before .before .pre .2))
+    let start = c .before .before in
+    (form-long _ (start .pre .0), omega (arith, start .pre .1, start .pre .2))
 
 mul-put : tie.Need-mul-put
 mul-put c = search needs
@@ -27,12 +27,15 @@ add-put c = search needs
 cast-put : tie.Need-cast-put
 unfolding blameAt
 cast-put c =
-    let l = or-lt 16 (c .before .blame-at .result) (c .before .before .before .before .args .mask) (rw (c .before .blame-at .ensures) (number-lt (c .before .before .before .before .args .store .now) (c .before .before .before .slice-known .given) _ 2)) (c .before .before .before .before .fits .mask .fits) in
+    let after-slice-known = c .before .before .before in
+    let start = after-slice-known .before in
+    let l = or-lt 16 (c .before .blame-at .result) (start .args .mask) (rw (c .before .blame-at .ensures) (number-lt (start .args .store .now) (after-slice-known .slice-known .given) _ 2)) (start .fits .mask .fits) in
     omega arith
 
 put-requires : tie.Need-put-requires
 put-requires c κs =
-    omega (arith, form-long _ (c .before .before .before .before .pre .0), c .before .before .before .before .pre .1, c .before .before .before .before .pre .2)
+    let start = c .before .before .before .before in
+    omega (arith, form-long _ (start .pre .0), start .pre .1, start .pre .2)
 
 same-length : tie.Need-same-length
 same-length c = search needs
@@ -40,8 +43,11 @@ same-length c = search needs
 returns : tie.Need-returns
 unfolding joined
 returns c =
-    let a = c .before .before .before .before .before .before .before .args in
-    rw (c .before .before .put .ensures, c .before .before .before .before .blame-at .ensures) (put-blame (a .store .now) (c .before .before .before .before .before .before .before .pre .0) (a .view) (a .mask) (c .before .before .before .before .before .before .before .pre .1) (c .before .before .before .before .before .before .before .pre .2) (c .before .before .before .before .before .before .before .fits .mask .fits))
+    let after-put = c .before .before in
+    let after-blame-at = after-put .before .before in
+    let start = after-blame-at .before .before .before in
+    let a = start .args in
+    rw (after-put .put .ensures, after-blame-at .blame-at .ensures) (put-blame (a .store .now) (start .pre .0) (a .view) (a .mask) (start .pre .1) (start .pre .2) (start .fits .mask .fits))
 
 pub join-blame-spec : {M : Type 1} → statement M
 join-blame-spec =

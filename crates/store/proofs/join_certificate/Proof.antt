@@ -1,4 +1,4 @@
--- `store::join_certificate` meets its contract. Assumes nothing.
+-- `join_certificate` meets its contract: genesis in view 0 has no tally, every other certificate joins one. Assumes nothing.
 use Rattle.store.proofs.Joining.{certificate-joins, certified-some, certified-none}
 use Rattle.store.specs.Meaning.{tallyOf}
 use Rattle.store.specs.Decode.{tallies, stateOf}
@@ -9,7 +9,8 @@ use Rattle.store.proofs.join_certificate.Tie as tie
 join-tally-requires : tie.Need-join-tally-requires
 unfolding tallyOf
 join-tally-requires c κs =
-    (c .before .before .before .before .pre .0, rw (← certificate-joins (tallyOf (c .before .before .before .before .args .certificate)) (tallies (c .before .before .before .before .args .store .now)) (c .before .if1 .taken)) (c .before .before .before .before .pre .1))
+    let start = c .before .before .before .before in
+    (start .pre .0, rw (← certificate-joins (tallyOf (start .args .certificate)) (tallies (start .args .store .now)) (c .before .if1 .taken)) (start .pre .1))
 
 same-length : tie.Need-same-length
 same-length c = search needs
@@ -17,12 +18,16 @@ same-length c = search needs
 returns : tie.Need-returns
 unfolding tallyOf
 returns c =
-    rw (certified-some (tallyOf (c .before .before .before .before .before .before .before .args .certificate)) (stateOf (c .before .before .before .before .before .before .before .args .store .now)) (c .before .before .before .before .if1 .taken)) (c .before .before .join-tally .ensures)
+    let after-join-tally = c .before .before in
+    let at-if1 = after-join-tally .before .before in
+    let start = at-if1 .before .before .before in
+    rw (certified-some (tallyOf (start .args .certificate)) (stateOf (start .args .store .now)) (at-if1 .if1 .taken)) (after-join-tally .join-tally .ensures)
 
 returns-2 : tie.Need-returns-2
 unfolding tallyOf
 returns-2 c =
-    record { form = c .before .before .before .pre .0; is = certified-none (tallyOf (c .before .before .before .args .certificate)) (stateOf (c .before .before .before .args .store .now)) (c .if1 .left) }
+    let start = c .before .before .before in
+    record { form = start .pre .0; is = certified-none (tallyOf (start .args .certificate)) (stateOf (start .args .store .now)) (c .if1 .left) }
 
 pub join-certificate-spec : {M : Type 1} → statement M
 join-certificate-spec = tie.close (tie.spec join-tally-requires same-length returns returns-2)

@@ -1,4 +1,4 @@
--- `store::join_tally` meets its contract. Assumes nothing.
+-- `join_tally` meets its contract: the place found decides between growing and opening. Assumes nothing.
 use Rattle.store.proofs.Joining.{place-within, room-left, joined-there, joined-new}
 use Rattle.store.specs.Meaning.{tallyOf}
 use borrow.Author.Needs.{needs}
@@ -13,14 +13,19 @@ enum-known-i c = search needs
 
 join-at-requires : tie.Need-join-at-requires
 join-at-requires c κs =
-    (c .before .before .before .before .before .before .before .pre .0, place-within (c .before .before .before .before .before .before .before .args .store .now) (tallyOf (c .before .before .before .before .before .before .before .args .tally)) _ (c .before .before .before .before .find-tally .ensures) _ (c .before .before .i .given .1))
+    let after-i = c .before .before in
+    let after-find-tally = after-i .before .before in
+    let start = after-find-tally .before .before .before in
+    (start .pre .0, place-within (start .args .store .now) (tallyOf (start .args .tally)) _ (after-find-tally .find-tally .ensures) _ (after-i .i .given .1))
 
 enum-told : tie.Need-enum-told
 enum-told c = search needs
 
 open-tally-requires : tie.Need-open-tally-requires
 open-tally-requires c κs =
-    (c .before .before .before .before .before .before .pre .0, room-left (c .before .before .before .before .before .before .args .store .now) (tallyOf (c .before .before .before .before .before .before .args .tally)) _ (c .before .before .before .find-tally .ensures) (c .before .enum-told .given .1) (c .before .before .before .before .before .before .pre .1))
+    let after-find-tally = c .before .before .before in
+    let start = after-find-tally .before .before .before in
+    (start .pre .0, room-left (start .args .store .now) (tallyOf (start .args .tally)) _ (after-find-tally .find-tally .ensures) (c .before .enum-told .given .1) (start .pre .1))
 
 same-length : tie.Need-same-length
 same-length c = search needs
@@ -28,14 +33,22 @@ same-length c = search needs
 returns : tie.Need-returns
 unfolding tallyOf
 returns c =
-    joined-there (c .before .before .before .before .before .before .before .before .before .before .args .store .now) (tallyOf (c .before .before .before .before .before .before .before .before .before .before .args .tally)) _ (c .before .before .before .before .before .before .before .find-tally .ensures) _ (c .before .before .before .before .before .i .given .1) (c .before .before .join-at .ensures)
+    let after-join-at = c .before .before in
+    let after-i = after-join-at .before .before .before in
+    let after-find-tally = after-i .before .before in
+    let start = after-find-tally .before .before .before in
+    joined-there (start .args .store .now) (tallyOf (start .args .tally)) _ (after-find-tally .find-tally .ensures) _ (after-i .i .given .1) (after-join-at .join-at .ensures)
 
 same-length-2 : tie.Need-same-length-2
 same-length-2 c = search needs
 
 returns-2 : tie.Need-returns-2
 returns-2 c =
-    joined-new (c .before .before .before .before .before .before .before .before .before .args .store .now) (tallyOf (c .before .before .before .before .before .before .before .before .before .args .tally)) _ (c .before .before .before .before .before .before .find-tally .ensures) (c .before .before .before .before .enum-told .given .1) (c .before .before .open-tally .ensures)
+    let after-open-tally = c .before .before in
+    let after-enum-told = after-open-tally .before .before in
+    let after-find-tally = after-enum-told .before .before in
+    let start = after-find-tally .before .before .before in
+    joined-new (start .args .store .now) (tallyOf (start .args .tally)) _ (after-find-tally .find-tally .ensures) (after-enum-told .enum-told .given .1) (after-open-tally .open-tally .ensures)
 
 pub join-tally-spec : {M : Type 1} → statement M
 join-tally-spec =

@@ -1,4 +1,4 @@
--- `store::kind_at` meets its contract. Assumes nothing.
+-- `kind_at` meets its contract: one byte of the record of place i. Assumes nothing.
 use Rattle.store.specs.Decode.{kindAt}
 use borrow.Author.Needs.{needs}
 use Rattle.store.proofs.kind_at.Statement.{statement}

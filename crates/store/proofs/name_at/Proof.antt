@@ -1,4 +1,4 @@
--- `store::name_at` meets its contract. Assumes nothing.
+-- `name_at` meets its contract: 32 bytes at place i. Assumes nothing.
 use Rattle.store.specs.Decode.{nameAt}
 use borrow.Author.Needs.{needs}
 use Rattle.store.proofs.name_at.Statement.{statement}

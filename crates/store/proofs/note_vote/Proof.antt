@@ -1,4 +1,4 @@
--- `store::note_vote` meets its contract. Assumes nothing.
+-- `note_vote` meets its contract: one field of a record changes. Assumes nothing.
 use Rattle.store.proofs.Changes.{put-vote}
 use Rattle.store.proofs.Forms.{form-long, form-statements}
 use native.Mathlib.Omega.{arith}
@@ -30,7 +30,9 @@ same-length c = search needs
 
 returns : tie.Need-returns
 returns c =
-    rw (c .before .before .put .ensures) (put-vote (c .before .before .before .before .before .args .store .now) (c .before .before .before .before .before .pre .0) (c .before .before .before .before .before .args .i) (c .before .before .before .before .before .args .clock) (c .before .before .before .before .before .pre .1) (omega (arith, c .before .before .before .before .before .pre .2)))
+    let after-put = c .before .before in
+    let start = after-put .before .before .before in
+    rw (after-put .put .ensures) (put-vote (start .args .store .now) (start .pre .0) (start .args .i) (start .args .clock) (start .pre .1) (omega (arith, start .pre .2)))
 
 pub note-vote-spec : {M : Type 1} → statement M
 note-vote-spec =

@@ -1,4 +1,4 @@
--- `store::open_tally` meets its contract. Assumes nothing.
+-- `open_tally` meets its contract: a record is put behind the last, and counted. Assumes nothing.
 use Rattle.store.proofs.Changes.{add-tally}
 use Rattle.store.proofs.Sized.{tally-fits}
 use Rattle.store.specs.Meaning.{tallyOf}
@@ -21,26 +21,32 @@ add-put-tally c = search needs
 
 put-tally-requires : tie.Need-put-tally-requires
 put-tally-requires c κs =
-    omega (arith, form-long _ (c .before .before .before .before .pre .0), c .before .before .before .before .pre .1)
+    let start = c .before .before .before .before in
+    omega (arith, form-long _ (start .pre .0), start .pre .1)
 
 add-put : tie.Need-add-put
 add-put c = search needs
 
 put-requires : tie.Need-put-requires
 put-requires c κs =
-    omega (arith, form-long _ (c .before .before .before .before .before .before .before .before .pre .0))
+    let start = c .before .before .before .before .before .before .before .before in
+    omega (arith, form-long _ (start .pre .0))
 
 same-length : tie.Need-same-length
 same-length c = search needs
 
 returns : tie.Need-returns
 returns c =
-    let a = c .before .before .before .before .before .before .before .before .before .before .before .args in
-    let g = c .before .before .before .before .before .before .before .before .before .before .before .good .1 .0 .1 .1 in
+    let after-put = c .before .before in
+    let after-put-tally = after-put .before .before .before .before in
+    let after-get-count = after-put-tally .before .before in
+    let start = after-get-count .before .before .before in
+    let a = start .args in
+    let g = start .good .1 .0 .1 .1 in
     let n = g .1 .1 .0 .1 .1 in
     let name = name-lt (a .tally .name) (n .0 .1) (n .1 .0 .1) (n .1 .1 .0 .1) (n .1 .1 .1 .0 .1) in
-    rw (c .before .before .put .ensures, c .before .before .before .before .before .before .put-tally .ensures, c .before .before .before .before .before .before .before .before .get-count .ensures .0)
-    (add-tally (a .store .now) (c .before .before .before .before .before .before .before .before .before .before .before .pre .0) (tallyOf (a .tally)) (c .before .before .before .before .before .before .before .before .before .before .before .pre .1) (tally-fits (a .tally) (g .0 .1) (g .1 .0 .1) name (g .1 .1 .1 .0 .1)))
+    rw (after-put .put .ensures, after-put-tally .put-tally .ensures, after-get-count .get-count .ensures .0)
+    (add-tally (a .store .now) (start .pre .0) (tallyOf (a .tally)) (start .pre .1) (tally-fits (a .tally) (g .0 .1) (g .1 .0 .1) name (g .1 .1 .1 .0 .1)))
 
 pub open-tally-spec : {M : Type 1} → statement M
 open-tally-spec =

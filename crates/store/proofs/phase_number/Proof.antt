@@ -1,4 +1,4 @@
--- `store::phase_number` meets its contract. Assumes nothing.
+-- `phase_number` meets its contract: each phase has its number. Assumes nothing.
 use native.Mathlib.Omega.{arith}
 use borrow.Author.Needs.{needs}
 use Rattle.store.proofs.phase_number.Statement.{statement}

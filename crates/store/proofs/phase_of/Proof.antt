@@ -1,4 +1,4 @@
--- `store::phase_of` meets its contract. Assumes nothing.
+-- `phase_of` meets its contract: each number has its phase, and from 4 on the quit clock is what is left. Assumes nothing.
 use Rattle.store.proofs.Values.{phase-waiting}
 use borrow.Author.Needs.{needs}
 use Rattle.store.proofs.phase_of.Statement.{statement}

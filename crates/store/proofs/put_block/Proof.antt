@@ -1,4 +1,4 @@
--- `store::put_block` meets its contract. Assumes nothing.
+-- `put_block` meets its contract: view, height and name are put one after the other. Assumes nothing.
 use borrow.Author.Needs.{needs}
 use Rattle.store.proofs.put_block.Statement.{statement}
 use Rattle.store.proofs.put_block.Tie as tie
@@ -26,7 +26,10 @@ same-length c = search needs
 
 returns : tie.Need-returns
 returns c =
-    rw (c .before .before .put-name .ensures, c .before .before .before .before .before .before .put2 .ensures, c .before .before .before .before .before .before .before .before .before .before .put .ensures)
+    let after-put-name = c .before .before in
+    let after-put2 = after-put-name .before .before .before .before in
+    let after-put = after-put2 .before .before .before .before in
+    rw (after-put-name .put-name .ensures, after-put2 .put2 .ensures, after-put .put .ensures)
 
 pub put-block-spec : {M : Type 1} → statement M
 put-block-spec =

@@ -1,4 +1,4 @@
--- `store::put_counts` meets its contract. Assumes nothing.
+-- `put_counts` meets its contract: the three counts are put one after the other. Assumes nothing.
 use borrow.Author.Needs.{needs}
 use Rattle.store.proofs.put_counts.Statement.{statement}
 use Rattle.store.proofs.put_counts.Tie as tie
@@ -17,7 +17,10 @@ same-length c = search needs
 
 returns : tie.Need-returns
 returns c =
-    rw (c .before .before .put3 .ensures, c .before .before .before .before .before .before .put2 .ensures, c .before .before .before .before .before .before .before .before .before .before .put .ensures)
+    let after-put3 = c .before .before in
+    let after-put2 = after-put3 .before .before .before .before in
+    let after-put = after-put2 .before .before .before .before in
+    rw (after-put3 .put3 .ensures, after-put2 .put2 .ensures, after-put .put .ensures)
 
 pub put-counts-spec : {M : Type 1} → statement M
 put-counts-spec =

@@ -1,4 +1,4 @@
--- `store::put_statement` meets its contract. Assumes nothing.
+-- `put_statement` meets its contract: the fields are put in the order of the format. Assumes nothing.
 use Rattle.wire.specs.Meaning.{statementOf}
 use native.Mathlib.Omega.{arith}
 use borrow.Author.Needs.{needs}
@@ -37,19 +37,32 @@ put-requires-3 c κs = search needs
 
 add-put-name : tie.Need-add-put-name
 add-put-name c =
-    omega (arith, c .before .before .before .before .before .before .before .before .before .before .before .before .before .before .before .before .before .before .before .before .before .pre, c .before .before .before .before .before .before .before .before .before .before .before .before .before .before .before .before .before .before .before .before .before)
+    let start = c .before .before .before .before .before .before .before .before .before .before .before .before .before .before .before .before .before .before .before .before .before in
+    omega (arith, start .pre, start .good)
 
 put-name-requires : tie.Need-put-name-requires
 put-name-requires c κs =
-    omega (arith, c .before .before .before .before .before .before .before .before .before .before .before .before .before .before .before .before .before .before .before .before .before .pre, c .before .before .before .before .before .before .before .before .before .before .before)
+    let after-put3 = c .before .before .before in
+    let after-put2 = after-put3 .before .before .before .before .before in
+    let after-put = after-put2 .before .before .before .before .before in
+    let after-put-block = after-put .before .before .before .before in
+    let start = after-put-block .before .before .before .before in
+    omega (arith, start .pre, after-put3 .put3 .kept .0, after-put2 .put2 .kept .0, after-put .put .kept .0, after-put-block .put-block .kept .0)
 
 add-put-4 : tie.Need-add-put-4
 add-put-4 c =
-    omega (arith, c .before .before .before .before .before .before .before .before .before .before .before .before .before .before .before .before .before .before .before .before .before .before .before .before .before .pre, c .before .before .before .before .before .before .before .before .before .before .before .before .before .before .before .before .before .before .before .before .before .before .before .before .before)
+    let start = c .before .before .before .before .before .before .before .before .before .before .before .before .before .before .before .before .before .before .before .before .before .before .before .before .before in
+    omega (arith, start .pre, start .good)
 
 put-requires-4 : tie.Need-put-requires-4
 put-requires-4 c κs =
-    omega (arith, c .before .before .before .before .before .before .before .before .before .before .before .before .before .before .before .before .before .before .before .before .before .before .before .before .before .pre, c .before .before .before .before .before .before .before .before .before .before .before .before .before)
+    let after-put-name = c .before .before .before in
+    let after-put3 = after-put-name .before .before .before .before in
+    let after-put2 = after-put3 .before .before .before .before .before in
+    let after-put = after-put2 .before .before .before .before .before in
+    let after-put-block = after-put .before .before .before .before in
+    let start = after-put-block .before .before .before .before in
+    omega (arith, start .pre, after-put-name .put-name .kept .0, after-put3 .put3 .kept .0, after-put2 .put2 .kept .0, after-put .put .kept .0, after-put-block .put-block .kept .0)
 
 same-length : tie.Need-same-length
 same-length c = search needs
@@ -57,7 +70,14 @@ same-length c = search needs
 returns : tie.Need-returns
 unfolding statementOf
 returns c =
-    rw (c .before .before .put4 .ensures, c .before .before .before .before .before .before .put-name .ensures, c .before .before .before .before .before .before .before .before .before .before .put3 .ensures, c .before .before .before .before .before .before .before .before .before .before .before .before .before .before .before .put2 .ensures, c .before .before .before .before .before .before .before .before .before .before .before .before .before .before .before .before .before .before .before .before .put .ensures, c .before .before .before .before .before .before .before .before .before .before .before .before .before .before .before .before .before .before .before .before .before .before .before .before .put-block .ensures, c .before .before .before .before .before .before .before .before .before .before .before .before .before .before .before .before .before .before .before .before .before .before .before .before .before .before .kind-number .ensures)
+    let after-put4 = c .before .before in
+    let after-put-name = after-put4 .before .before .before .before in
+    let after-put3 = after-put-name .before .before .before .before in
+    let after-put2 = after-put3 .before .before .before .before .before in
+    let after-put = after-put2 .before .before .before .before .before in
+    let after-put-block = after-put .before .before .before .before in
+    let after-kind-number = after-put-block .before .before in
+    rw (after-put4 .put4 .ensures, after-put-name .put-name .ensures, after-put3 .put3 .ensures, after-put2 .put2 .ensures, after-put .put .ensures, after-put-block .put-block .ensures, after-kind-number .kind-number .ensures)
 
 pub put-statement-spec : {M : Type 1} → statement M
 put-statement-spec =

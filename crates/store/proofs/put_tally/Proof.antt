@@ -1,4 +1,4 @@
--- `store::put_tally` meets its contract. Assumes nothing.
+-- `put_tally` meets its contract: the block is put, then the mask. Assumes nothing.
 use Rattle.store.specs.Meaning.{tallyOf}
 use borrow.Author.Needs.{needs}
 use Rattle.store.proofs.put_tally.Statement.{statement}
@@ -22,7 +22,9 @@ same-length c = search needs
 returns : tie.Need-returns
 unfolding tallyOf
 returns c =
-    rw (c .before .before .put .ensures, c .before .before .before .before .before .before .before .put-block .ensures)
+    let after-put = c .before .before in
+    let after-put-block = after-put .before .before .before .before .before in
+    rw (after-put .put .ensures, after-put-block .put-block .ensures)
 
 pub put-tally-spec : {M : Type 1} → statement M
 put-tally-spec =

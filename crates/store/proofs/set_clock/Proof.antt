@@ -1,4 +1,4 @@
--- `store::set_clock` meets its contract. Assumes nothing.
+-- `set_clock` meets its contract: one field of the header changes. Assumes nothing.
 use Rattle.store.proofs.Changes.{put-clock}
 use Rattle.store.proofs.Forms.{form-long}
 use native.Mathlib.Omega.{arith}
@@ -15,7 +15,9 @@ same-length c = search needs
 
 returns : tie.Need-returns
 returns c =
-    rw (c .before .before .put .ensures) (put-clock (c .before .before .before .before .before .args .store .now) (c .before .before .before .before .before .pre) (c .before .before .before .before .before .args .clock) (c .before .before .before .before .before .fits .clock .fits))
+    let after-put = c .before .before in
+    let start = after-put .before .before .before in
+    rw (after-put .put .ensures) (put-clock (start .args .store .now) (start .pre) (start .args .clock) (start .fits .clock .fits))
 
 pub set-clock-spec : {M : Type 1} → statement M
 set-clock-spec = tie.close (tie.spec put-requires same-length returns)

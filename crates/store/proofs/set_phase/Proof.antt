@@ -1,4 +1,4 @@
--- `store::set_phase` meets its contract. Assumes nothing.
+-- `set_phase` meets its contract: the first field of the header changes. Assumes nothing.
 use Rattle.store.proofs.Changes.{put-phase}
 use Rattle.store.proofs.Forms.{form-long}
 use Rattle.store.specs.Meaning.{courseOf}
@@ -19,7 +19,10 @@ same-length c = search needs
 
 returns : tie.Need-returns
 returns c =
-    rw (c .before .before .put .ensures, c .before .before .before .phase-number .ensures) (put-phase (c .before .before .before .before .before .before .args .store .now) (c .before .before .before .before .before .before .pre .0) (courseOf (c .before .before .before .before .before .before .args .phase)) (c .before .before .before .before .before .before .pre .1))
+    let after-put = c .before .before in
+    let after-phase-number = after-put .before in
+    let start = after-phase-number .before .before .before in
+    rw (after-put .put .ensures, after-phase-number .phase-number .ensures) (put-phase (start .args .store .now) (start .pre .0) (courseOf (start .args .phase)) (start .pre .1))
 
 pub set-phase-spec : {M : Type 1} → statement M
 set-phase-spec = tie.close (tie.spec phase-number-requires put-requires same-length returns)

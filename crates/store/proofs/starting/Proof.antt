@@ -1,4 +1,4 @@
--- `store::starting` meets its contract. Assumes nothing.
+-- `starting` meets its contract: each field is that of the fresh state. Assumes nothing.
 use Rattle.store.specs.Meaning.{headerOf}
 use Rattle.store.specs.Decode.{headerValues}
 use Rattle.rules.specs.Words.{fresh}

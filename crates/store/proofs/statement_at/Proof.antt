@@ -1,4 +1,4 @@
--- `store::statement_at` meets its contract. Assumes nothing.
+-- `statement_at` meets its contract: each field is the number at its place of the record. Assumes nothing.
 use Rattle.wire.specs.Meaning.{statementOf}
 use Rattle.store.specs.Decode.{statementAt}
 use borrow.Author.Needs.{needs}
@@ -59,7 +59,12 @@ cast-author c = search needs
 returns : tie.Need-returns
 unfolding statementOf statementAt
 returns c =
-    rw (c .before .before .before .before .before .before .get .ensures .0, c .before .before .before .before .before .get-four .ensures, c .before .before .before .before .get-four2 .ensures, c .before .before .before .get-name .ensures .0, c .before .before .get-name2 .ensures .0, c .before .get-two .ensures, c .get2 .ensures .0)
+    let after-get-name2 = c .before .before in
+    let after-get-name = after-get-name2 .before in
+    let after-get-four2 = after-get-name .before in
+    let after-get-four = after-get-four2 .before in
+    let after-get = after-get-four .before in
+    rw (after-get .get .ensures .0, after-get-four .get-four .ensures, after-get-four2 .get-four2 .ensures, after-get-name .get-name .ensures .0, after-get-name2 .get-name2 .ensures .0, c .before .get-two .ensures, c .get2 .ensures .0)
 
 pub statement-at-spec : {M : Type 1} → statement M
 statement-at-spec =

@@ -1,4 +1,4 @@
--- `store::tally_at` meets its contract. Assumes nothing.
+-- `tally_at` meets its contract: the record of place i. Assumes nothing.
 use Rattle.store.specs.Decode.{tallyAt}
 use borrow.Author.Needs.{needs}
 use Rattle.store.proofs.tally_at.Statement.{statement}

@@ -1,4 +1,4 @@
--- `store::voted_at` meets its contract. Assumes nothing.
+-- `voted_at` meets its contract: four bytes of the record of place i. Assumes nothing.
 use Rattle.store.specs.Decode.{voteAt}
 use borrow.Author.Needs.{needs}
 use Rattle.store.proofs.voted_at.Statement.{statement}

@@ -1,4 +1,4 @@
--- `store::Station::load` meets its contract. Assumes nothing.
+-- `Station::load` meets its contract: each field is the number at its place, and the lock is a tally's record. Assumes nothing.
 use Rattle.store.proofs.Values.{phase-number}
 use Rattle.store.specs.Meaning.{courseOf}
 use Rattle.store.specs.Decode.{phaseNumber}
@@ -49,10 +49,21 @@ get-count-requires-3 c κs = search needs
 returns : tie.Need-returns
 unfolding headerOf tallyOf
 returns c =
-    let p : phaseNumber (courseOf (c .before .before .before .before .before .before .before .before .before .before .phase-of .result)) ≡ number (c .before .before .before .before .before .before .before .before .before .before .before .before .before .args .store .now) 0 4 =
-    ap phaseNumber (c .before .before .before .before .before .before .before .before .before .before .phase-of .ensures) ∙ phase-number _ ∙ c .before .before .before .before .before .before .before .before .before .before .before .get-four .ensures in
-    let t = c .before .before .before .get-tally .ensures in
-    rw (p, c .before .before .before .before .before .before .before .before .before .get .ensures .0, c .before .before .before .before .before .before .before .before .get2 .ensures .0, c .before .before .before .before .before .before .before .get3 .ensures .0, c .before .before .before .before .before .before .get-four2 .ensures, c .before .before .before .before .before .get-four3 .ensures, c .before .before .before .before .get-four4 .ensures, ap (λ (x : Tally). x .view) t, ap (λ (x : Tally). x .height) t, ap (λ (x : Tally). x .name) t, ap (λ (x : Tally). x .mask) t, c .before .before .get-count .ensures .0, c .before .get-count2 .ensures .0, c .get-count3 .ensures .0)
+    let after-get-count = c .before .before in
+    let after-get-tally = after-get-count .before in
+    let after-get-four4 = after-get-tally .before in
+    let after-get-four3 = after-get-four4 .before in
+    let after-get-four2 = after-get-four3 .before in
+    let after-get3 = after-get-four2 .before in
+    let after-get2 = after-get3 .before in
+    let after-get = after-get2 .before in
+    let after-phase-of = after-get .before in
+    let after-get-four = after-phase-of .before in
+    let start = after-get-four .before .before in
+    let p : phaseNumber (courseOf (after-phase-of .phase-of .result)) ≡ number (start .args .store .now) 0 4 =
+    ap phaseNumber (after-phase-of .phase-of .ensures) ∙ phase-number _ ∙ after-get-four .get-four .ensures in
+    let t = after-get-tally .get-tally .ensures in
+    rw (p, after-get .get .ensures .0, after-get2 .get2 .ensures .0, after-get3 .get3 .ensures .0, after-get-four2 .get-four2 .ensures, after-get-four3 .get-four3 .ensures, after-get-four4 .get-four4 .ensures, ap (λ (x : Tally). x .view) t, ap (λ (x : Tally). x .height) t, ap (λ (x : Tally). x .name) t, ap (λ (x : Tally). x .mask) t, after-get-count .get-count .ensures .0, c .before .get-count2 .ensures .0, c .get-count3 .ensures .0)
 
 pub load-spec : {M : Type 1} → statement M
 load-spec =

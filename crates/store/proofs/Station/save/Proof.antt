@@ -1,4 +1,4 @@
--- `store::Station::save` meets its contract. Assumes nothing.
+-- `Station::save` meets its contract: the fields are put in the order of the format. Assumes nothing.
 use Rattle.store.specs.Meaning.{headerOf, tallyOf}
 use native.Mathlib.Omega.{arith}
 use borrow.Author.Needs.{needs}
@@ -31,24 +31,57 @@ cast-put-3 c = search needs
 
 put-requires-4 : tie.Need-put-requires-4
 put-requires-4 c κs =
-    omega (arith, c .before .before .before .before .before .before .before .before .before .before .before .before .before .before .before .before .before .before .before .before .before .before .pre, c .before .before .before .before .before .before .before .before .before .before .before .before .before .before)
+    let after-put3 = c .before .before .before .before in
+    let after-put2 = after-put3 .before .before .before .before .before in
+    let after-put-settings = after-put2 .before .before .before .before .before in
+    let after-put = after-put-settings .before .before .before .before in
+    let start = after-put .before .before .before .before in
+    omega (arith, start .pre, after-put3 .put3 .kept .0, after-put2 .put2 .kept .0, after-put-settings .put-settings .kept .0, after-put .put .kept .0)
 
 put-tally-requires : tie.Need-put-tally-requires
 put-tally-requires c κs =
-    omega (arith, c .before .before .before .before .before .before .before .before .before .before .before .before .before .before .before .before .before .before .before .before .before .before .before .before .before .before .pre, c .before .before .before .before .before .before .before .before .before .before .before .before .before .before .before .before .before .before, c .before .before .before .before .before .before .before .before)
+    let after-put4 = c .before .before .before in
+    let after-put3 = after-put4 .before .before .before .before .before in
+    let after-put2 = after-put3 .before .before .before .before .before in
+    let after-put-settings = after-put2 .before .before .before .before .before in
+    let after-put = after-put-settings .before .before .before .before in
+    let start = after-put .before .before .before .before in
+    omega (arith, start .pre, after-put4 .put4 .kept .0, after-put3 .put3 .kept .0, after-put2 .put2 .kept .0, after-put-settings .put-settings .kept .0, after-put .put .kept .0)
 
 put-counts-requires : tie.Need-put-counts-requires
 put-counts-requires c κs =
-    omega (arith, c .before .before .before .before .before .before .before .before .before .before .before .before .before .before .before .before .before .before .before .before .before .before .before .before .before .before .before .before .before .before .pre, c .before .before .before .before .before .before .before .before .before .before .before .before .before .before .before .before .before .before .before .before .before .before, c .before .before .before .before .before .before .before .before .before .before .before .before)
+    let after-put-tally = c .before .before .before in
+    let after-put4 = after-put-tally .before .before .before .before in
+    let after-put3 = after-put4 .before .before .before .before .before in
+    let after-put2 = after-put3 .before .before .before .before .before in
+    let after-put-settings = after-put2 .before .before .before .before .before in
+    let after-put = after-put-settings .before .before .before .before in
+    let start = after-put .before .before .before .before in
+    omega (arith, start .pre, after-put-tally .put-tally .kept .0, after-put4 .put4 .kept .0, after-put3 .put3 .kept .0, after-put2 .put2 .kept .0, after-put-settings .put-settings .kept .0, after-put .put .kept .0)
 
 same-length : tie.Need-same-length
 same-length c =
-    omega (arith, c .before .before .put-counts .kept .0, c .before .before .before .before .before .before .put-tally .kept .0, c .before .before .before .before .before .before .before .before .before .before .put4 .kept .0, c .before .before .before .before .before .before .before .before .before .before .before .before .before .before .before .put3 .kept .0, c .before .before .before .before .before .before .before .before .before .before .before .before .before .before .before .before .before .before .before .before .put2 .kept .0, c .before .before .before .before .before .before .before .before .before .before .before .before .before .before .before .before .before .before .before .before .before .before .before .before .before .put-settings .kept .0, c .before .before .before .before .before .before .before .before .before .before .before .before .before .before .before .before .before .before .before .before .before .before .before .before .before .before .before .before .before .put .kept .0)
+    let after-put-counts = c .before .before in
+    let after-put-tally = after-put-counts .before .before .before .before in
+    let after-put4 = after-put-tally .before .before .before .before in
+    let after-put3 = after-put4 .before .before .before .before .before in
+    let after-put2 = after-put3 .before .before .before .before .before in
+    let after-put-settings = after-put2 .before .before .before .before .before in
+    let after-put = after-put-settings .before .before .before .before in
+    omega (arith, after-put-counts .put-counts .kept .0, after-put-tally .put-tally .kept .0, after-put4 .put4 .kept .0, after-put3 .put3 .kept .0, after-put2 .put2 .kept .0, after-put-settings .put-settings .kept .0, after-put .put .kept .0)
 
 returns : tie.Need-returns
 unfolding headerOf tallyOf
 returns c =
-    rw (c .before .before .put-counts .ensures, c .before .before .before .before .before .before .put-tally .ensures, c .before .before .before .before .before .before .before .before .before .before .put4 .ensures, c .before .before .before .before .before .before .before .before .before .before .before .before .before .before .before .put3 .ensures, c .before .before .before .before .before .before .before .before .before .before .before .before .before .before .before .before .before .before .before .before .put2 .ensures, c .before .before .before .before .before .before .before .before .before .before .before .before .before .before .before .before .before .before .before .before .before .before .before .before .before .put-settings .ensures, c .before .before .before .before .before .before .before .before .before .before .before .before .before .before .before .before .before .before .before .before .before .before .before .before .before .before .before .before .before .put .ensures, c .before .before .before .before .before .before .before .before .before .before .before .before .before .before .before .before .before .before .before .before .before .before .before .before .before .before .before .before .before .before .phase-number .ensures)
+    let after-put-counts = c .before .before in
+    let after-put-tally = after-put-counts .before .before .before .before in
+    let after-put4 = after-put-tally .before .before .before .before in
+    let after-put3 = after-put4 .before .before .before .before .before in
+    let after-put2 = after-put3 .before .before .before .before .before in
+    let after-put-settings = after-put2 .before .before .before .before .before in
+    let after-put = after-put-settings .before .before .before .before in
+    let after-phase-number = after-put .before in
+    rw (after-put-counts .put-counts .ensures, after-put-tally .put-tally .ensures, after-put4 .put4 .ensures, after-put3 .put3 .ensures, after-put2 .put2 .ensures, after-put-settings .put-settings .ensures, after-put .put .ensures, after-phase-number .phase-number .ensures)
 
 pub save-spec : {M : Type 1} → statement M
 save-spec =

@@ -1,4 +1,4 @@
--- `store::Tally::grown` meets its contract. Assumes nothing.
+-- `Tally::grown` meets its contract: the mask alone changes. Assumes nothing.
 use mathlib.Core.Path.{refl}
 use Rattle.store.specs.Meaning.{tallyOf}
 use Rattle.rules.specs.Words.{grown}

@@ -1,4 +1,4 @@
--- `store::Tally::with_voter` meets its contract. Assumes nothing.
+-- `Tally::with_voter` meets its contract: the mask of one station joins. Assumes nothing.
 use Rattle.store.specs.Meaning.{tallyOf}
 use Rattle.rules.specs.Words.{grown}
 use Rattle.rules.specs.Sizes.{only}

@@ -1,0 +1,313 @@
+-- What the proof needs of a schedule, and what then holds of each sound station at every moment. `next k` is the clock to which a
+-- tick at moment k would go: the clock after event k where the schedule goes on. Assumes nothing.
+use mathlib.Core.Path.{_≡_, subst, refl, sym, ap, _∙_}
+use Prim.Native.Nat.{ℕ, zero, suc, _+_, _/_, _%_, _≤_, _<_}
+use native.Mathlib.Omega.{arith}
+use native.Mathlib.Decide.{decLe, ℕ-discrete}
+use mathlib.Core.Bool.{true, _&&_}
+use mathlib.Core.List.{List, _++_, List·Memᴰ}
+use mathlib.Core.Logic.{_⊎_, inl, inr}
+use mathlib.Core.Option.{some}
+use lib.Dec.{eqb, leb, ltb}
+use lib.ListN.{length}
+use Rattle.rules.specs.Limits.{leastStations, mostStations, leastDelay, mostDelay, firstView, lastView}
+use Rattle.rules.specs.Lists.{within}
+use Rattle.rules.specs.Sizes.{Settings, goodSettings, leader, bit, count, quorum}
+use Rattle.rules.specs.Messages.{Message, newView, propose, vote, blame, blameSet, status, read, write, maskAllowed, certificateAllowed, allowed, Effect, toAll, toOne, committed}
+use Rattle.rules.specs.Words.{Tally, State, waiting, fresh}
+use Rattle.rules.specs.Inputs.{offered}
+use Rattle.rules.specs.Refusals.{Outcome, running, step}
+use Rattle.rules.proofs.Tests.{eqb-eq, leb-le}
+use Rattle.rules.proofs.Truths.{and-true}
+use Rattle.rules.proofs.Searches.{All, all-append, all-map, all-of, to-all}
+use Rattle.rules.proofs.Bytes.{Bytes}
+use Rattle.rules.proofs.Written.{read-write}
+use Rattle.rules.proofs.Statements.{Once}
+use Rattle.rules.proofs.Allowed.{IsName, allowed-fitting, fitting-named, read-fits}
+use Rattle.rules.proofs.Moves.{carried, Moves}
+use Rattle.rules.proofs.Kept.{no-phase, moves-fixed, Kept, kept-refl, kept-trans, moves-kept, moves-once, moves-late, settled-waits}
+use Rattle.rules.proofs.Orderly.{Orderly, fresh-orderly, moves-orderly, past-range}
+use Rattle.rules.proofs.Held.{Held, held-kept, step-held, HeldSaid, moves-said}
+use Rattle.rules.proofs.Votes.{Cast, CastSaid, moves-cast}
+use Rattle.rules.proofs.Proper.{Right, Proper, Known, Sayable, Parented, fresh-proper, proper-map, moves-proper}
+use Rattle.agreement.specs.Schedule.{Event, idle, commonTick, tickOf, given, offeredTo, happens, ticks, IsCommon, settingsOf, at, out, clock, Says, Sound, IsLent, Hands, Offers}
+use Rattle.agreement.proofs.Clock.{clock-suc, clock-mono, clock-before}
+use Rattle.agreement.proofs.Events.{GivenBy, OfferedBy, Brings, begun, before, event-moves, begun-clock, begun-same, begun-kept, begun-orderly, begun-proper, before-all, mem-after, event-settled, ticks-two, happens-given}
+
+-- good settings, as facts
+pub good-facts : (g : Settings) → goodSettings g ≡ true → (g .n % 2 ≡ 1) × (leastStations ≤ g .n) × (g .n ≤ mostStations) × (leastDelay ≤ g .D)
+unfolding goodSettings within
+good-facts g e =
+    let a = and-true _ (ltb (g .own) (g .n)) e in
+    let b = and-true _ (leb leastDelay (g .D) && leb (g .D) mostDelay) (a .0) in
+    let c = and-true (eqb (g .n % 2) 1) (leb leastStations (g .n) && leb (g .n) mostStations) (b .0) in
+    let d = and-true (leb leastStations (g .n)) (leb (g .n) mostStations) (c .1) in
+    let f = and-true (leb leastDelay (g .D)) (leb (g .D) mostDelay) (b .1) in
+    (eqb-eq (g .n % 2) 1 (c .0), leb-le leastStations (g .n) (d .0), leb-le (g .n) mostStations (d .1), leb-le leastDelay (g .D) (f .0))
+
+-- what is allowed doesn't depend on the own number
+pub allowed-alike : (n D i j : ℕ) (m : Message) → allowed (settingsOf n D i) m ≡ allowed (settingsOf n D j) m
+unfolding allowed maskAllowed certificateAllowed quorum leader
+allowed-alike n D i j (newView v h b c m a) = refl
+allowed-alike n D i j (propose v h b p m a) = refl
+allowed-alike n D i j (vote v h b a) = refl
+allowed-alike n D i j (blame v a) = refl
+allowed-alike n D i j (blameSet v m) = refl
+allowed-alike n D i j (status h b c m) = refl
+
+pub record Group : Type 0 where
+  pub n : ℕ
+  pub D : ℕ
+  pub faulty : ℕ
+  pub event : ℕ → Event
+  pub next : ℕ → ℕ
+  pub parentOf : ℕ → ℕ
+  pub settings : goodSettings (settingsOf n D 0) ≡ true
+  pub few : count faulty ≤ n / 2
+  pub common : (k : ℕ) → IsCommon (event k)
+  pub runs : (i : ℕ) → Sound n D event faulty i → (k : ℕ) → running (at n D event i k) ≡ true
+  pub soon : (k : ℕ) → clock n D event 0 (suc k) ≤ next k
+  pub late : (k : ℕ) → next k ≤ clock n D event 0 k + 1
+  pub lent : (k : ℕ) → IsLent n D event faulty (event k)
+  pub reaches : (i j : ℕ) → Sound n D event faulty i → Sound n D event faulty j → ¬ (i ≡ j) → (l k : ℕ) (m : Message) → Says n D event i l (toAll m)
+      → clock n D event 0 (suc l) + D + 1 ≤ next k → (h : ℕ) × (h < k) × (event h ≡ given j (write m))
+  pub voters : (k j : ℕ) (m : Message) → Hands n D event faulty k j m → (t : Tally) → carried m ≡ some t → (i : ℕ) → Sound n D event faulty i → bit (t .mask) i ≡ 1
+      → (l : ℕ) × (l < k) × Says n D event i l (toAll (vote (t .view) (t .height) (t .name) i))
+  pub parents : (k j : ℕ) (m : Message) → Hands n D event faulty k j m ⊎ Offers n D event faulty k j m → Parented parentOf m
+
+module _ (X : Group) where
+  open Group X using (n, D, faulty, event, next, parentOf)
+
+  abbrev pub st : ℕ → ℕ → State
+  st i k = at n D event i k
+
+  abbrev pub ck : ℕ → ℕ
+  ck k = clock n D event 0 k
+
+  abbrev pub Ok : ℕ → Type 0
+  Ok i = Sound n D event faulty i
+
+  -- i said e at clock c
+  abbrev pub SaidAt : ℕ → ℕ → Effect → Type 0
+  SaidAt i c e = (k : ℕ) × (ck (suc k) ≡ c) × Says n D event i k e
+
+  -- if i is sound, it voted so by clock c
+  abbrev pub VotedBy : (c v h b i : ℕ) → Type 0
+  VotedBy c v h b i = Ok i → (l : ℕ) × (ck (suc l) ≤ c) × Says n D event i l (toAll (vote v h b i))
+
+  abbrev pub G : ℕ → Settings
+  G i = settingsOf n D i
+
+  -- ---- one event of the run
+
+  pub moves-of : (i : ℕ) → Ok i → (k : ℕ)
+      → (o : List Effect) × (out n D event i k ≡ before (event k) (st i k) ++ o) × Moves (Brings i (event k) (st i k)) (begun (event k) (st i k)) (st i (suc k)) o
+  unfolding at out
+  moves-of i h k = event-moves i (event k) (st i k) (X .common k) (X .runs i h (suc k))
+
+  -- what the moves of event k say, station i says at the clock after it
+  said-here : (i : ℕ) (k : ℕ) (o : List Effect) → out n D event i k ≡ before (event k) (st i k) ++ o → (c : ℕ) → ck (suc k) ≡ c → All (SaidAt i c) o
+  said-here i k o e c q = to-all (SaidAt i c) o (λ f m. (k, q, subst (List·Memᴰ f) (sym e) (mem-after (before (event k) (st i k)) o f m)))
+
+  -- what holds of the reports and of what the moves say holds of all that is said
+  pub out-all : (P : Effect → Type 0) (i : ℕ) (h : Ok i) (k : ℕ) → ((a b : ℕ) → P (committed a b)) → All P (moves-of i h k .0) → (e : Effect) → Says n D event i k e → P e
+  out-all P i h k f a e m =
+      let (o, q, w) = moves-of i h k in
+      all-of P (before (event k) (st i k) ++ o) (all-append P (before (event k) (st i k)) o (before-all P (event k) (st i k) f) a) e (subst (List·Memᴰ e) q m)
+
+  pub at-settings : (i : ℕ) → Ok i → (k : ℕ) → st i k .settings ≡ G i
+  unfolding at fresh
+  at-settings i h zero = refl
+  at-settings i h (suc k) = moves-fixed (moves-of i h k .2) .0 ∙ begun-same (event k) (st i k) .0 ∙ at-settings i h k
+
+  pub at-clock : (i : ℕ) → Ok i → (k : ℕ) → st i k .clock ≡ ck k
+  unfolding at fresh clock
+  at-clock i h zero = refl
+  at-clock i h (suc k) = moves-fixed (moves-of i h k .2) .1 ∙ begun-clock (event k) (st i k) (X .common k) ∙ ap (_+ ticks 0 (event k)) (at-clock i h k)
+
+  pub begun-at : (i : ℕ) → Ok i → (k : ℕ) → begun (event k) (st i k) .clock ≡ ck (suc k)
+  begun-at i h k = begun-clock (event k) (st i k) (X .common k) ∙ ap (_+ ticks 0 (event k)) (at-clock i h k) ∙ sym (clock-suc n D event k)
+
+  -- ---- L1 to L5 along the run
+
+  kept-one : (i : ℕ) → Ok i → (k : ℕ) → Kept (st i k) (st i (suc k))
+  kept-one i h k = kept-trans (begun-kept (event k) (st i k)) (moves-kept (moves-of i h k .2))
+
+  pub kept-run : (i : ℕ) → Ok i → (k l : ℕ) → k ≤ l → Kept (st i k) (st i l)
+  kept-run i h k zero c = let e : k ≡ 0 = omega arith in rw e (kept-refl (st i 0))
+  kept-run i h k (suc l) c =
+      elim (decLe k l) [
+        | yes d ↦ kept-trans (kept-run i h k l d) (kept-one i h l)
+        | no d ↦ (let e : k ≡ suc l = omega arith in rw e (kept-refl (st i (suc l))))
+      ]
+
+  pub orderly-run : (i : ℕ) → Ok i → (k : ℕ) → Orderly (SaidAt i) (st i k)
+  unfolding at
+  orderly-run i h zero = fresh-orderly (SaidAt i) (G i)
+  orderly-run i h (suc k) =
+      let (o, q, w) = moves-of i h k in
+      let b = begun (event k) (st i k) in
+      moves-orderly (SaidAt i) b (st i (suc k)) o w (said-here i k o q (b .clock) (sym (begun-at i h k)))
+      (begun-orderly (SaidAt i) (event k) (st i k) (orderly-run i h k))
+
+  pub once-run : (i : ℕ) → Ok i → (k : ℕ) → Once (st i k .statements)
+  unfolding at fresh
+  once-run i h zero = tt
+  once-run i h (suc k) =
+      let (o, q, w) = moves-of i h k in
+      moves-once (begun (event k) (st i k)) (st i (suc k)) o w (subst Once (sym (begun-same (event k) (st i k) .3)) (once-run i h k))
+
+  pub view-run : (i : ℕ) → Ok i → (k : ℕ) → (firstView ≤ st i k .view) × (st i k .view ≤ lastView)
+  view-run i h k = past-range (SaidAt i) (orderly-run i h k .past)
+
+  blames-length : (i : ℕ) → Ok i → (k : ℕ) → length (st i k .blames) ≡ suc lastView
+  unfolding at fresh
+  blames-length i h k = kept-run i h 0 k (omega arith) .length
+
+  -- nobody waits past the tick of entry
+  pub prompt : (i : ℕ) → Ok i → (k q : ℕ) → st i k .phase ≡ waiting q → st i k .view < lastView → ck k ≤ q + D
+  unfolding at fresh
+  prompt i h zero q p l = no-phase (sym p)
+  prompt i h (suc k) q p l =
+      go (clock-suc n D event k) (at-clock i h (suc k)) (prompt i h k q)
+      (moves-late (begun (event k) (st i k)) (st i (suc k)) (moves-of i h k .0) (moves-of i h k .2) q p) (ticks-two (event k) (X .common k))
+    where
+      go : ck (suc k) ≡ ck k + ticks 0 (event k) → st i (suc k) .clock ≡ ck (suc k) → (st i k .phase ≡ waiting q → st i k .view < lastView → ck k ≤ q + D)
+          → (begun (event k) (st i k) .phase ≡ waiting q) ⊎ (q ≡ st i (suc k) .clock) → (ticks 0 (event k) ≡ 0) ⊎ ((ticks 0 (event k) ≡ 1) × (event k ≡ commonTick)) → ck (suc k) ≤ q + D
+      go c1 c2 f (inr e) t = omega arith
+      go c1 c2 f (inl e) (inl t) =
+          let v = kept-one i h k .view in let b = f (sym (begun-same (event k) (st i k) .1) ∙ e) (omega arith) in omega arith
+      go c1 c2 f (inl e) (inr (t, _)) =
+          let v = kept-one i h k .view in
+          let b = f (sym (begun-same (event k) (st i k) .1) ∙ e) (omega arith) in
+          let w = settled-waits (st i (suc k)) q (event-settled i (event k) (st i k) (X .common k) t (X .runs i h (suc k))) p l in
+          let d : st i (suc k) .settings .D ≡ D = ap (λ (g : Settings). g .D) (at-settings i h (suc k)) in
+          let u : ¬ (ck (suc k) ≡ q + D + 1) = λ z. w (rw d (c2 ∙ z)) in
+          omega arith
+
+  -- ---- L6, L8 along the run
+
+  given-of : (i : ℕ) (e : Event) (m : Message) → GivenBy i e m → (bs : List ℕ) × (e ≡ given i bs) × (read bs ≡ some m)
+  given-of i idle m r = absurd r
+  given-of i commonTick m r = absurd r
+  given-of i (tickOf j) m r = absurd r
+  given-of i (given j bs) m (q, r) = (bs, ap (λ (x : ℕ). given x bs) (sym q), r)
+  given-of i (offeredTo j b) m r = absurd r
+
+  offered-of : (i : ℕ) (e : Event) (s : State) (b : ℕ) (m : Message) → OfferedBy i e s b m → (e ≡ offeredTo i b) × (offered b s ≡ some m)
+  offered-of i idle s b m r = absurd r
+  offered-of i commonTick s b m r = absurd r
+  offered-of i (tickOf j) s b m r = absurd r
+  offered-of i (given j bs) s b m r = absurd r
+  offered-of i (offeredTo j c) s b m (q, p, r) = (ap (λ (x : ℕ). offeredTo x c) (sym q) ∙ ap (offeredTo i) (sym p), r)
+
+  given-right : (i : ℕ) → Ok i → (k : ℕ) (m : Message) → GivenBy i (event k) m → allowed (G i) m ≡ true → Right (G i) (VotedBy (ck (suc k))) parentOf m
+  given-right i ok k m r a =
+      let (bs, e, q) = given-of i (event k) m r in
+      let hands : Hands n D event faulty k i m = (ok, (bs, e, q), a) in
+      let bytes : Bytes bs = subst (IsLent n D event faulty) e (X .lent k) in
+      record {
+        allows = a;
+        named = fitting-named m (read-fits bs m bytes q);
+        backed = λ t c j b s.
+            let (l, u, w) = X .voters k i m hands t c j s b in
+            let o = clock-mono n D event (suc l) (suc k) (omega arith) in
+            (l, o, w);
+        parent = X .parents k i m (inl hands);
+      }
+
+  offers-known : (i : ℕ) → Ok i → (k b : ℕ) (m : Message) → OfferedBy i (event k) (st i k) b m → IsName b × Parented parentOf m
+  offers-known i ok k b m r =
+      let (e, q) = offered-of i (event k) (st i k) b m r in
+      (subst (IsLent n D event faulty) e (X .lent k), X .parents k i m (inr (ok, (b, e, q))))
+
+  known-here : (i k : ℕ) (e : Effect) → SaidAt i (ck (suc k)) e → Known (G i) (VotedBy (ck (suc k))) parentOf e
+  known-here i k (toAll (newView v h b c m a)) s = tt
+  known-here i k (toAll (propose v h b p m a)) s = tt
+  known-here i k (toAll (vote v h b a)) (l, c, s) = λ q ok. (l, omega arith, subst (λ (x : ℕ). Says n D event x l (toAll (vote v h b a))) (sym q) s)
+  known-here i k (toAll (blame v a)) s = tt
+  known-here i k (toAll (blameSet v m)) s = tt
+  known-here i k (toAll (status h b c m)) s = tt
+  known-here i k (toOne j m) s = tt
+  known-here i k (committed h b) s = tt
+
+  -- from the state at the begin of event k's moves to any that they reach
+  pub chain-proper : (i : ℕ) → Ok i → (k : ℕ) → Proper (G i) (VotedBy (ck k)) parentOf (st i k) → (t : State) (o : List Effect)
+      → Moves (Brings i (event k) (st i k)) (begun (event k) (st i k)) t o → All (SaidAt i (ck (suc k))) o → t .view ≤ lastView
+      → Proper (G i) (VotedBy (ck (suc k))) parentOf t × All (Sayable (G i) (VotedBy (ck (suc k))) parentOf) o
+  chain-proper i ok k p t o w s l =
+      let c = clock-mono n D event k (suc k) (omega arith) in
+      let later : (v h b j : ℕ) → VotedBy (ck k) v h b j → VotedBy (ck (suc k)) v h b j = λ v h b j f y. let (x, u, z) = f y in (x, omega arith, z) in
+      let q = proper-map (G i) (VotedBy (ck k)) (VotedBy (ck (suc k))) parentOf later (st i k) p in
+      let e = begun-same (event k) (st i k) .2 in
+      let r = view-run i ok k .0 in
+      moves-proper (G i) (VotedBy (ck (suc k))) parentOf (Brings i (event k) (st i k)) (ok .0) (given-right i ok k) (offers-known i ok k)
+      (begun (event k) (st i k)) t o w
+      (all-map (SaidAt i (ck (suc k))) (Known (G i) (VotedBy (ck (suc k))) parentOf) (known-here i k) o s) (omega arith) l
+      (begun-proper (G i) (VotedBy (ck (suc k))) parentOf (event k) (st i k) q)
+
+  pub proper-run : (i : ℕ) → Ok i → (k : ℕ) → Proper (G i) (VotedBy (ck k)) parentOf (st i k)
+  unfolding at
+  proper-run i ok zero = fresh-proper (G i) (VotedBy (ck 0)) parentOf
+  proper-run i ok (suc k) =
+      let (o, q, w) = moves-of i ok k in
+      chain-proper i ok k (proper-run i ok k) (st i (suc k)) o w (said-here i k o q (ck (suc k)) refl) (view-run i ok (suc k) .1) .0
+
+  -- what a sound station says to all can be read by each, and is allowed
+  pub said-allowed : (i j : ℕ) → Ok i → (k : ℕ) (m : Message) → Says n D event i k (toAll m) → (read (write m) ≡ some m) × (allowed (G j) m ≡ true)
+  said-allowed i j ok k m s =
+      let (o, q, w) = moves-of i ok k in
+      let a = chain-proper i ok k (proper-run i ok k) (st i (suc k)) o w (said-here i k o q (ck (suc k)) refl) (view-run i ok (suc k) .1) .1 in
+      let (p, r) = out-all (Sayable (G i) (VotedBy (ck (suc k))) parentOf) i ok k (λ h b. tt) a (toAll m) s in
+      let (odd, least, most, delay) = good-facts (G 0) (X .settings) in
+      (read-write m (allowed-fitting (G i) m (omega arith) most p r), sym (allowed-alike n D i j m) ∙ p)
+
+  -- ---- what is said to all is held by all, the sender too, before the tick D + 1 later
+
+  given-held : (j : ℕ) → Ok j → (h : ℕ) (m : Message) → event h ≡ given j (write m) → read (write m) ≡ some m → allowed (G j) m ≡ true
+      → Held (G j) (st j (suc h)) m
+  unfolding at
+  given-held j ok h m e r a =
+      let s = st j h in
+      let g = at-settings j ok h in
+      let z : happens j (event h) s .next ≡ step (write m) s .next =
+      ap (λ (y : Event). happens j y s .next) e ∙ ap (λ (o : Outcome). o .next) (happens-given j (write m) s) in
+      let run : running (step (write m) s .next) ≡ true = rw z at (X .runs j ok (suc h)) in
+      subst (λ (t : State). Held (G j) t m) (sym z)
+      (subst (λ (y : Settings). Held y (step (write m) s .next) m) g
+      (step-held (write m) m s (X .runs j ok h) r (subst (λ (y : Settings). allowed y m ≡ true) (sym g) a) (blames-length j ok h) run))
+
+  said-held : (i : ℕ) → Ok i → (l : ℕ) (m : Message) → Says n D event i l (toAll m) → Held (G i) (st i (suc l)) m
+  said-held i ok l m s =
+      let (o, q, w) = moves-of i ok l in
+      let b = begun (event l) (st i l) in
+      let t = st i (suc l) in
+      let g = begun-same (event l) (st i l) .0 ∙ at-settings i ok l in
+      let a = moves-said b t o w (begun-kept (event l) (st i l) .length ∙ blames-length i ok l) (view-run i ok (suc l) .1) in
+      subst (λ (y : Settings). Held y t m) g (out-all (HeldSaid (b .settings) t) i ok l (λ h c. tt) a (toAll m) s)
+
+  pub reach : (i j : ℕ) → Ok i → Ok j → (m : Message) (c k : ℕ) → SaidAt i c (toAll m) → c + D + 1 ≤ next k → Held (G j) (st j k) m
+  reach i j hi hj m c k (l, e, s) d =
+      let u = X .late k in
+      let (odd, least, most, delay) = good-facts (G 0) (X .settings) in
+      elim (ℕ-discrete i j) [
+        | yes q ↦ (
+            let b = clock-before n D event (suc l) k (omega arith) in
+            subst (λ (a : ℕ). Held (G a) (st a k) m) q
+            (held-kept (G i) (kept-run i hi (suc l) k (omega arith)) m (said-held i hi l m s)))
+        | no q ↦ (
+            let (h, lh, ev) = X .reaches i j hi hj q l k m s (omega arith) in
+            let (rd, al) = said-allowed i j hi l m s in
+            held-kept (G j) (kept-run j hj (suc h) k (omega arith)) m (given-held j hj h m ev rd al))
+      ]
+
+  -- ---- L4 in the run: a vote at event k
+
+  pub cast-run : (i : ℕ) → Ok i → (k v h b a : ℕ) → Says n D event i k (toAll (vote v h b a))
+      → Cast (SaidAt i) (Brings i (event k) (st i k)) (begun (event k) (st i k)) (st i (suc k)) v h b
+  cast-run i ok k v h b a m =
+      let (o, q, w) = moves-of i ok k in
+      let s = begun (event k) (st i k) in
+      let r = moves-cast (SaidAt i) s (st i (suc k)) o w (said-here i k o q (s .clock) (sym (begun-at i ok k)))
+      (begun-orderly (SaidAt i) (event k) (st i k) (orderly-run i ok k)) in
+      out-all (CastSaid (SaidAt i) (Brings i (event k) (st i k)) s (st i (suc k))) i ok k (λ h b. tt) r (toAll (vote v h b a)) m

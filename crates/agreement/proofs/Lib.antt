@@ -1,0 +1,15 @@
+pub mod Lineage
+pub mod Events
+pub mod Clock
+pub mod Group
+pub mod Follow
+pub mod Ripe
+pub mod Behind
+pub mod Extends
+pub mod Logs
+pub mod Ancestors
+pub mod Needed
+pub mod NoSplit
+pub mod Theorems
+pub mod Checked
+pub mod Examples

@@ -1,0 +1,45 @@
+-- Demand 3, of the rules of one station under every schedule. A: of the logs of two sound stations one begins the other, and each is
+-- one that a single clerk could have kept. B: who votes for a propose and stays commits it with all its ancestors. C: no sound
+-- station is ever stopped by a due commit. Assumes nothing.
+use mathlib.Core.Path.{_≡_, sym, ap, _∙_}
+use Prim.Native.Nat.{ℕ, suc, _+_, _*_}
+use mathlib.Core.List.{IsPrefix}
+use mathlib.Core.Logic.{_⊎_}
+use Rattle.rules.specs.Messages.{propose, vote, toAll}
+use Rattle.rules.specs.Words.{inView}
+use Rattle.rules.specs.Inputs.{reports}
+use Rattle.agreement.specs.Schedule.{Event, commonTick, at, clock, Says, Sound, SoundRun, Schedule, Linked, lineage, reported}
+use Rattle.agreement.proofs.Clock.{clock-alike}
+use Rattle.agreement.proofs.Group.{Group}
+use Rattle.agreement.proofs.Logs.{logs-begin, log-linked, log-reported}
+use Rattle.agreement.proofs.Ancestors.{commits-lineage}
+use Rattle.agreement.proofs.Needed.{to-group}
+use Rattle.agreement.proofs.NoSplit.{never-split}
+
+module _ (n D : ℕ) (event : ℕ → Event) (faulty : ℕ) (heightOf parentOf : ℕ → ℕ) (X : Schedule n D event faulty heightOf parentOf) where
+  -- Theorem C: a sound station is never stopped
+  pub sound-run : SoundRun n D event faulty
+  sound-run = never-split n D event faulty heightOf parentOf (X .premises) (X .room)
+
+  abbrev group : Group
+  group = to-group n D event faulty heightOf parentOf (X .premises) sound-run
+
+  -- Theorem A: of the logs of two sound stations, at whatever moments, one begins the other
+  pub logs-agree : (i j : ℕ) → Sound n D event faulty i → Sound n D event faulty j → (k l : ℕ)
+      → IsPrefix (at n D event i k .log) (at n D event j l .log) ⊎ IsPrefix (at n D event j l .log) (at n D event i k .log)
+  logs-agree i j hi hj k l = logs-begin group i j hi hj k l
+
+  -- a sound log is linked by parent to genesis, and was reported name by name, each once, in order, with heights 1, 2, 3, ..
+  pub one-clerk : (i : ℕ) → Sound n D event faulty i → (k : ℕ)
+      → Linked parentOf 0 (at n D event i k .log) × (reported n D event i k ≡ reports 1 (at n D event i k .log))
+  one-clerk i ok k = (log-linked group i ok k, log-reported group i ok k)
+
+  -- Theorem B: a sound station that says a propose and its vote at event j, at clock t, and is in that view as the tick to t+2D+1
+  -- begins, has that block and all its ancestors in its log after that tick
+  pub vote-commits : (r : ℕ) → Sound n D event faulty r → (j v h b p m a : ℕ)
+      → Says n D event r j (toAll (propose v h b p m a)) → Says n D event r j (toAll (vote v h b r))
+      → (k : ℕ) → event k ≡ commonTick → clock n D event r k ≡ clock n D event r (suc j) + 2 * D → at n D event r k .phase ≡ inView → at n D event r k .view ≡ v
+      → IsPrefix (lineage parentOf h b) (at n D event r (suc k) .log)
+  vote-commits r ok j v h b p m a s w k e d ph vw =
+      let alike = clock-alike n D event (X .premises .common) r in
+      commits-lineage group r j k v h b p m a (record { ok = ok; statement = s; ballot = w; tick = e; due = sym (alike k) ∙ d ∙ ap (_+ 2 * D) (alike (suc j)); phase = ph; view = vw })

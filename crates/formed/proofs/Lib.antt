@@ -1,0 +1,5 @@
+pub mod Walks
+pub mod Forms
+pub mod Blocks
+pub mod Parts
+pub mod Whole

@@ -1,0 +1,230 @@
+-- The parts of the definition that look at a header or at one record, as the code tests them. Assumes nothing.
+use Prim.Native.Nat.{ℕ, zero, suc, _+_, _-_, _*_, _^_, _<_, _≤_}
+use mathlib.Core.Path.{_≡_, refl, sym, ap, _∙_}
+use mathlib.Core.Bool.{Bool, true, false, not, _&&_, and-true, and-false}
+use mathlib.Core.List.{List, _∷_}
+use native.Mathlib.Omega.{arith}
+use native.Mathlib.Numerals.{add-one}
+use lib.ListN.{length}
+use lib.Dec.{leb, ltb, eqb}
+use borrow.Author.Tests.{lt-ltb, ltb-true, leb-true, ne-eqb, eq-eqb, not-true, not-false}
+use Rattle.rules.specs.Limits.{lastClock, firstView, lastView}
+use Rattle.rules.specs.Lists.{all, any, within}
+use Rattle.rules.specs.Sizes as sizes
+use Rattle.rules.specs.Sizes.{goodSettings, leader}
+use Rattle.rules.specs.Messages.{newView, propose, viewAllowed, blockAllowed, maskAllowed, certificateAllowed, allowed}
+use Rattle.rules.specs.Words as words
+use Rattle.rules.specs.Words.{message, ownBlock, certificate, sameBlock}
+use Rattle.rules.specs.Inputs.{isBlock}
+use Rattle.rules.specs.WellFormed.{isName, isMask, clocksInOrder, lockGood, statementGood, tallyGood, talliesThere, blamesGood, linked}
+use Rattle.rules.proofs.Tests.{by-bool, and-left, and-right}
+use Rattle.fields.specs.declared.Name.{Name}
+use Rattle.fields.specs.Names.{nameOf}
+use Rattle.fields.specs.Places.{Bytes, number}
+use Rattle.fields.proofs.Laws.{number-lt}
+use Rattle.fields.proofs.Names.{Words, name-lt}
+use Rattle.settings.specs.Made.{settingsOf, made}
+use Rattle.settings.specs.declared.Settings.{Settings}
+use Rattle.settings.specs.declared.Made.{Made}
+use Rattle.settings.specs.declared.Made.the-variants.{Good, Bad}
+use Rattle.wire.specs.Meaning.{statementOf}
+use Rattle.wire.specs.declared.Statement.{Statement}
+use Rattle.store.specs.Layout.{statementTable, placeOf}
+use Rattle.store.specs.Decode.{rows, voteOf, statementAt, voteAt, blameAt, blames, stateFrom}
+use Rattle.store.specs.Meaning.{courseOf, tallyOf, headerOf}
+use Rattle.store.specs.declared.Phase.{Phase}
+use Rattle.store.specs.declared.Station.{Station}
+use Rattle.store.specs.declared.Tally.{Tally}
+use Rattle.store.proofs.Values.{number-phase}
+use Rattle.store.proofs.Rows.{rows-length, rows-from}
+use Rattle.formed.specs.Lent.{alone, bare, phaseInOrder, voteInOrder, isLink, Certifies}
+use Rattle.formed.proofs.Walks.{rows-end}
+
+-- four words are a name
+pub words-name : (n : Name) → Words n → isName (nameOf n) ≡ true
+unfolding isName
+words-name n w = lt-ltb _ _ (name-lt n (w .0 .fits) (w .1 .0 .fits) (w .1 .1 .0 .fits) (w .1 .1 .1 .0 .fits))
+
+-- ---- settings
+
+module _ (g : Settings) (m : Made) (e : m ≡ made (g .n) (g .delay) (g .own)) where
+  pub made-good : (h : Settings) → m ≡ Good h → true ≡ goodSettings (settingsOf g)
+  unfolding made
+  made-good h q = by-bool (goodSettings (settingsOf g)) sym (λ p. let z : Bad ≡ Good h = sym (e ∙ rw p) ∙ q in let y : _≡_ {A = ℕ} 0 1 = cc in absurd (omega arith))
+
+  pub made-bad : m ≡ Bad → false ≡ goodSettings (settingsOf g)
+  unfolding made
+  made-bad q = by-bool (goodSettings (settingsOf g)) (λ p. let z : Good (record { n = g .n; delay = g .delay; own = g .own }) ≡ Bad = sym (e ∙ rw p) ∙ q in let y : _≡_ {A = ℕ} 0 1 = cc in absurd (omega arith)) sym
+
+-- ---- clocks
+
+pub phase-is : (entry clock : ℕ) (p q : Phase) → p ≡ q → phaseInOrder entry clock (courseOf q) ≡ phaseInOrder entry clock (courseOf p)
+phase-is entry clock p q e = ap (λ (x : Phase). phaseInOrder entry clock (courseOf x)) (sym e)
+
+pub clocks-are : (s : Station) → (leb (s .entry) (s .clock) && leb (s .clock) lastClock && phaseInOrder (s .entry) (s .clock) (courseOf (s .phase))) ≡ clocksInOrder (alone s)
+unfolding clocksInOrder phaseInOrder stateFrom headerOf
+clocks-are s = rw (number-phase (courseOf (s .phase)))
+
+-- ---- the lock, a tally
+
+pub lock-is : (s : Station) → Words (s .lock .name)
+    → (ltb (s .lock .view) (s .view) && blockAllowed (s .lock .height) (nameOf (s .lock .name)) && certificateAllowed (settingsOf (s .settings)) (s .lock .height) (s .lock .view) (s .lock .mask))
+    ≡ lockGood (alone s)
+unfolding lockGood stateFrom headerOf
+lock-is s w = rw (words-name (s .lock .name) w, and-true)
+
+pub tally-is : (g : Settings) (t : Tally) → Words (t .name)
+    → (viewAllowed (t .view) && blockAllowed (t .height) (nameOf (t .name)) && ltb (t .mask) (2 ^ g .n)) ≡ tallyGood (settingsOf g) (tallyOf t)
+unfolding tallyGood tallyOf isMask
+tally-is g t w = rw (words-name (t .name) w, and-true)
+
+-- ---- a statement
+
+pub vote-none : (clock v : ℕ) → v ≡ 0 → true ≡ voteInOrder clock (voteOf v)
+unfolding voteInOrder
+vote-none clock v e = rw e
+
+pub vote-some : (clock v : ℕ) → (v ≡ 0 → ⊥) → leb (v - 1) clock ≡ voteInOrder clock (voteOf v)
+unfolding voteInOrder
+vote-some clock zero d = absurd (d refl)
+vote-some clock (suc c) d = ap (λ (k : ℕ). leb k clock) (omega arith)
+
+stored-name : (b : List ℕ) → Bytes b → (at : ℕ) → isName (number b at 32) ≡ true
+unfolding isName
+stored-name b bytes at = lt-ltb _ _ (number-lt b bytes at 32)
+
+module _ (b : List ℕ) (i : ℕ) (x : Statement) (e : statementOf x (statementAt b i .voted) ≡ statementAt b i) where
+  abbrev y : words.Statement
+  y = statementAt b i
+
+  -- the message is the same whatever the vote
+  said : message (bare x) ≡ message y
+  unfolding message statementOf
+  said = ap message e
+
+  pub statement-is : (s : Station) → Bytes b
+      → (allowed (settingsOf (s .settings)) (message (bare x)) && voteInOrder (s .clock) (voteOf (voteAt b i))) ≡ statementGood (alone s) y
+  unfolding statementGood voteInOrder statementAt voteAt stateFrom headerOf
+  statement-is s bytes = rw said (simp (stored-name b bytes, and-true))
+
+  pub certifies-bare : Certifies y → Certifies (bare x)
+  unfolding statementOf
+  certifies-bare h = let g : Certifies (statementOf x (y .voted)) = rw e h in record { view = g .view; height = g .height }
+
+  pub there-bare : (ts : List words.Tally) → talliesThere ts (bare x) ≡ talliesThere ts y
+  unfolding talliesThere ownBlock certificate statementOf
+  there-bare ts = ap (talliesThere ts) e
+
+-- what an allowed statement's certificate is
+module _ (g : sizes.Settings) (v h b l m a : ℕ) where
+  new-view-link : allowed g (newView v h b l m a) ≡ true → l < 256 ^ 4
+  unfolding allowed viewAllowed within
+  new-view-link e =
+      let view = viewAllowed v in
+      let block = blockAllowed h b in
+      let below = ltb l v in
+      let rest = certificateAllowed g h l m in
+      let p = and-left (view && block && below) rest (and-left (view && block && below && rest) (eqb a (leader g v)) e) in
+      let q = and-left view block (and-left (view && block) below p) in
+      omega (arith, ltb-true l v (and-right (view && block) below p), leb-true v lastView (and-right (leb firstView v) _ q))
+
+  propose-height : allowed g (propose v h b l m a) ≡ true → 1 ≤ h
+  unfolding allowed
+  propose-height e =
+      let view = viewAllowed v in
+      let high = leb 1 h in
+      let block = blockAllowed h b in
+      let parent = blockAllowed (h - 1) l in
+      let mask = maskAllowed g m in
+      let p = and-left (view && high && block && parent) mask (and-left (view && high && block && parent && mask) (eqb a (leader g v)) e) in
+      leb-true 1 h (and-right view high (and-left (view && high) block (and-left (view && high && block) parent p)))
+
+pub good-certifies : (s : words.State) (x : words.Statement) → statementGood s x ≡ true → Certifies x
+unfolding statementGood message
+good-certifies s x e =
+    let said = allowed (s .settings) (message x) in
+    let p = and-left said (isName (x .name)) (and-left (said && isName (x .name)) (isName (x .link)) (and-left (said && isName (x .name) && isName (x .link)) _ e)) in
+    record {
+      view = λ k. new-view-link (s .settings) (x .view) (x .height) (x .name) (x .link) (x .mask) (x .author) (rw (k, message) at p);
+      height = λ k. propose-height (s .settings) (x .view) (x .height) (x .name) (x .link) (x .mask) (x .author) (rw (k, message) at p);
+    }
+
+-- ---- its certificate
+
+link-view : (l : Name) → nameOf l < 256 ^ 4 → l .fourth ≡ nameOf l
+unfolding nameOf
+link-view l h = low ((l .first * 2 ^ 64 + l .second) * 2 ^ 64 + l .third) (l .fourth) h
+  where
+    low : (n x : ℕ) → n * 2 ^ 64 + x < 256 ^ 4 → x ≡ n * 2 ^ 64 + x
+    low n x h = omega arith
+
+module _ (x : Statement) (h : Certifies (bare x)) where
+  pub certificate-view : x .«is_new_view» ≡ true → x .link .fourth < 256 ^ 4
+  unfolding statementOf
+  certificate-view e = rw (link-view (x .link) (h .view e)) (h .view e)
+
+  pub certificate-new-view : x .«is_new_view» ≡ true
+      → tallyOf (record { view = x .link .fourth; height = x .height; name = x .name; mask = x .mask }) ≡ certificate (bare x)
+  unfolding tallyOf certificate statementOf
+  certificate-new-view e = rw (link-view (x .link) (h .view e), e, certificate)
+
+  pub certificate-propose : x .«is_new_view» ≡ false
+      → tallyOf (record { view = x .view; height = x .height - 1; name = x .link; mask = x .mask }) ≡ certificate (bare x)
+  unfolding tallyOf certificate statementOf
+  certificate-propose e = rw (e, certificate)
+
+-- ---- its tallies
+
+module _ (ts us : List words.Tally) (w : ts ≡ us) (x : words.Statement) (a : Bool) (p : a ≡ any (sameBlock (ownBlock x 0)) us) where
+  own : (b : Bool) → a ≡ b → any (sameBlock (ownBlock x 0)) ts ≡ b
+  own b e = ap (any (sameBlock (ownBlock x 0))) w ∙ sym p ∙ e
+
+  pub there-missing : not a ≡ true → false ≡ talliesThere ts x
+  unfolding talliesThere
+  there-missing e = rw (own false (not-true a e))
+
+  module _ (t : words.Tally) (q : t ≡ certificate x) (e : not a ≡ false) where
+    pub there-genesis : t .view ≡ 0 → true ≡ talliesThere ts x
+    unfolding talliesThere
+    there-genesis z = rw (own true (not-false a e), ← q, z)
+
+    pub there-both : (t .view ≡ 0 → ⊥) → any (sameBlock t) us ≡ talliesThere ts x
+    unfolding talliesThere
+    there-both d = rw (own true (not-false a e), ← q, ne-eqb _ _ d, w)
+
+-- ---- blame masks
+
+masks-are : (g : sizes.Settings) (ms : List ℕ) → length ms ≡ lastView → blamesGood g (0 ∷ ms) ≡ all (isMask g) ms
+unfolding blamesGood
+masks-are g ms e = rw e
+
+pub blames-are : (g : sizes.Settings) (b : List ℕ) → blamesGood g (blames b) ≡ all (isMask g) (rows (blameAt b) 0 lastView)
+unfolding blames
+blames-are g b = masks-are g (rows (blameAt b) 0 lastView) (rows-length (blameAt b) 0 lastView)
+
+-- ---- the log
+
+module _ (b : List ℕ) (i h name parent : ℕ) where
+  pub link-differs : (h ≡ number b (placeOf statementTable i + 4) 4 → ⊥) → false ≡ isLink h name parent (statementAt b i)
+  unfolding isLink isBlock statementAt
+  link-differs d = rw (ne-eqb _ _ d, and-false)
+
+  pub link-agrees : h ≡ number b (placeOf statementTable i + 4) 4 → (z : Statement) → statementOf z (statementAt b i .voted) ≡ statementAt b i
+      → (n p : Bool) → n ≡ eqb name (nameOf (z .name)) → p ≡ eqb parent (nameOf (z .link)) → (not (z .«is_new_view») && n && p) ≡ isLink h name parent (statementAt b i)
+  unfolding isLink isBlock statementAt statementOf
+  link-agrees e z q n p en ep =
+      rw (en, ep, ap (λ (x : words.Statement). x .isNewView) q, ap (λ (x : words.Statement). x .name) q, ap (λ (x : words.Statement). x .link) q, eq-eqb _ _ e, and-true)
+
+module _ (xs : List words.Statement) (f : ℕ → ℕ) (n i parent : ℕ) where
+  pub linked-end : n ≤ i → linked xs i parent (rows f i (n - i)) ≡ true
+  unfolding linked
+  linked-end h = ap (linked xs i parent) (rows-end f n i h)
+
+  module _ (h : i < n) (m : ℕ) (e : m ≡ f i) where
+    pub linked-here : any (isLink (i + 1) m parent) xs ≡ false → linked xs i parent (rows f i (n - i)) ≡ false
+    unfolding linked isLink
+    linked-here t = ap (linked xs i parent) (rows-from f i n h) ∙ rw (← e, ← add-one i, t)
+
+    pub linked-next : any (isLink (i + 1) m parent) xs ≡ true → linked xs i parent (rows f i (n - i)) ≡ linked xs (i + 1) m (rows f (i + 1) (n - (i + 1)))
+    unfolding linked isLink
+    linked-next t = ap (linked xs i parent) (rows-from f i n h) ∙ rw (← e, ← add-one i, t)

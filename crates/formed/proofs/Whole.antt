@@ -1,0 +1,127 @@
+-- The whole definition by its parts, and what the answer says of decoding. Assumes nothing.
+use Prim.Native.Nat.{ℕ, _≤_}
+use mathlib.Core.Path.{_≡_, refl, sym, ap, _∙_}
+use mathlib.Core.Bool.{Bool, true, false, not, _&&_, and-true}
+use mathlib.Core.List.{List}
+use mathlib.Core.Option.{none, some}
+use native.Mathlib.Omega.{arith}
+use lib.ListN.{length}
+use borrow.Author.Tests.{le-leb, not-true, not-false}
+use Rattle.rules.specs.Limits.{mostStatements, mostTallies}
+use Rattle.rules.specs.Lists.{all, distinct}
+use Rattle.rules.specs.Sizes.{goodSettings}
+use Rattle.rules.specs.Messages.{viewAllowed}
+use Rattle.rules.specs.Words.{Statement, sameStatement, Tally, sameBlock}
+use Rattle.rules.specs.WellFormed.{clocksInOrder, lockGood, statementGood, tallyGood, talliesThere, blamesGood, linked, wellFormed}
+use Rattle.rules.proofs.Tests.{and-left, and-right}
+use Rattle.fields.specs.Records.{fields}
+use Rattle.settings.specs.Made.{settingsOf}
+use Rattle.store.specs.Layout.{headerFormat, storeLength, statementTable, countOf}
+use Rattle.store.specs.Decode.{statementAt, tallyAt, statements, tallies, blames, names, stateFrom, stateOf, hasForm, decode}
+use Rattle.store.specs.Meaning.{headerOf}
+use Rattle.store.specs.declared.Station.{Station}
+use Rattle.store.proofs.Rows.{rows-length, rows-all}
+use Rattle.formed.specs.Lent.{Lent, Counts, Ready, AllCertify, alone, tablesGood}
+use Rattle.formed.proofs.Forms.{form-tables, counts-statements, counts-tallies, counts-log}
+use Rattle.formed.proofs.Parts.{good-certifies}
+
+abbrev pub headerGood : Station → Bool
+headerGood s = goodSettings (alone s .settings) && viewAllowed (alone s .view) && clocksInOrder (alone s) && lockGood (alone s)
+
+-- a header looks at no table, a table at no more of the header than settings and clock
+parts-are : (s : Station) (xs : List Statement) (ts : List Tally) (ms l : List ℕ) → length xs ≤ mostStatements → length ts ≤ mostTallies
+    → (headerGood s && all (statementGood (alone s)) xs && distinct sameStatement xs && all (tallyGood (settingsOf (s .settings))) ts && distinct sameBlock ts
+    && all (talliesThere ts) xs && blamesGood (settingsOf (s .settings)) ms && linked xs 0 0 l)
+    ≡ wellFormed (stateFrom (headerOf s) xs ts ms l)
+unfolding wellFormed clocksInOrder lockGood statementGood stateFrom headerOf
+parts-are s xs ts ms l p q = simp (le-leb _ _ p, le-leb _ _ q, and-true)
+
+state-is : (b : List ℕ) → stateOf b ≡ stateFrom (fields b 0 headerFormat) (statements b) (tallies b) (blames b) (names b)
+unfolding stateOf
+state-is b = refl
+
+grouped : (x a b c d e : Bool) → (x && (a && b && c && d && e)) ≡ (x && a && b && c && d && e)
+grouped true a b c d e = refl
+grouped false a b c d e = refl
+
+pub formless : (b : List ℕ) (r : Bool) → r ≡ hasForm b → not r ≡ true → false ≡ (hasForm b && wellFormed (stateOf b))
+formless b r e n = rw (sym e ∙ not-true r n)
+
+-- a store of the exact length, its station, and that it has the form, as the code tests it
+module _ (b : List ℕ) (s : Station) (long : length b ≡ storeLength) (holds : headerOf s ≡ fields b 0 headerFormat) (o : Bool) (oe : o ≡ hasForm b) (on : not o ≡ false) where
+  h : Lent b s
+  h = record { long = long; holds = holds }
+
+  f : hasForm b ≡ true
+  f = sym oe ∙ not-false o on
+
+  pub counted : Counts statementTable b (s .statements)
+  counted = counts-statements b s h (form-tables b s h f)
+
+  few-statements : length (statements b) ≤ mostStatements
+  unfolding statements
+  few-statements = rw (rows-length (statementAt b) 0, ← counted .is) (counted .room)
+
+  few-tallies : length (tallies b) ≤ mostTallies
+  unfolding tallies
+  few-tallies =
+      let k = counts-tallies b s h (form-tables b s h f) in
+      rw (rows-length (tallyAt b) 0, ← k .is) (k .room)
+
+  abbrev good : Bool
+  good = all (statementGood (alone s)) (statements b)
+
+  abbrev apart : Bool
+  apart = distinct sameStatement (statements b)
+
+  abbrev rest : Bool
+  rest = tablesGood (settingsOf (s .settings)) b
+
+  formed-is : (headerGood s && good && apart && rest) ≡ (hasForm b && wellFormed (stateOf b))
+  unfolding tablesGood
+  formed-is =
+      let g = settingsOf (s .settings) in
+      let xs = statements b in
+      let ts = tallies b in
+      let whole = wellFormed (stateOf b) in
+      grouped (headerGood s && good && apart) (all (tallyGood g) ts) (distinct sameBlock ts) (all (talliesThere ts) xs) (blamesGood g (blames b)) (linked xs 0 0 (names b))
+      ∙ parts-are s xs ts (blames b) (names b) few-statements few-tallies
+      ∙ ap (λ (vs : List ℕ). wellFormed (stateFrom vs xs ts (blames b) (names b))) holds
+      ∙ ap wellFormed (sym (state-is b))
+      ∙ ap (_&& whole) (sym f)
+
+  certify : good ≡ true → AllCertify b (s .statements)
+  unfolding statements
+  certify e i l = good-certifies (alone s) (statementAt b i) (rows-all (statementGood (alone s)) (statementAt b) 0 (countOf statementTable b) e i (omega arith) (omega (arith, counted .is)))
+
+  -- as the code tests them
+  module _ (x y z : Bool) (p : x ≡ headerGood s) (q : y ≡ good) (r : z ≡ apart) where
+    tests : (x && y && z) ≡ (headerGood s && good && apart)
+    tests = rw (p, q, r)
+
+    pub ready : not (x && y && z) ≡ false → Ready b s
+    ready e =
+        let k = form-tables b s h f in
+        record {
+          statements = counted;
+          tallies = counts-tallies b s h k;
+          log = counts-log b s h k;
+          certify = certify (and-right (headerGood s) good (and-left (headerGood s && good) apart (sym tests ∙ not-false (x && y && z) e)));
+        }
+
+    pub formed-not : not (x && y && z) ≡ true → false ≡ (hasForm b && wellFormed (stateOf b))
+    formed-not e = ap (_&& rest) (sym (not-true (x && y && z) e) ∙ tests) ∙ formed-is
+
+    pub formed-then : not (x && y && z) ≡ false → rest ≡ (hasForm b && wellFormed (stateOf b))
+    formed-then e = ap (_&& rest) (sym (not-false (x && y && z) e) ∙ tests) ∙ formed-is
+
+-- ---- for callers
+
+-- a store that is well formed decodes to its state, any other to none
+pub formed-decoded : (b : List ℕ) (r : Bool) → r ≡ (hasForm b && wellFormed (stateOf b)) → r ≡ true → decode b ≡ some (stateOf b)
+unfolding decode
+formed-decoded b r e t = rw (sym e ∙ t, decode)
+
+pub unformed-decoded : (b : List ℕ) (r : Bool) → r ≡ (hasForm b && wellFormed (stateOf b)) → r ≡ false → decode b ≡ none
+unfolding decode
+unformed-decoded b r e t = rw (sym e ∙ t, decode)

@@ -1,0 +1,66 @@
+-- `formed::tallies::distinct` meets its contract. Assumes nothing.
+use Prim.Native.Nat.{_-_}
+use mathlib.Core.Path.{_≡_, sym, ap, _∙_}
+use Rattle.rules.specs.Words.{sameBlock}
+use Rattle.rules.specs.Lists.{distinct}
+use Rattle.store.specs.Decode.{rows, tallyAt, tallies}
+use Rattle.formed.proofs.Walks.{rows-whole, distinct-end, distinct-here, distinct-next}
+use borrow.Author.Needs.{needs}
+use Rattle.formed.proofs.tallies.distinct.Statement.{statement}
+use Rattle.formed.proofs.tallies.distinct.Tie as tie
+
+abbrev Inv-loop : tie.InvT-loop
+Inv-loop store count i₀ i =
+    distinct sameBlock (tallies store) ≡ distinct sameBlock (rows (tallyAt store) i (count - i))
+
+abbrev μ-loop : tie.MeasureT-loop
+μ-loop store count i₀ i =
+    count - i
+
+loop-holds : tie.Need-loop-holds Inv-loop μ-loop
+unfolding tallies
+loop-holds c =
+    ap (distinct sameBlock) (rows-whole (tallyAt _) _ _ (c .before .pre .is))
+
+tally-at-requires : tie.Need-tally-at-requires Inv-loop μ-loop
+tally-at-requires c κs = search needs
+
+add-has-tally : tie.Need-add-has-tally Inv-loop μ-loop
+add-has-tally c = search needs
+
+has-tally-requires : tie.Need-has-tally-requires Inv-loop μ-loop
+has-tally-requires c κs = search needs
+
+returns : tie.Need-returns Inv-loop μ-loop
+returns c =
+    sym (c .before .before .before .before .loop .inv ∙ distinct-here (tallyAt _) _ _ _ (c .before .before .before .loop-test .taken) _ (c .before .before .tally-at .ensures) (sym (c .before .has-tally .ensures) ∙ c .if1 .taken))
+
+add-i : tie.Need-add-i Inv-loop μ-loop
+add-i c = search needs
+
+loop-less : tie.Need-loop-less Inv-loop μ-loop
+loop-less c = search needs
+
+loop-again : tie.Need-loop-again Inv-loop μ-loop
+loop-again c =
+    c .before .before .before .before .loop .inv ∙ distinct-next (tallyAt _) _ _ _ (c .before .before .before .loop-test .taken) _ (c .before .before .tally-at .ensures) (sym (c .before .has-tally .ensures) ∙ c .if1 .left)
+
+returns-2 : tie.Need-returns-2 Inv-loop μ-loop
+returns-2 c =
+    sym (c .before .loop .inv ∙ distinct-end (tallyAt _) _ _ _ (c .loop-test .left))
+
+pub distinct-spec : {M : Type 1} → statement M
+distinct-spec =
+    tie.close
+    (tie.spec
+    Inv-loop
+    μ-loop
+    loop-holds
+    tally-at-requires
+    add-has-tally
+    has-tally-requires
+    returns
+    add-i
+    loop-less
+    loop-again
+    returns-2)

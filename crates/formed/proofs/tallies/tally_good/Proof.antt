@@ -1,0 +1,35 @@
+-- `formed::tallies::tally_good` meets its contract. Assumes nothing.
+use Rattle.formed.proofs.Parts.{tally-is}
+use borrow.Author.Needs.{needs}
+use Rattle.formed.proofs.tallies.tally_good.Statement.{statement}
+use Rattle.formed.proofs.tallies.tally_good.Tie as tie
+
+cast-block-allowed : tie.Need-cast-block-allowed
+cast-block-allowed c = search needs
+
+block-allowed-requires : tie.Need-block-allowed-requires
+block-allowed-requires c κs = search needs
+
+cast-view-allowed : tie.Need-cast-view-allowed
+cast-view-allowed c = search needs
+
+view-allowed-requires : tie.Need-view-allowed-requires
+view-allowed-requires c κs = search needs
+
+mask-within-requires : tie.Need-mask-within-requires
+mask-within-requires c κs = search needs
+
+returns : tie.Need-returns
+returns c =
+    rw (c .before .before .before .block-allowed .ensures, c .before .view-allowed .ensures, c .mask-within .ensures) (tally-is (c .before .before .before .before .before .before .args .settings) (c .before .before .before .before .before .before .args .tally) (c .before .before .before .before .struct-known .given .1 .1 .0))
+
+pub tally-good-spec : {M : Type 1} → statement M
+tally-good-spec =
+    tie.close
+    (tie.spec
+    cast-block-allowed
+    block-allowed-requires
+    cast-view-allowed
+    view-allowed-requires
+    mask-within-requires
+    returns)

@@ -1,0 +1,55 @@
+-- `formed::well_formed` meets its contract. Assumes nothing.
+use mathlib.Core.Path.{_∙_}
+use Rattle.formed.proofs.Whole.{formless, counted, ready, formed-not, formed-then}
+use borrow.Author.Needs.{needs}
+use Rattle.formed.proofs.well_formed.Statement.{statement}
+use Rattle.formed.proofs.well_formed.Tie as tie
+
+load-requires : tie.Need-load-requires
+load-requires c κs = search needs
+
+has-form-requires : tie.Need-has-form-requires
+has-form-requires c κs =
+    record { long = c .before .before .pre; holds = c .load .ensures }
+
+returns : tie.Need-returns
+returns c =
+    formless _ _ (c .before .has-form .ensures) (c .if1 .taken)
+
+header-good-requires : tie.Need-header-good-requires
+header-good-requires c κs = search needs
+
+all-good-requires : tie.Need-all-good-requires
+all-good-requires c κs =
+    counted _ (c .before .before .before .load .result) (c .before .before .before .before .before .pre) (c .before .before .before .load .ensures) _ (c .before .before .has-form .ensures) (c .before .if1 .left)
+
+distinct-requires : tie.Need-distinct-requires
+distinct-requires c κs =
+    counted _ (c .before .before .before .before .load .result) (c .before .before .before .before .before .before .pre) (c .before .before .before .before .load .ensures) _ (c .before .before .before .has-form .ensures) (c .before .before .if1 .left)
+
+returns-2 : tie.Need-returns-2
+returns-2 c =
+    formed-not _ (c .before .before .before .before .before .before .load .result) (c .before .before .before .before .before .before .before .before .pre) (c .before .before .before .before .before .before .load .ensures) _ (c .before .before .before .before .before .has-form .ensures) (c .before .before .before .before .if1 .left) _ _ _ (c .before .before .before .header-good .ensures) (c .before .before .all-good .ensures) (c .before .distinct .ensures) (c .if2 .taken)
+
+tables-good-requires : tie.Need-tables-good-requires
+tables-good-requires c κs =
+    ready _ (c .before .before .before .before .before .before .load .result) (c .before .before .before .before .before .before .before .before .pre) (c .before .before .before .before .before .before .load .ensures) _ (c .before .before .before .before .before .has-form .ensures) (c .before .before .before .before .if1 .left) _ _ _ (c .before .before .before .header-good .ensures) (c .before .before .all-good .ensures) (c .before .distinct .ensures) (c .if2 .left)
+
+returns-3 : tie.Need-returns-3
+returns-3 c =
+    c .tables-good .ensures
+    ∙ formed-then _ (c .before .before .before .before .before .before .before .load .result) (c .before .before .before .before .before .before .before .before .before .pre) (c .before .before .before .before .before .before .before .load .ensures) _ (c .before .before .before .before .before .before .has-form .ensures) (c .before .before .before .before .before .if1 .left) _ _ _ (c .before .before .before .before .header-good .ensures) (c .before .before .before .all-good .ensures) (c .before .before .distinct .ensures) (c .before .if2 .left)
+
+pub well-formed-spec : {M : Type 1} → statement M
+well-formed-spec =
+    tie.close
+    (tie.spec
+    load-requires
+    has-form-requires
+    returns
+    header-good-requires
+    all-good-requires
+    distinct-requires
+    returns-2
+    tables-good-requires
+    returns-3)

@@ -1,0 +1,84 @@
+-- A lent store, and the station that its header holds. Assumes nothing.
+use Prim.Native.Nat.{ℕ, _+_, _*_, _-_, _^_, _≤_, _<_}
+use mathlib.Core.Path.{_≡_}
+use mathlib.Core.Bool.{Bool, true, false, _&&_}
+use mathlib.Core.List.{List, []}
+use mathlib.Core.Option.{Option, none, some}
+use lib.ListN.{length}
+use lib.Dec.{leb, eqb}
+use Rattle.rules.specs.Lists.{all, distinct, within}
+use Rattle.rules.specs.Sizes.{Settings}
+use Rattle.rules.specs.Words as words
+use Rattle.rules.specs.Words.{sameBlock}
+use Rattle.rules.specs.WellFormed.{tallyGood, talliesThere, blamesGood, linked}
+use Rattle.rules.specs.Inputs.{isBlock}
+use Rattle.fields.specs.Places.{number}
+use Rattle.fields.specs.Records.{fields}
+use Rattle.wire.specs.Meaning.{statementOf}
+use Rattle.wire.specs.declared.Statement.{Statement}
+use Rattle.store.specs.Layout.{headerFormat, storeLength, Table, statementTable, tallyTable, logTable, countOf}
+use Rattle.store.specs.Decode.{statementAt, statements, tallies, blames, names, stateFrom}
+use Rattle.store.specs.Meaning.{headerOf}
+use Rattle.store.specs.declared.Station.{Station}
+
+-- any bytes of the exact length
+pub record Lent (b : List ℕ) (s : Station) : Type 0 where
+  pub long : length b ≡ storeLength
+  pub holds : headerOf s ≡ fields b 0 headerFormat
+
+-- the same, with a table's count, in range
+pub record Counts (t : Table) (b : List ℕ) (count : ℕ) : Type 0 where
+  pub long : length b ≡ storeLength
+  pub is : count ≡ countOf t b
+  pub room : count ≤ t .room
+
+-- the count of a table's records is in range, and the unused ones are zero
+unfoldable pub fits : List ℕ → ℕ → ℕ → ℕ → ℕ → Bool
+fits b base size room count = leb count room && eqb (number b (base + size * count) (size * room - size * count)) 0
+
+-- the record at a place begins with this view, height and name
+unfoldable pub begins : List ℕ → ℕ → ℕ → ℕ → ℕ → Bool
+begins b at view height name = eqb view (number b at 4) && eqb height (number b (at + 4) 4) && eqb name (number b (at + 8) 32)
+
+-- a statement as it was received
+abbrev pub bare : Statement → words.Statement
+bare x = statementOf x none
+
+-- a station without its tables
+abbrev pub alone : Station → words.State
+alone s = stateFrom (headerOf s) [] [] [] []
+
+-- a quit, if waiting, is from the entry to the clock
+unfoldable pub phaseInOrder : ℕ → ℕ → words.Phase → Bool
+unfolding within
+phaseInOrder entry clock p = elim p [ words.inView ↦ true | words.waiting q ↦ within entry clock q | words.stopped c ↦ true ]
+
+-- a vote, if any, was not after the clock
+unfoldable pub voteInOrder : ℕ → Option ℕ → Bool
+voteInOrder clock v = elim v [ none ↦ true | some c ↦ leb c clock ]
+
+-- a stored propose of this height, name and parent
+unfoldable pub isLink : ℕ → ℕ → ℕ → words.Statement → Bool
+unfolding isBlock
+isLink height name parent x = isBlock height name x && eqb parent (x .link)
+
+-- a statement's certificate is a tally: its view is a number of four bytes, its height is not below 0
+pub record Certifies (x : words.Statement) : Type 0 where
+  pub view : x .isNewView ≡ true → x .link < 256 ^ 4
+  pub height : x .isNewView ≡ false → 1 ≤ x .height
+
+abbrev pub AllCertify : List ℕ → ℕ → Type 0
+AllCertify b n = (i : ℕ) → i < n → Certifies (statementAt b i)
+
+-- the same, with every table's count in range and statements that certify
+pub record Ready (b : List ℕ) (s : Station) : Type 0 where
+  pub statements : Counts statementTable b (s .statements)
+  pub tallies : Counts tallyTable b (s .tallies)
+  pub log : Counts logTable b (s .logged)
+  pub certify : AllCertify b (s .statements)
+
+-- the parts of the definition after the statements
+unfoldable pub tablesGood : Settings → List ℕ → Bool
+tablesGood g b =
+    all (tallyGood g) (tallies b) && distinct sameBlock (tallies b) && all (talliesThere (tallies b)) (statements b)
+    && blamesGood g (blames b) && linked (statements b) 0 0 (names b)

@@ -1,0 +1,68 @@
+// The check that a lent store is well formed, part by part in the order of the definition.
+// Any bytes of a store's length are taken; parts after the form know that the counts are in range.
+ghost use mathlib.Core.Path.{_≡_};
+ghost use mathlib.Core.Bool.{_&&_};
+ghost use lib.ListN.{length};
+ghost use Rattle.rules.specs.WellFormed.{wellFormed};
+ghost use Rattle.settings.specs.Made.{settingsOf};
+ghost use Rattle.store.specs.Layout.{storeLength};
+ghost use Rattle.store.specs.Decode.{stateOf, hasForm};
+ghost use Rattle.formed.specs.Lent.{Ready, tablesGood};
+use store::Station;
+
+mod blames;
+mod form;
+mod header;
+mod log;
+mod records;
+mod statements;
+mod tallies;
+
+// Where each table begins, and the size of its records.
+const STATEMENTS: usize = 68;
+
+const STATEMENT_SIZE: usize = 80;
+
+const TALLIES: usize = 10_308;
+
+const TALLY_SIZE: usize = 42;
+
+const LOG: usize = 21_124;
+
+const NAME_SIZE: usize = 32;
+
+// Where height and name are in a record that begins with a view.
+const HEIGHT: usize = 4;
+
+const NAME: usize = 8;
+
+// Whether tallies, blame masks and log are well formed, where the statements are.
+fn tables_good(store: &[u8], station: Station) -> bool
+    requires { ⌜ Ready (now store) station ⌝ }
+    ensures { λ r. ⌜ r ≡ tablesGood (settingsOf (station .settings)) (now (store .entry)) ⌝ }
+{
+    let settings = station.settings;
+    tallies::all_good(store, settings, station.tallies)
+        & tallies::distinct(store, station.tallies)
+        & tallies::all_there(store, station.tallies, station.statements)
+        & blames::all_good(store, settings)
+        & log::is_linked(store, station.logged, station.statements)
+}
+
+// Whether a store of the exact length is well formed.
+pub fn well_formed(store: &[u8]) -> bool
+    requires { ⌜ length (now store) ≡ storeLength ⌝ }
+    ensures { λ r. ⌜ r ≡ (hasForm (now (store .entry)) && wellFormed (stateOf (now (store .entry)))) ⌝ }
+{
+    let station = Station::load(store);
+    if !form::has_form(store, station) {
+        return false;
+    }
+    let good = header::header_good(station)
+        & statements::all_good(store, station, station.statements)
+        & statements::distinct(store, station.statements);
+    if !good {
+        return false;
+    }
+    tables_good(store, station)
+}

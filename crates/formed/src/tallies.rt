@@ -1,0 +1,142 @@
+// The tallies of a store: allowed for these settings, distinct, and there for every statement.
+ghost use mathlib.Core.Path.{_≡_};
+ghost use Prim.Native.Nat.{_-_};
+ghost use Rattle.rules.specs.Lists.{all, any, distinct};
+ghost use Rattle.rules.specs.Words.{sameBlock, certificate};
+ghost use Rattle.rules.specs.WellFormed.{tallyGood, talliesThere};
+ghost use Rattle.settings.specs.Made.{settingsOf};
+ghost use Rattle.store.specs.Layout.{statementTable, tallyTable};
+ghost use Rattle.store.specs.Decode.{rows, tallyAt, statements, tallies};
+ghost use Rattle.store.specs.Meaning.{tallyOf};
+ghost use Rattle.formed.specs.Lent.{Counts, bare, Certifies, AllCertify};
+use super::TALLIES;
+use super::TALLY_SIZE;
+use super::records::begins;
+use settings::Settings;
+use store::Tally;
+use wire::Statement;
+use wire::clauses;
+
+// Whether a tally is of a view and a block that are allowed, with a mask of these stations.
+fn tally_good(settings: Settings, tally: Tally) -> bool
+    ensures { λ r. ⌜ r ≡ tallyGood (settingsOf settings) (tallyOf tally) ⌝ }
+{
+    let name = tally.name;
+    let block = clauses::block_allowed(tally.height as u64, name);
+    clauses::view_allowed(tally.view as u64) & block & clauses::mask_within(settings, tally.mask)
+}
+
+// Whether every tally is good.
+pub fn all_good(store: &[u8], settings: Settings, count: usize) -> bool
+    requires { ⌜ Counts tallyTable (now store) count ⌝ }
+    ensures { λ r. ⌜ r ≡ all (tallyGood (settingsOf settings)) (tallies (now (store .entry))) ⌝ }
+{
+    let mut i: usize = 0;
+    while i < count {
+        let tally = store::tally_at(store, i);
+        if !tally_good(settings, tally) {
+            return false;
+        }
+        i += 1;
+    }
+    true
+}
+
+// Whether one of the tallies from a place on is of this block.
+pub fn has_tally(store: &[u8], from: usize, count: usize, block: Tally) -> bool
+    requires { ⌜ Counts tallyTable (now store) count ⌝ }
+    ensures { λ r. ⌜ r ≡ any (sameBlock (tallyOf block)) (rows (tallyAt (now (store .entry))) from (count - from)) ⌝ }
+{
+    let name = block.name;
+    let mut i = from;
+    while i < count {
+        if begins(
+            store,
+            TALLIES + TALLY_SIZE * i,
+            block.view,
+            block.height,
+            name,
+        ) {
+            return true;
+        }
+        i += 1;
+    }
+    false
+}
+
+// Whether no two tallies are of one block.
+pub fn distinct(store: &[u8], count: usize) -> bool
+    requires { ⌜ Counts tallyTable (now store) count ⌝ }
+    ensures { λ r. ⌜ r ≡ distinct sameBlock (tallies (now (store .entry))) ⌝ }
+{
+    let mut i: usize = 0;
+    while i < count {
+        let tally = store::tally_at(store, i);
+        if has_tally(store, i + 1, count, tally) {
+            return false;
+        }
+        i += 1;
+    }
+    true
+}
+
+// The block that a statement's mask certifies, with that mask.
+fn certificate(statement: Statement) -> Tally
+    requires { ⌜ Certifies (bare statement) ⌝ }
+    ensures { λ r. ⌜ tallyOf r ≡ certificate (bare statement) ⌝ }
+{
+    let name = statement.name;
+    let link = statement.link;
+    if statement.is_new_view {
+        return Tally {
+            view: link.fourth as u32,
+            height: statement.height,
+            name,
+            mask: statement.mask,
+        };
+    }
+    Tally {
+        view: statement.view,
+        height: statement.height - 1,
+        name: link,
+        mask: statement.mask,
+    }
+}
+
+// Whether a statement's own block and its certified block have their tallies.
+fn there(store: &[u8], count: usize, statement: Statement) -> bool
+    requires { ⌜ Counts tallyTable (now store) count × Certifies (bare statement) ⌝ }
+    ensures { λ r. ⌜ r ≡ talliesThere (tallies (now (store .entry))) (bare statement) ⌝ }
+{
+    let name = statement.name;
+    let own = Tally {
+        view: statement.view,
+        height: statement.height,
+        name,
+        mask: 0,
+    };
+    if !has_tally(store, 0, count, own) {
+        return false;
+    }
+    let certified = certificate(statement);
+    if certified.view == 0 {
+        return true;
+    }
+    has_tally(store, 0, count, certified)
+}
+
+// Whether every statement has its tallies.
+pub fn all_there(store: &[u8], count: usize, stored: usize) -> bool
+    requires { ⌜ Counts tallyTable (now store) count × Counts statementTable (now store) stored × AllCertify (now store) stored ⌝ }
+    ensures { λ r. ⌜ r ≡ all (talliesThere (tallies (now (store .entry)))) (statements (now (store .entry))) ⌝ }
+{
+    let mut i: usize = 0;
+    while i < stored {
+        let statement = store::statement_at(store, i);
+        if !there(store, count, statement) {
+            return false;
+        }
+        i += 1;
+    }
+    true
+}

@@ -1,0 +1,4 @@
+pub mod Answers
+pub mod Opening
+pub mod Rooms
+pub mod Steps

@@ -1,0 +1,45 @@
+-- An outcome where there is room, and where there is none. Assumes nothing.
+use Prim.Native.Nat.{ℕ}
+use mathlib.Core.Path.{_≡_, refl, sym, ap, _∙_}
+use mathlib.Core.Bool.{Bool, true, false, _&&_}
+use mathlib.Core.List.{List}
+use native.Mathlib.Nat.{zero-add}
+use Rattle.rules.specs.Limits.{mostStatements, mostTallies}
+use Rattle.rules.specs.Words.{State, full, Tally}
+use Rattle.rules.specs.Inputs.{Work, saying, withPhase, withBlames, isIn, quit, blamed, blameFull, blaming, tallied}
+use Rattle.rules.specs.Refusals.{done, stopping, hasRoom, ifRoom, result}
+use Rattle.rules.proofs.Tests.{by-bool, le-leb}
+use Rattle.kept.proofs.Truths.{both}
+use Rattle.store.specs.Decode.{stateOf, Left}
+use Rattle.acts.specs.Works.{Formed, Works}
+use Rattle.acts.proofs.Works.{formed-parts, works-none}
+use Rattle.station.specs.Answers.{Answers, Mutely}
+use Rattle.station.proofs.Answers.{answers-is}
+
+module _ (s : State) (w : Work) where
+  -- there is room, and the work is done
+  pub room-answers : {o b′ o′ : List ℕ} {r : ℕ} → hasRoom (w .now) ≡ true → Works w o 0 b′ o′ r → Answers (ifRoom s w) o b′ o′ r
+  unfolding ifRoom done result
+  room-answers q k = rw (q, ifRoom) (record { left = k .left; out = k .says .out; told = k .says .ends })
+
+  -- there is none, and the station stops
+  pub full-answers : {b′ : List ℕ} {r : ℕ} → hasRoom (w .now) ≡ false → Mutely (stopping 6 full s) b′ r → Mutely (ifRoom s w) b′ r
+  unfolding ifRoom
+  full-answers q k o = rw (q, ifRoom) (k o)
+
+pub tallied-answers : (t : Tally) (s : State) {b′ : List ℕ} → hasRoom (tallied t s .now) ≡ true → Left b′ (tallied t s .now) → Mutely (ifRoom s (tallied t s)) b′ 0
+unfolding tallied saying
+tallied-answers t s q l o = room-answers s (tallied t s) q (works-none o 0 l)
+
+-- a blame needs no record
+blaming-room : (v m : ℕ) (s : State) → hasRoom s ≡ true → hasRoom (blaming v m s .now) ≡ true
+unfolding blaming blamed withBlames quit withPhase saying hasRoom
+blaming-room v m s h = by-bool (isIn v (blamed v m s) && blameFull v (blamed v m s)) (λ q. rw (q, blaming) h) (λ q. rw (q, blaming) h)
+
+formed-room : {b : List ℕ} → Formed b → hasRoom (stateOf b) ≡ true
+unfolding hasRoom
+formed-room k = let w = formed-parts k in both (le-leb _ mostStatements (w .fewStatements)) (le-leb _ mostTallies (w .fewTallies))
+
+pub blaming-answers : {b o b′ o′ : List ℕ} {r : ℕ} (v m : ℕ) → Formed b → Works (blaming v m (stateOf b)) o 0 b′ o′ r
+    → Answers (ifRoom (stateOf b) (blaming v m (stateOf b))) o b′ o′ r
+blaming-answers {b} v m k w = room-answers (stateOf b) (blaming v m (stateOf b)) (blaming-room v m (stateOf b) (formed-room k)) w

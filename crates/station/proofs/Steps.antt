@@ -1,0 +1,174 @@
+-- A message, in 01's order: unreadable, not allowed, handled by its kind. Assumes nothing.
+use Prim.Native.Nat.{ℕ, suc, _*_, _^_, _≤_, _<_}
+use mathlib.Core.Path.{_≡_, refl, sym, ap, _∙_}
+use mathlib.Core.Bool.{Bool, true, false, not}
+use mathlib.Core.List.{List, [], _∷_}
+use mathlib.Core.Option.{none, some}
+use native.Mathlib.Omega.{arith}
+use lib.ListN.{length}
+use lib.Pow.{pow-lt}
+use borrow.Author.Tests.{not-true, not-false}
+use Rattle.rules.specs.Limits.{mostStations}
+use Rattle.rules.specs.Sizes as sizes
+use Rattle.rules.specs.Sizes.{only}
+use Rattle.rules.specs.Messages as messages
+use Rattle.rules.specs.Messages.{read, viewAllowed, allowed}
+use Rattle.rules.specs.Words.{State}
+use Rattle.rules.specs.Inputs.{statement, tallied, blaming, handled}
+use Rattle.rules.specs.Refusals.{refused, ifRoom, running, step}
+use Rattle.rules.proofs.Bytes as rules
+use Rattle.fields.specs.Places.{Bytes}
+use Rattle.fields.specs.Records.{fields}
+use Rattle.fields.specs.Names.{nameOf}
+use Rattle.fields.specs.declared.Name.{Name}
+use Rattle.settings.specs.Made.{settingsOf}
+use Rattle.kept.specs.Said.{Sendable}
+use Rattle.kept.proofs.Allowed.{only-lt, mask-parts}
+use Rattle.kept.proofs.Facts.{sizes-of}
+use Rattle.kept.proofs.Outs.{step-room}
+use Rattle.kept.proofs.Sendable.{read-sendable, vote-parts, blame-parts, blameSet-parts}
+use Rattle.wire.specs.Meaning.{statementOf, messageOf, readOf}
+use Rattle.wire.specs.declared.Statement as code
+use Rattle.wire.specs.declared.Message.{Message}
+use Rattle.wire.specs.declared.Message.the-variants.{Stated, Vote, Blame, BlameSet, Status}
+use Rattle.wire.specs.declared.Read.{Read}
+use Rattle.wire.specs.declared.Read.the-variants.{Readable, Unreadable}
+use Rattle.store.specs.Layout.{headerFormat, storeLength}
+use Rattle.store.specs.Decode.{stateOf}
+use Rattle.store.specs.Meaning.{tallyOf, headerOf}
+use Rattle.store.specs.declared.Tally.{Tally}
+use Rattle.store.specs.declared.Station.{Station}
+use Rattle.store.proofs.Loaded.{loaded-settings}
+use Rattle.calls.specs.Calls.{stepCalled, Gives}
+use Rattle.acts.specs.Works.{Formed}
+use Rattle.acts.proofs.Works.{formed-parts}
+use Rattle.acts.proofs.Statements.{handled-stated}
+use Rattle.station.specs.Answers.{barred, Answers}
+use Rattle.station.proofs.Answers.{answers-is, refused-answers}
+use Rattle.station.proofs.Opening.{Opened, opened, opened-formed, opened-gives, barred-gives}
+
+-- ---- the rule
+
+module _ (bs : List ℕ) (s : State) where
+  step-stopped : running s ≡ false → step bs s ≡ refused 3 s
+  unfolding step
+  step-stopped r = rw (r, step)
+
+  module _ (r : running s ≡ true) where
+    step-unreadable : read bs ≡ none → refused 4 s ≡ step bs s
+    unfolding step
+    step-unreadable q = rw (r, q, step)
+
+    module _ (m : messages.Message) (q : read bs ≡ some m) where
+      step-forbidden : allowed (s .settings) m ≡ false → refused 5 s ≡ step bs s
+      unfolding step
+      step-forbidden a = rw (r, q, step, a)
+
+      step-handled : allowed (s .settings) m ≡ true → ifRoom s (handled m s) ≡ step bs s
+      unfolding step
+      step-handled a = rw (r, q, step, a)
+
+-- bytes by their places are bytes one by one
+bytes-all : (bs : List ℕ) → Bytes bs → rules.Bytes bs
+bytes-all [] h = rules.none
+bytes-all (x ∷ bs) h = rules.one (h 0 .fits) (bytes-all bs (λ i. h (suc i)))
+
+-- ---- the kinds
+
+pub voter-small : (a : ℕ) → a < mostStations → only a < 2 ^ mostStations
+unfolding only
+voter-small a h = pow-lt h
+
+module _ (s : State) {m : Message} where
+  pub stated-handled : {x : code.Statement} → m ≡ Stated x → ifRoom s (statement (statementOf x none) s) ≡ ifRoom s (handled (messageOf m) s)
+  stated-handled {x} e =
+      ap (λ (f : State → _). ifRoom s (f s)) (sym (handled-stated x)) ∙ ap (λ (y : Message). ifRoom s (handled (messageOf y) s)) (sym e)
+
+  module _ {v h : ℕ} {b : Name} where
+    pub vote-handled : {a k : ℕ} → m ≡ Vote v h b a → k ≡ only a
+        → ifRoom s (tallied (tallyOf (record { view = v; height = h; name = b; mask = k })) s) ≡ ifRoom s (handled (messageOf m) s)
+    unfolding handled messageOf tallyOf
+    vote-handled e q = rw (e, q)
+
+    pub status-handled : {k : ℕ} → m ≡ Status h b v k
+        → ifRoom s (tallied (tallyOf (record { view = v; height = h; name = b; mask = k })) s) ≡ ifRoom s (handled (messageOf m) s)
+    unfolding handled messageOf tallyOf
+    status-handled e = rw e
+
+  pub blame-handled : {v a k : ℕ} → m ≡ Blame v a → k ≡ only a → ifRoom s (blaming v k s) ≡ ifRoom s (handled (messageOf m) s)
+  unfolding handled messageOf
+  blame-handled e q = rw (e, q)
+
+  pub set-handled : {v k : ℕ} → m ≡ BlameSet v k → ifRoom s (blaming v k s) ≡ ifRoom s (handled (messageOf m) s)
+  unfolding handled messageOf
+  set-handled e = rw e
+
+module _ {b : List ℕ} (f : Formed b) {m : Message} (d : Sendable (stateOf b .settings) (messageOf m)) where
+  allowed-as : {k : Message} → m ≡ k → allowed (stateOf b .settings) (messageOf k) ≡ true
+  allowed-as e = ap (λ (y : Message). allowed (stateOf b .settings) (messageOf y)) (sym e) ∙ d .isAllowed
+
+  pub stated-sendable : {x : code.Statement} → m ≡ Stated x → Sendable (stateOf b .settings) (messageOf (Stated x))
+  stated-sendable e = rw e at d
+
+  pub vote-author : {v h a : ℕ} {n : Name} → m ≡ Vote v h n a → a < mostStations
+  unfolding messageOf
+  vote-author {v} {h} {a} {n} e = omega (arith, vote-parts (stateOf b .settings) v h (nameOf n) a (allowed-as e) .2, sizes-of (formed-parts f .formed) .most)
+
+  pub blame-author : {v a : ℕ} → m ≡ Blame v a → (viewAllowed v ≡ true) × (a < mostStations) × (only a < 2 ^ stateOf b .settings .n)
+  unfolding messageOf
+  blame-author {v} {a} e =
+      let t = blame-parts (stateOf b .settings) v a (allowed-as e) in
+      (t .0, omega (arith, t .1, sizes-of (formed-parts f .formed) .most), only-lt (stateOf b .settings) a (t .1))
+
+  pub set-mask : {v k : ℕ} → m ≡ BlameSet v k → (viewAllowed v ≡ true) × (k < 2 ^ stateOf b .settings .n)
+  unfolding messageOf
+  set-mask {v} {k} e = let t = blameSet-parts (stateOf b .settings) v k (allowed-as e) in (t .0, mask-parts (stateOf b .settings) k (t .1) .0)
+
+-- ---- the call
+
+module _ (bs b o : List ℕ) (h : Bytes b) {n : ℕ} (e : n ≡ barred b o) where
+  pub barred-step : {r : ℕ} → (n ≡ 0 → ⊥) → r ≡ n * 2 ^ 32 → Gives (stepCalled bs b o) r b o
+  unfolding stepCalled
+  barred-step d q = barred-gives b o (step bs) (step-stopped bs) h (q ∙ ap (_* 2 ^ 32) e) (λ z. d (e ∙ z))
+
+  module _ (z : n ≡ 0) where
+    opening : Opened b o
+    opening = opened b o (sym e ∙ z)
+
+    pub step-formed : Formed b
+    step-formed = opened-formed b o opening h
+
+    pub step-long : length b ≡ storeLength
+    step-long = opening .long
+
+    pub step-out : 200 ≤ length o
+    step-out = omega (arith, opening .room)
+
+    step-gives : {b′ o′ : List ℕ} {r : ℕ} → Answers (step bs (stateOf b)) o b′ o′ r → Gives (stepCalled bs b o) r b′ o′
+    unfolding stepCalled
+    step-gives a = opened-gives b o opening (step bs) (step-room (stateOf b) bs) a
+
+    module _ {q : Read} (p : readOf q ≡ read bs) where
+      pub unreadable-step : {r : ℕ} → q ≡ Unreadable → r ≡ 4 * 2 ^ 32 → Gives (stepCalled bs b o) r b o
+      unfolding readOf
+      unreadable-step i t =
+          step-gives (answers-is (step-unreadable bs (stateOf b) (opening .runs) (sym p ∙ ap readOf i)) (refused-answers 4 (step-formed .form) t o))
+
+      module _ {m : Message} (i : q ≡ Readable m) (s : Station) (l : headerOf s ≡ fields b 0 headerFormat) {y : Bool} (a : y ≡ allowed (settingsOf (s .settings)) (messageOf m)) where
+        was-read : read bs ≡ some (messageOf m)
+        unfolding readOf
+        was-read = sym p ∙ ap readOf i
+
+        is-allowed : allowed (stateOf b .settings) (messageOf m) ≡ y
+        is-allowed = sym (a ∙ ap (λ (g : sizes.Settings). allowed g (messageOf m)) (loaded-settings s b l))
+
+        pub forbidden-step : {r : ℕ} → not y ≡ true → r ≡ 5 * 2 ^ 32 → Gives (stepCalled bs b o) r b o
+        forbidden-step d t =
+            step-gives (answers-is (step-forbidden bs (stateOf b) (opening .runs) (messageOf m) was-read (is-allowed ∙ not-true y d)) (refused-answers 5 (step-formed .form) t o))
+
+        module _ (d : not y ≡ false) where
+          pub read-may : Bytes bs → Sendable (stateOf b .settings) (messageOf m)
+          read-may k = read-sendable (stateOf b .settings) bs (messageOf m) (bytes-all bs k) was-read (is-allowed ∙ not-false y d)
+
+          pub handled-step : {b′ o′ : List ℕ} {r : ℕ} → Answers (ifRoom (stateOf b) (handled (messageOf m) (stateOf b))) o b′ o′ r → Gives (stepCalled bs b o) r b′ o′
+          handled-step k = step-gives (answers-is (step-handled bs (stateOf b) (opening .runs) (messageOf m) was-read (is-allowed ∙ not-false y d)) k)

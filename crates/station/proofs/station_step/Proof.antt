@@ -1,0 +1,117 @@
+-- `station_step` meets its contract, test by test in 01's order. Assumes nothing.
+use native.Mathlib.Omega.{arith}
+use Rattle.station.proofs.Opening.{barred-small}
+use Rattle.station.proofs.Steps.{barred-step, step-formed, step-long, step-out, unreadable-step, forbidden-step, read-may, handled-step}
+use borrow.Author.Needs.{needs}
+use Rattle.station.proofs.station_step.Statement.{statement}
+use Rattle.station.proofs.station_step.Tie as tie
+
+barred-requires : tie.Need-barred-requires
+barred-requires c κs = search needs
+
+refuse-requires : tie.Need-refuse-requires
+refuse-requires c κs =
+    let a = c .before .before .before .before .before .before .before .args in
+    omega (arith, c .before .barred .ensures, barred-small (a .store .now) (a .out .now))
+
+same-length : tie.Need-same-length
+same-length c = search needs
+
+same-length-2 : tie.Need-same-length-2
+same-length-2 c = search needs
+
+returns : tie.Need-returns
+returns c =
+    let a = c .before .before .before .before .before .before .before .before .args in
+    barred-step (a .message .now) (a .store .now) (a .out .now) (c .before .before .before .before .before .before .before .slice-known .given) (c .before .before .barred .ensures) (c .before .if1 .taken) (c .refuse .ensures)
+
+read-message-requires : tie.Need-read-message-requires
+read-message-requires c κs = search needs
+
+enum-known-m : tie.Need-enum-known-m
+enum-known-m c = search needs
+
+enum-told : tie.Need-enum-told
+enum-told c = search needs
+
+refuse-requires-2 : tie.Need-refuse-requires-2
+refuse-requires-2 c κs = search needs
+
+same-length-3 : tie.Need-same-length-3
+same-length-3 c = search needs
+
+same-length-4 : tie.Need-same-length-4
+same-length-4 c = search needs
+
+returns-2 : tie.Need-returns-2
+returns-2 c =
+    let a = c .before .before .before .before .before .before .before .before .before .before .before .args in
+    unreadable-step (a .message .now) (a .store .now) (a .out .now) (c .before .before .before .before .before .before .before .before .before .before .slice-known .given) (c .before .before .before .before .before .barred .ensures) (c .before .before .before .before .if1 .left) (c .before .before .before .read-message .ensures) (c .before .enum-told .given .1) (c .refuse2 .ensures)
+
+load-requires : tie.Need-load-requires
+load-requires c κs =
+    let a = c .before .before .before .before .before .before .before .before .before .before .before .before .args in
+    step-long (a .message .now) (a .store .now) (a .out .now) (c .before .before .before .before .before .before .before .before .before .before .before .slice-known .given) (c .before .before .before .before .before .before .barred .ensures) (c .before .before .before .before .before .if1 .left)
+
+allowed-requires : tie.Need-allowed-requires
+allowed-requires c κs = search needs
+
+refuse-requires-3 : tie.Need-refuse-requires-3
+refuse-requires-3 c κs = search needs
+
+same-length-5 : tie.Need-same-length-5
+same-length-5 c = search needs
+
+same-length-6 : tie.Need-same-length-6
+same-length-6 c = search needs
+
+returns-3 : tie.Need-returns-3
+returns-3 c =
+    let a = c .before .before .before .before .before .before .before .before .before .before .before .before .before .before .before .before .args in
+    forbidden-step (a .message .now) (a .store .now) (a .out .now) (c .before .before .before .before .before .before .before .before .before .before .before .before .before .before .before .slice-known .given) (c .before .before .before .before .before .before .before .before .before .before .barred .ensures) (c .before .before .before .before .before .before .before .before .before .if1 .left) (c .before .before .before .before .before .before .before .before .read-message .ensures) (c .before .before .before .before .before .before .m .given .1) (c .before .before .before .load .result) (c .before .before .before .load .ensures) (c .before .before .allowed .ensures) (c .before .if2 .taken) (c .refuse3 .ensures)
+
+handled-requires : tie.Need-handled-requires
+handled-requires c κs =
+    let a = c .before .before .before .before .before .before .before .before .before .before .before .before .before .before .before .before .before .args in
+    let k = c .before .before .before .before .before .before .before .before .before .before .before .before .before .before .before .before .slice-known .given in
+    let e = c .before .before .before .before .before .before .before .before .before .before .before .barred .ensures in
+    let z = c .before .before .before .before .before .before .before .before .before .before .if1 .left in
+    (step-formed (a .message .now) (a .store .now) (a .out .now) k e z, read-may (a .message .now) (a .store .now) (a .out .now) k e z (c .before .before .before .before .before .before .before .before .before .read-message .ensures) (c .before .before .before .before .before .before .before .m .given .1) (c .before .before .before .before .load .result) (c .before .before .before .before .load .ensures) (c .before .before .before .allowed .ensures) (c .before .before .if2 .left) (c .before .before .before .before .before .before .before .before .before .before .before .before .before .before .before .shared-slice-known .given), step-out (a .message .now) (a .store .now) (a .out .now) k e z)
+
+same-length-7 : tie.Need-same-length-7
+same-length-7 c = search needs
+
+same-length-8 : tie.Need-same-length-8
+same-length-8 c = search needs
+
+returns-4 : tie.Need-returns-4
+returns-4 c =
+    let a = c .before .before .before .before .before .before .before .before .before .before .before .before .before .before .before .before .before .before .before .before .before .before .args in
+    handled-step (a .message .now) (a .store .now) (a .out .now) (c .before .before .before .before .before .before .before .before .before .before .before .before .before .before .before .before .before .before .before .before .before .slice-known .given) (c .before .before .before .before .before .before .before .before .before .before .before .before .before .before .before .before .barred .ensures) (c .before .before .before .before .before .before .before .before .before .before .before .before .before .before .before .if1 .left) (c .before .before .before .before .before .before .before .before .before .before .before .before .before .before .read-message .ensures) (c .before .before .before .before .before .before .before .before .before .before .before .before .m .given .1) (c .before .before .before .before .before .before .before .before .before .load .result) (c .before .before .before .before .before .before .before .before .before .load .ensures) (c .before .before .before .before .before .before .before .before .allowed .ensures) (c .before .before .before .before .before .before .before .if2 .left) (c .before .before .before .before .handled .ensures)
+
+pub station-step-spec : {M : Type 1} → statement M
+station-step-spec =
+    tie.close
+    (tie.spec
+    barred-requires
+    refuse-requires
+    same-length
+    same-length-2
+    returns
+    read-message-requires
+    enum-known-m
+    enum-told
+    refuse-requires-2
+    same-length-3
+    same-length-4
+    returns-2
+    load-requires
+    allowed-requires
+    refuse-requires-3
+    same-length-5
+    same-length-6
+    returns-3
+    handled-requires
+    same-length-7
+    same-length-8
+    returns-4)

@@ -1,0 +1,57 @@
+/* One station of a Sync HotStuff group, proved. Link with libstation.a.
+ *
+ * The host lends every call its buffers and keeps them between calls. A station has no other memory, allocates nothing,
+ * and makes no call back. The buffers of one call must not overlap.
+ *
+ * Each call answers refusal * 2^32 + count. A result below 2^32 is done: the count of bytes written to the front of the
+ * out buffer, with the rest of it as it was. A refusal's count is 0 and the out buffer stays as it was. STATION_REFUSAL
+ * and STATION_COUNT take a result apart.
+ *
+ *    1  store not of its exact length, offered name not 32 bytes, or out buffer too short    nothing changes
+ *    2  store not well formed (docs/STORE.md)                                                nothing changes
+ *    3  already stopped                                                                      nothing changes
+ *    4  unreadable message                                                                   nothing changes
+ *    5  message not allowed                                                                  nothing changes
+ *    6  no record free for what this input must add                                          phase: stopped, full
+ *    7  a due commit differs from the log at a height                                        phase: stopped, split
+ *    8  tick at clock 4,000,000,000                                                          phase: stopped, clock
+ *    9  offer not to be taken                                                                nothing changes
+ *   10  bad settings for a fresh store                                                       nothing changes
+ *
+ * Order: 1, 2, 3, then 4, 5, 6 for messages; 9, 6 for offers; 8, 7, 6 for ticks. A fresh store: 1, then 10.
+ */
+#ifndef STATION_H
+#define STATION_H
+
+#include <stddef.h>
+#include <stdint.h>
+
+/* The exact length of a store, and the least length of an out buffer. */
+#define STATION_STORE_LENGTH 25220
+#define STATION_OUT_LENGTH 32768
+
+#define STATION_REFUSAL(result) ((uint32_t)((uint64_t)(result) >> 32))
+#define STATION_COUNT(result) ((uint32_t)(result))
+
+#ifdef __cplusplus
+extern "C" {
+#endif
+
+/* Makes a fresh store of whatever was in it: n stations, odd, 3 to 15; d, the delay bound in ticks, 1 to 10,000; own,
+ * this station's number, below n. Answers 0, or refusal 1 or 10. */
+uint64_t station_fresh(uint8_t *store, size_t store_len, uint64_t n, uint64_t d, uint64_t own);
+
+/* Hands the station one message whose signatures the host has checked. Refusals 1 to 6. */
+uint64_t station_step(uint8_t *store, size_t store_len, const uint8_t *message, size_t message_len, uint8_t *out, size_t out_len);
+
+/* One tick of the clock. Refusals 1, 2, 3, 6, 7 and 8. */
+uint64_t station_tick(uint8_t *store, size_t store_len, uint8_t *out, size_t out_len);
+
+/* Offers the station, should it be the leader, a block name of 32 bytes to propose. Refusals 1, 2, 3, 6 and 9. */
+uint64_t station_offer(uint8_t *store, size_t store_len, const uint8_t *name, size_t name_len, uint8_t *out, size_t out_len);
+
+#ifdef __cplusplus
+}
+#endif
+
+#endif
