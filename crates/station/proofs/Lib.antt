@@ -2,3 +2,4 @@ pub mod Answers
 pub mod Opening
 pub mod Rooms
 pub mod Steps
+pub mod Turns
