@@ -3,15 +3,14 @@
 use Prim.Native.Nat.{ℕ, suc, _+_, _-_, _*_, _^_, _≤_, _<_}
 use mathlib.Core.Path.{_≡_, refl, sym, ap, _∙_, subst}
 use mathlib.Core.Bool.{Bool, true, false, not}
-use mathlib.Core.List.{List, [], _∷_, append-assoc}
-use mathlib.Core.Option.{Option, none, some, Option·map, Option·some-injective}
+use mathlib.Core.List.{List, append-assoc}
+use mathlib.Core.Option.{none, some, Option·map, Option·some-injective}
 use native.Mathlib.Omega.{arith}
 use lib.Dec.{eqb, lit<}
 use lib.ListN.{length, drop, length-drop}
 use borrow.Author.Tests.{eq-eqb, ne-eqb, not-true, not-false}
 use Rattle.rules.specs.Limits.{mostStatements, lastClock, leastOut}
 use Rattle.rules.specs.Lists.{any}
-use Rattle.rules.specs.Messages.{Message}
 use Rattle.rules.specs.Words as words
 use Rattle.rules.specs.Words.{Statement, sameStatement, message, State, stopped, clock, split}
 use Rattle.rules.specs.Inputs.{Work, saying, _▸_, withPhase, withClock, withTables, isIn, certificateJoined, stored, statement, leads, due, commits, logging, complain, leadsNow, ownNewView, lead, enter, ticked}
@@ -20,12 +19,11 @@ use Rattle.rules.specs.WellFormed.{linked}
 use Rattle.rules.proofs.Tests.{by-bool}
 use Rattle.fields.specs.Places.{Bytes}
 use Rattle.fields.specs.Records.{fields}
-use Rattle.settings.specs.Made.{settingsOf}
 use Rattle.wire.specs.Meaning.{statementOf}
 use Rattle.wire.specs.declared.Statement as code
-use Rattle.store.specs.Layout.{headerFormat, logTable, countOf}
+use Rattle.store.specs.Layout.{headerFormat}
 use Rattle.store.specs.Decode.{phaseNumber, stateOf, Left}
-use Rattle.store.specs.Meaning.{causeOf, courseOf, headerOf}
+use Rattle.store.specs.Meaning.{courseOf, headerOf}
 use Rattle.store.specs.declared.Station.{Station}
 use Rattle.store.specs.declared.Cause.{Cause}
 use Rattle.store.specs.declared.Cause.the-variants.{Full, Split, Clock}
@@ -33,7 +31,6 @@ use Rattle.store.specs.declared.Phase.the-variants.{Stopped}
 use Rattle.store.proofs.Loaded.{loaded-settings, loaded-entry, loaded-clock}
 use Rattle.kept.specs.Parts as kept
 use Rattle.kept.proofs.Facts.{clocks-of}
-use Rattle.kept.proofs.Keeps.{Keeps}
 use Rattle.kept.proofs.Lengths.{bytes, reports-bytes}
 use Rattle.kept.proofs.Logs.{linked-length, proposes-length, commits-linked}
 use Rattle.kept.proofs.Outs as outs
@@ -43,12 +40,12 @@ use Rattle.kept.proofs.Room.{complain-bytes, lead-bytes}
 use Rattle.kept.proofs.Ticks.{logging-keeps, complain-keeps, lead-keeps}
 use Rattle.commit.specs.Outcome.{tickLog, Gained, Committed}
 use Rattle.commit.specs.declared.Merged.{Merged}
-use Rattle.commit.specs.declared.Merged.the-variants.{Grown, Differs}
+use Rattle.commit.specs.declared.Merged.the-variants.{Grown}
 use Rattle.calls.specs.Calls.{tickCalled, Gives}
 use Rattle.acts.specs.Works.{Formed, Works}
 use Rattle.acts.proofs.Answers.{new-room}
 use Rattle.acts.proofs.Rooms.{room-made}
-use Rattle.acts.proofs.Works.{formed-parts, left-formed, works-is, works-end, works-length, works-formed}
+use Rattle.acts.proofs.Works.{formed-parts, works-is, works-end, works-length, works-formed}
 use Rattle.turns.specs.Gains.{grownLog, Enough}
 use Rattle.turns.proofs.Leading.{now-leads, lead-never, now-fits}
 use Rattle.turns.proofs.Moments.{leads-never, leads-at}
@@ -56,7 +53,7 @@ use Rattle.turns.proofs.Names.{gained-log, gained-enough}
 use Rattle.turns.proofs.Parts.{works-then}
 use Rattle.turns.proofs.Room.{lead-complained, lead-logged, tick-room}
 use Rattle.station.specs.Answers.{barred, Answers, Mutely}
-use Rattle.station.specs.Turns.{later, moving, turning, Ready}
+use Rattle.station.specs.Turns.{later, moving, turning}
 use Rattle.station.proofs.Answers.{answers-is, refused-mutely}
 use Rattle.station.proofs.Opening.{Opened, opened, opened-formed, opened-gives, barred-gives}
 use Rattle.station.proofs.Rooms.{room-answers, full-answers}
@@ -230,12 +227,8 @@ module _ {b t : List ℕ} {n : ℕ} (k : Formed b) (h : stateOf b .clock < lastC
 
 -- ---- what the commits answer
 
-module _ {b t : List ℕ} {r : Merged} (g : Committed b t r) where
-  pub gained-by : {n : ℕ} → r ≡ Grown n → Gained b t n
-  gained-by e = subst (Committed b t) e g
-
-  pub differs-by : r ≡ Differs → tickLog b ≡ none
-  differs-by e = subst (Committed b t) e g
+pub gained-by : {b t : List ℕ} {r : Merged} {n : ℕ} → Committed b t r → r ≡ Grown n → Gained b t n
+gained-by {b} {t} g e = subst (Committed b t) e g
 
 -- ---- the rule
 

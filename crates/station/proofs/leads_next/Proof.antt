@@ -8,53 +8,39 @@ use Rattle.station.proofs.Turns.{later-never, loaded-next}
 use borrow.Author.Needs.{needs}
 use Rattle.station.proofs.leads_next.Statement.{statement}
 use Rattle.station.proofs.leads_next.Tie as tie
-use Rattle.station.proofs.leads_next.Reads as reads
-use Rattle.station.proofs.leads_next.Lts as lts
-use Rattle.store.proofs.Station.load.Reads as load-reads
-use Rattle.turns.proofs.leads.Reads as leads-reads
 
--- src/lib.rt:208:9
 leads-requires : tie.Need-leads-requires
 leads-requires c κs = search needs
 
--- src/lib.rt:209:9
 returns : tie.Need-returns
 returns c =
     later-never _ (sym (c .before .leads .ensures) ∙ not-true _ (c .if1 .taken))
 
--- src/lib.rt:211:9
 load-requires : tie.Need-load-requires
 load-requires c κs =
     form-long _ (c .before .before .before .pre .form)
 
--- src/lib.rt:213:5
 cast-result : tie.Need-cast-result
 cast-result c = search needs
 
--- src/lib.rt:213:5
 add-result : tie.Need-add-result
 add-result c = search needs
 
--- src/lib.rt:213:33
 cast-result-2 : tie.Need-cast-result-2
 cast-result-2 c = search needs
 
--- src/lib.rt:213:56
 mul-result : tie.Need-mul-result
 mul-result c =
     omega (arith, short-delay (c .before .before .before .before .before .before .before .before .pre) (c .before .before .before .before .load .result) (c .before .before .before .before .load .ensures))
 
--- src/lib.rt:213:33
 add-result-2 : tie.Need-add-result-2
 add-result-2 c =
     omega (arith, short-delay (c .before .before .before .before .before .before .before .before .pre) (c .before .before .before .before .load .result) (c .before .before .before .before .load .ensures))
 
--- src/lib.rt:213:33
 add-result-3 : tie.Need-add-result-3
 add-result-3 c =
     omega (arith, short-delay (c .before .before .before .before .before .before .before .before .pre) (c .before .before .before .before .load .result) (c .before .before .before .before .load .ensures))
 
--- src/lib.rt:204:1
 returns-2 : tie.Need-returns-2
 returns-2 c =
     loaded-next (c .before .before .before .before .before .before .before .before .pre) (c .before .before .before .before .load .result) (c .before .before .before .before .load .ensures) (sym (c .before .before .before .before .before .before .leads .ensures) ∙ not-false _ (c .before .before .before .before .before .if1 .left))

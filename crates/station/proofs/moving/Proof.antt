@@ -4,39 +4,27 @@ use Rattle.station.proofs.Turns.{complained-formed, complained-end, com
 use borrow.Author.Needs.{needs}
 use Rattle.station.proofs.moving.Statement.{statement}
 use Rattle.station.proofs.moving.Tie as tie
-use Rattle.station.proofs.moving.Reads as reads
-use Rattle.station.proofs.moving.Lts as lts
-use Rattle.turns.proofs.complain.Reads as complain-reads
-use Rattle.turns.proofs.enter.Reads as enter-reads
-use Rattle.turns.proofs.lead.Reads as lead-reads
 
--- src/lib.rt:233:9
 complain-requires : tie.Need-complain-requires
 complain-requires c κs = search needs
 
--- src/lib.rt:234:9
 lead-requires : tie.Need-lead-requires
 lead-requires c κs =
     let p = c .before .before .before .before .before .before .before .before .before .before .before .pre in let w = c .before .before .before .before .before .before .complain .ensures in (complained-formed (p .0) w, complained-room (p .0) w (p .1), omega (arith, complained-end (p .0) w .0, complained-end (p .0) w .1, p .2))
 
--- src/lib.rt:236:35
 slice-aggregate-enter : tie.Need-slice-aggregate-enter
 slice-aggregate-enter c = search needs
 
--- src/lib.rt:236:5
 enter-requires : tie.Need-enter-requires
 enter-requires c κs =
     let p = c .before .before .before .before .before .before .before .before .before .before .before .before .before .before .before .before .before .before .before .pre in let w = c .before .before .before .before .before .before .before .before .before .before .before .before .before .before .complain .ensures in let v = c .before .before .before .before .before .before .before .lead .ensures in (led-formed (p .0) w v, omega (arith, led-end (p .0) w v .0, led-end (p .0) w v .1, p .2), search needs)
 
--- src/lib.rt:229:1
 same-length : tie.Need-same-length
 same-length c = search needs
 
--- src/lib.rt:229:1
 same-length-2 : tie.Need-same-length-2
 same-length-2 c = search needs
 
--- src/lib.rt:229:1
 returns : tie.Need-returns
 returns c =
     moved (c .before .before .before .before .before .before .before .before .before .before .before .before .before .before .before .before .before .before .before .before .before .before .before .before .before .pre .0) (c .before .before .before .before .before .before .before .before .before .before .before .before .before .before .before .before .before .before .before .before .complain .ensures) (c .before .before .before .before .before .before .before .before .before .before .before .before .before .lead .ensures) (c .before .before .before .before .before .enter .ensures)

@@ -5,48 +5,34 @@ use Rattle.station.proofs.Turns.{barred-tick, tick-may, tick-gives}
 use borrow.Author.Needs.{needs}
 use Rattle.station.proofs.station_tick.Statement.{statement}
 use Rattle.station.proofs.station_tick.Tie as tie
-use Rattle.station.proofs.station_tick.Reads as reads
-use Rattle.station.proofs.station_tick.Lts as lts
-use Rattle.station.proofs.barred.Reads as barred-reads
-use Rattle.station.proofs.refuse.Reads as refuse-reads
-use Rattle.station.proofs.ticked.Reads as ticked-reads
 
--- src/lib.rt:273:9
 barred-requires : tie.Need-barred-requires
 barred-requires c κs = search needs
 
--- src/lib.rt:275:9
 refuse-requires : tie.Need-refuse-requires
 refuse-requires c κs =
     let a = c .before .before .before .before .before .before .args in omega (arith, c .before .barred .ensures, barred-small (a .store .now) (a .out .now))
 
--- src/lib.rt:275:9
 same-length : tie.Need-same-length
 same-length c = search needs
 
--- src/lib.rt:275:9
 same-length-2 : tie.Need-same-length-2
 same-length-2 c = search needs
 
--- src/lib.rt:275:9
 returns : tie.Need-returns
 returns c =
     let a = c .before .before .before .before .before .before .before .args in barred-tick (a .store .now) (a .out .now) (c .before .before .before .before .before .before .slice-known .given) (c .before .before .barred .ensures) (c .before .if1 .taken) (c .refuse .ensures)
 
--- src/lib.rt:277:5
 ticked-requires : tie.Need-ticked-requires
 ticked-requires c κs =
     let a = c .before .before .before .before .before .before .before .before .args in tick-may (a .store .now) (a .out .now) (c .before .before .before .before .before .before .before .slice-known .given) (c .before .before .before .barred .ensures) (c .before .before .if1 .left)
 
--- src/lib.rt:269:1
 same-length-3 : tie.Need-same-length-3
 same-length-3 c = search needs
 
--- src/lib.rt:269:1
 same-length-4 : tie.Need-same-length-4
 same-length-4 c = search needs
 
--- src/lib.rt:269:1
 returns-2 : tie.Need-returns-2
 returns-2 c =
     let a = c .before .before .before .before .before .before .before .before .before .before .before .before .before .args in tick-gives (a .store .now) (a .out .now) (c .before .before .before .before .before .before .before .before .before .before .before .before .slice-known .given) (c .before .before .before .before .before .before .before .before .barred .ensures) (c .before .before .before .before .before .before .before .if1 .left) (c .before .before .before .before .ticked .ensures)

@@ -5,25 +5,17 @@ use Rattle.station.proofs.Turns.{cause-small, stopped-answers}
 use borrow.Author.Needs.{needs}
 use Rattle.station.proofs.stop.Statement.{statement}
 use Rattle.station.proofs.stop.Tie as tie
-use Rattle.station.proofs.stop.Reads as reads
-use Rattle.station.proofs.stop.Lts as lts
-use Rattle.station.proofs.refuse.Reads as refuse-reads
-use Rattle.store.proofs.set_phase.Reads as set-phase-reads
 
--- src/lib.rt:199:5
 set-phase-requires : tie.Need-set-phase-requires
 set-phase-requires c κs =
     (c .before .before .pre .0, cause-small (c .before .before .args .cause))
 
--- src/lib.rt:200:5
 refuse-requires : tie.Need-refuse-requires
 refuse-requires c κs = search needs
 
--- src/lib.rt:195:1
 same-length : tie.Need-same-length
 same-length c = search needs
 
--- src/lib.rt:195:1
 returns : tie.Need-returns
 returns c =
     let a = c .before .before .before .before .before .before .args in stopped-answers (a .number) (causeOf (a .cause)) (stateOf (a .store .now)) (c .before .before .before .set-phase .ensures) (c .refuse .ensures)
