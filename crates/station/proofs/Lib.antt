@@ -3,3 +3,4 @@ pub mod Opening
 pub mod Rooms
 pub mod Steps
 pub mod Offers
+pub mod Turns

@@ -2,24 +2,27 @@
 ghost use mathlib.Core.Path.{_≡_};
 ghost use mathlib.Core.Bool.{true};
 ghost use mathlib.Core.Option.{none};
-ghost use Prim.Native.Nat.{_*_, _^_, _≤_, _<_};
+ghost use Prim.Native.Nat.{_+_, _*_, _^_, _≤_, _<_};
 ghost use lib.ListN.{length};
-ghost use Rattle.rules.specs.Limits.{mostStations};
+ghost use Rattle.rules.specs.Limits.{mostStations, leastOut};
 ghost use Rattle.rules.specs.Sizes.{only};
 ghost use Rattle.rules.specs.Messages.{viewAllowed};
 ghost use Rattle.rules.specs.Words.{full, message as said};
 ghost use Rattle.rules.specs.Inputs as inputs;
-ghost use Rattle.rules.specs.Refusals.{stopping, ifRoom, running};
+ghost use Rattle.rules.specs.Refusals.{stopping, hasRoom, ifRoom, running, tick};
 ghost use Rattle.fields.specs.Names.{nameOf};
 ghost use Rattle.wire.specs.Meaning.{statementOf, messageOf};
 ghost use Rattle.store.specs.Decode.{stateOf, Form};
 ghost use Rattle.store.specs.Fresh.{answer, freshly};
-ghost use Rattle.store.specs.Meaning.{tallyOf};
+ghost use Rattle.store.specs.Meaning.{tallyOf, causeOf};
 ghost use Rattle.kept.specs.Said.{Sendable};
-ghost use Rattle.calls.specs.Calls.{stepCalled, offerCalled, Gives};
-ghost use Rattle.acts.specs.Works.{Formed};
+ghost use Rattle.calls.specs.Calls.{stepCalled, offerCalled, tickCalled, Gives};
+ghost use Rattle.acts.specs.Works.{Formed, Works};
+ghost use Rattle.turns.specs.Gains.{grownLog};
 ghost use Rattle.station.specs.Answers.{barred, Answers, Mutely};
 ghost use Rattle.station.specs.Offers.{offerOf, mayOffer, extension};
+ghost use Rattle.station.specs.Turns.{later, moving, turning, Ready};
+use commit::Merged;
 use fields::Name;
 use settings::Settings;
 use store::Cause;
@@ -269,4 +272,90 @@ fn offered(store: &[u8], name: Name) -> Offer
         return Offer::NotTaken;
     }
     extended(store, name)
+}
+
+// The station stops for a cause.
+fn stop(store: &mut [u8], number: u64, cause: Cause) -> u64
+    requires { ⌜ (Form (now store)) × (number < 2 ^ 32) ⌝ }
+    ensures { λ r. ⌜ Mutely (stopping number (causeOf cause) (stateOf (now (store .entry)))) (now (store .exit)) r ⌝ }
+{
+    store::set_phase(store, Phase::Stopped(cause));
+    refuse(number)
+}
+
+// Whether the next clock is the leader's moment to make a new-view.
+fn leads_next(store: &[u8]) -> bool
+    requires { ⌜ Formed (now store) ⌝ }
+    ensures { λ r. ⌜ r ≡ inputs.leadsNow (later (stateOf (now (store .entry)))) ⌝ }
+{
+    if !turns::leads(store) {
+        return false;
+    }
+    let station = Station::load(store);
+    let settings = station.settings;
+    station.clock as u64 + 1 == station.entry as u64 + 2 * settings.delay + 1
+}
+
+// Whether there is room for the leader's new-view, if it makes one at the next clock.
+fn next_fits(store: &[u8]) -> bool
+    requires { ⌜ Formed (now store) ⌝ }
+    ensures { λ r. ⌜ r ≡ hasRoom (inputs.lead (later (stateOf (now (store .entry)))) .now) ⌝ }
+{
+    if !leads_next(store) {
+        return true;
+    }
+    let x = turns::own_new_view(store);
+    acts::statement_fits(store, x)
+}
+
+// What follows the commits of a tick: blame, the leader's new-view, entering a view.
+fn moving(store: &mut [u8], out: &mut [u8], at: usize) -> usize
+    requires { ⌜ (Formed (now store)) × (hasRoom (inputs.lead (stateOf (now store)) .now) ≡ true) × (at + 20_779 ≤ length (now out)) ⌝ }
+    ensures { λ r. ⌜ Works (moving (stateOf (now (store .entry)))) (now (out .entry)) at (now (store .exit)) (now (out .exit)) r ⌝ }
+{
+    let complained = turns::complain(store, out, at);
+    let led = turns::lead(store, out, complained);
+    let mut order = [0u8; Settings::MOST_STATEMENTS];
+    turns::enter(store, out, led, &mut order)
+}
+
+// The clock moves on and the new log is written; then what else is due.
+fn turning(store: &mut [u8], out: &mut [u8], clock: u32, gained: &[u8], len: usize) -> usize
+    requires { ⌜ Ready (now store) (now gained) clock len (length (now out)) ⌝ }
+    ensures { λ r. ⌜ Works (turning (grownLog (now (store .entry)) (now (gained .entry)) len) (stateOf (now (store .entry)))) (now (out .entry)) 0 (now (store .exit)) (now (out .exit)) r ⌝ }
+{
+    store::set_clock(store, clock);
+    let reported = turns::logging(store, out, 0, gained, len);
+    moving(store, out, reported)
+}
+
+// A tick of a station that runs: refused before anything is written, or done.
+fn ticked(store: &mut [u8], out: &mut [u8]) -> u64
+    requires { ⌜ (Formed (now store)) × (running (stateOf (now store)) ≡ true) × (leastOut ≤ length (now out)) ⌝ }
+    ensures { λ r. ⌜ Answers (tick (stateOf (now (store .entry)))) (now (out .entry)) (now (store .exit)) (now (out .exit)) r ⌝ }
+{
+    let station = Station::load(store);
+    if station.clock as u64 == Settings::LAST_CLOCK {
+        return stop(store, 8, Cause::Clock);
+    }
+    let mut gained = [0u8; Settings::MOST_STATEMENTS];
+    let Merged::Grown(len) = commit::commits(store, station, &mut gained) else {
+        return stop(store, 7, Cause::Split);
+    };
+    if !next_fits(store) {
+        return stop_full(store);
+    }
+    turning(store, out, station.clock + 1, &gained, len) as u64
+}
+
+// One tick of the clock: what is due by it, or why it is refused.
+#[no_mangle]
+pub extern "C" fn station_tick(store: &mut [u8], out: &mut [u8]) -> u64
+    ensures { λ r. ⌜ Gives (tickCalled (now (store .entry)) (now (out .entry))) r (now (store .exit)) (now (out .exit)) ⌝ }
+{
+    let number = barred(store, out);
+    if number != 0 {
+        return refuse(number);
+    }
+    ticked(store, out)
 }

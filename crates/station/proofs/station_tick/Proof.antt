@@ -1,0 +1,52 @@
+-- `station_tick` meets its contract: barred, or the rules answer. Assumes nothing.
+use native.Mathlib.Omega.{arith}
+use Rattle.station.proofs.Opening.{barred-small}
+use Rattle.station.proofs.Turns.{barred-tick, tick-may, tick-gives}
+use borrow.Author.Needs.{needs}
+use Rattle.station.proofs.station_tick.Statement.{statement}
+use Rattle.station.proofs.station_tick.Tie as tie
+
+barred-requires : tie.Need-barred-requires
+barred-requires c κs = search needs
+
+refuse-requires : tie.Need-refuse-requires
+refuse-requires c κs =
+    let a = c .before .before .before .before .before .before .args in omega (arith, c .before .barred .ensures, barred-small (a .store .now) (a .out .now))
+
+same-length : tie.Need-same-length
+same-length c = search needs
+
+same-length-2 : tie.Need-same-length-2
+same-length-2 c = search needs
+
+returns : tie.Need-returns
+returns c =
+    let a = c .before .before .before .before .before .before .before .args in barred-tick (a .store .now) (a .out .now) (c .before .before .before .before .before .before .slice-known .given) (c .before .before .barred .ensures) (c .before .if1 .taken) (c .refuse .ensures)
+
+ticked-requires : tie.Need-ticked-requires
+ticked-requires c κs =
+    let a = c .before .before .before .before .before .before .before .before .args in tick-may (a .store .now) (a .out .now) (c .before .before .before .before .before .before .before .slice-known .given) (c .before .before .before .barred .ensures) (c .before .before .if1 .left)
+
+same-length-3 : tie.Need-same-length-3
+same-length-3 c = search needs
+
+same-length-4 : tie.Need-same-length-4
+same-length-4 c = search needs
+
+returns-2 : tie.Need-returns-2
+returns-2 c =
+    let a = c .before .before .before .before .before .before .before .before .before .before .before .before .before .args in tick-gives (a .store .now) (a .out .now) (c .before .before .before .before .before .before .before .before .before .before .before .before .slice-known .given) (c .before .before .before .before .before .before .before .before .barred .ensures) (c .before .before .before .before .before .before .before .if1 .left) (c .before .before .before .before .ticked .ensures)
+
+pub station-tick-spec : {M : Type 1} → statement M
+station-tick-spec =
+    tie.close
+    (tie.spec
+    barred-requires
+    refuse-requires
+    same-length
+    same-length-2
+    returns
+    ticked-requires
+    same-length-3
+    same-length-4
+    returns-2)
