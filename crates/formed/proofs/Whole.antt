@@ -36,6 +36,7 @@ parts-are : (s : Station) (xs : List Statement) (ts : List Tally) (ms l : List �
 unfolding wellFormed clocksInOrder lockGood statementGood stateFrom headerOf
 parts-are s xs ts ms l p q = simp (le-leb _ _ p, le-leb _ _ q, and-true)
 
+-- the state of the bytes, by its header and tables
 state-is : (b : List ℕ) → stateOf b ≡ stateFrom (fields b 0 headerFormat) (statements b) (tallies b) (blames b) (names b)
 unfolding stateOf
 state-is b = refl
@@ -44,19 +45,20 @@ grouped : (x a b c d e : Bool) → (x && (a && b && c && d && e)) ≡ (x && a &&
 grouped true a b c d e = refl
 grouped false a b c d e = refl
 
+-- without the form nothing else counts
 pub formless : (b : List ℕ) (r : Bool) → r ≡ hasForm b → not r ≡ true → false ≡ (hasForm b && wellFormed (stateOf b))
 formless b r e n = rw (sym e ∙ not-true r n)
 
 -- a store of the exact length, its station, and that it has the form, as the code tests it
-module _ (b : List ℕ) (s : Station) (long : length b ≡ storeLength) (holds : headerOf s ≡ fields b 0 headerFormat) (o : Bool) (oe : o ≡ hasForm b) (on : not o ≡ false) where
-  h : Lent b s
-  h = record { long = long; holds = holds }
+module _ (b : List ℕ) (s : Station) (long : length b ≡ storeLength) (holds : headerOf s ≡ fields b 0 headerFormat) (answer : Bool) (is : answer ≡ hasForm b) (held : not answer ≡ false) where
+  lent : Lent b s
+  lent = record { long = long; holds = holds }
 
-  f : hasForm b ≡ true
-  f = sym oe ∙ not-false o on
+  form : hasForm b ≡ true
+  form = sym is ∙ not-false answer held
 
   pub counted : Counts statementTable b (s .statements)
-  counted = counts-statements b s h (form-tables b s h f)
+  counted = counts-statements b s lent (form-tables b s lent form)
 
   few-statements : length (statements b) ≤ mostStatements
   unfolding statements
@@ -65,7 +67,7 @@ module _ (b : List ℕ) (s : Station) (long : length b ≡ storeLength) (holds :
   few-tallies : length (tallies b) ≤ mostTallies
   unfolding tallies
   few-tallies =
-      let k = counts-tallies b s h (form-tables b s h f) in
+      let k = counts-tallies b s lent (form-tables b s lent form) in
       rw (rows-length (tallyAt b) 0, ← k .is) (k .room)
 
   abbrev good : Bool
@@ -77,6 +79,7 @@ module _ (b : List ℕ) (s : Station) (long : length b ≡ storeLength) (holds :
   abbrev rest : Bool
   rest = tablesGood (settingsOf (s .settings)) b
 
+  -- with the form, the rest of the definition is all there is
   formed-is : (headerGood s && good && apart && rest) ≡ (hasForm b && wellFormed (stateOf b))
   unfolding tablesGood
   formed-is =
@@ -88,8 +91,9 @@ module _ (b : List ℕ) (s : Station) (long : length b ≡ storeLength) (holds :
       ∙ parts-are s xs ts (blames b) (names b) few-statements few-tallies
       ∙ ap (λ (vs : List ℕ). wellFormed (stateFrom vs xs ts (blames b) (names b))) holds
       ∙ ap wellFormed (sym (state-is b))
-      ∙ ap (_&& whole) (sym f)
+      ∙ ap (_&& whole) (sym form)
 
+  -- statements that are good certify
   certify : good ≡ true → AllCertify b (s .statements)
   unfolding statements
   certify e i l = good-certifies (alone s) (statementAt b i) (rows-all (statementGood (alone s)) (statementAt b) 0 (countOf statementTable b) e i (omega arith) (omega (arith, counted .is)))
@@ -101,11 +105,11 @@ module _ (b : List ℕ) (s : Station) (long : length b ≡ storeLength) (holds :
 
     pub ready : not (x && y && z) ≡ false → Ready b s
     ready e =
-        let k = form-tables b s h f in
+        let k = form-tables b s lent form in
         record {
           statements = counted;
-          tallies = counts-tallies b s h k;
-          log = counts-log b s h k;
+          tallies = counts-tallies b s lent k;
+          log = counts-log b s lent k;
           certify = certify (and-right (headerGood s) good (and-left (headerGood s && good) apart (sym tests ∙ not-false (x && y && z) e)));
         }
 

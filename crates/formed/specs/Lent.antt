@@ -1,4 +1,4 @@
--- A lent store, and the station that its header holds. Assumes nothing.
+-- A lent store with the station that its header holds, and the tests of single records that the code makes. Assumes nothing.
 use Prim.Native.Nat.{ℕ, _+_, _*_, _-_, _^_, _≤_, _<_}
 use mathlib.Core.Path.{_≡_}
 use mathlib.Core.Bool.{Bool, true, false, _&&_}
@@ -26,7 +26,7 @@ pub record Lent (b : List ℕ) (s : Station) : Type 0 where
   pub long : length b ≡ storeLength
   pub holds : headerOf s ≡ fields b 0 headerFormat
 
--- the same, with a table's count, in range
+-- a table's count, in range
 pub record Counts (t : Table) (b : List ℕ) (count : ℕ) : Type 0 where
   pub long : length b ≡ storeLength
   pub is : count ≡ countOf t b
@@ -67,10 +67,11 @@ pub record Certifies (x : words.Statement) : Type 0 where
   pub view : x .isNewView ≡ true → x .link < 256 ^ 4
   pub height : x .isNewView ≡ false → 1 ≤ x .height
 
+-- each of the first n statements
 abbrev pub AllCertify : List ℕ → ℕ → Type 0
 AllCertify b n = (i : ℕ) → i < n → Certifies (statementAt b i)
 
--- the same, with every table's count in range and statements that certify
+-- every table's count in range, and statements that certify
 pub record Ready (b : List ℕ) (s : Station) : Type 0 where
   pub statements : Counts statementTable b (s .statements)
   pub tallies : Counts tallyTable b (s .tallies)
