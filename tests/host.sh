@@ -1,6 +1,6 @@
 #!/bin/bash
-# The host side: the Rust crates' tests, both examples of docs/HOST.md, both programs in lockstep, and groups with faulty
-# leaders. Everything goes into target/.
+# The host side: the Rust crates' tests, both examples of docs/HOST.md, the store's check against a plain one, both programs
+# in lockstep, and groups with faulty leaders. Everything goes into target/.
 set -euo pipefail
 cd "$(dirname "$0")/.."
 tools/archive station >/dev/null
@@ -23,6 +23,7 @@ for own in 0 1 2; do
 done
 echo "both examples do as docs/HOST.md says"
 
+"$built/check"
 "$built/compare"
 "$built/simulate" --many 300
 "$built/simulate" --svg "$place/group.svg"

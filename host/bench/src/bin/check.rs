@@ -1,0 +1,258 @@
+//! How long the check of a store takes, in the proved station and written again in plain Rust: empty, half full, full.
+//! An empty message is refused with 4 right after the check, so the call's time is the check's. Both checks are then
+//! held against each other on stores with one byte changed.
+
+use station::{Refusal, STORE_LENGTH, Station};
+use std::hint::black_box;
+use std::time::Instant;
+
+const STATEMENTS: usize = 68;
+const STATEMENT: usize = 80;
+const TALLIES: usize = 10_308;
+const TALLY: usize = 42;
+const BLAMES: usize = 21_060;
+const LOG: usize = 21_124;
+const GENESIS: [u8; 32] = [0; 32];
+
+fn two(s: &[u8], at: usize) -> u16 {
+    u16::from_be_bytes(s[at..at + 2].try_into().unwrap())
+}
+
+fn four(s: &[u8], at: usize) -> u32 {
+    u32::from_be_bytes(s[at..at + 4].try_into().unwrap())
+}
+
+fn name(s: &[u8], at: usize) -> &[u8; 32] {
+    s[at..at + 32].try_into().unwrap()
+}
+
+fn zero(s: &[u8]) -> bool {
+    s.iter().all(|&b| b == 0)
+}
+
+/// A store, taken apart as far as every part of the check needs it.
+struct Look<'a> {
+    s: &'a [u8],
+    n: u64,
+    statements: usize,
+    tallies: usize,
+    logged: usize,
+}
+
+impl Look<'_> {
+    fn block(height: u32, name: &[u8; 32]) -> bool {
+        height <= 65_535 && (height == 0) == (*name == GENESIS)
+    }
+
+    fn mask(&self, mask: u16) -> bool {
+        u64::from(mask) < 1 << self.n && u64::from(mask.count_ones()) > self.n / 2
+    }
+
+    fn certificate(&self, height: u32, view: u32, mask: u16) -> bool {
+        if view == 0 { height == 0 && mask == 0 } else { view <= 32 && self.mask(mask) }
+    }
+
+    fn header(&self) -> bool {
+        let s = self.s;
+        let (phase, d, own) = (four(s, 0), two(s, 5), u64::from(s[7]));
+        let (view, entry, clock) = (four(s, 8), four(s, 12), four(s, 16));
+        self.n % 2 == 1
+            && (3..=15).contains(&self.n)
+            && (1..=10_000).contains(&d)
+            && own < self.n
+            && (1..=32).contains(&view)
+            && entry <= clock
+            && clock <= 4_000_000_000
+            && (phase < 4 || (entry..=clock).contains(&(phase - 4)))
+            && four(s, 20) < view
+            && Self::block(four(s, 24), name(s, 28))
+            && self.certificate(four(s, 24), four(s, 20), two(s, 60))
+    }
+
+    fn statement(&self, at: usize) -> bool {
+        let s = self.s;
+        let (view, height, link, mask) =
+            (four(s, at), four(s, at + 4), name(s, at + 44), two(s, at + 42));
+        let said = match s[at + 40] {
+            1 => {
+                zero(&link[..28])
+                    && four(s, at + 72) < view
+                    && self.certificate(height, four(s, at + 72), mask)
+            }
+            2 => height >= 1 && Self::block(height - 1, link) && self.mask(mask),
+            _ => false,
+        };
+        said && (1..=32).contains(&view)
+            && Self::block(height, name(s, at + 8))
+            && u64::from(s[at + 41]) == u64::from(view) % self.n
+            && four(s, at + 76) <= four(s, 16) + 1
+    }
+
+    fn tally(&self, at: usize) -> bool {
+        let s = self.s;
+        (1..=32).contains(&four(s, at))
+            && Self::block(four(s, at + 4), name(s, at + 8))
+            && u64::from(two(s, at + 40)) < 1 << self.n
+    }
+
+    fn has(&self, view: u32, height: u32, block: &[u8; 32]) -> bool {
+        let key = u64::from(view) << 32 | u64::from(height);
+        (0..self.tallies).map(|i| TALLIES + TALLY * i).any(|at| {
+            u64::from_be_bytes(self.s[at..at + 8].try_into().unwrap()) == key
+                && name(self.s, at + 8) == block
+        })
+    }
+
+    fn tallied(&self, at: usize) -> bool {
+        let (s, view, height) = (self.s, four(self.s, at), four(self.s, at + 4));
+        let certified = if s[at + 40] == 1 {
+            let view = four(s, at + 72);
+            view == 0 || self.has(view, height, name(s, at + 8))
+        } else {
+            self.has(view, height - 1, name(s, at + 44))
+        };
+        certified && self.has(view, height, name(s, at + 8))
+    }
+
+    fn distinct(&self) -> bool {
+        let s = self.s;
+        let statements = |i: usize, j: usize| {
+            let (a, b) = (STATEMENTS + STATEMENT * i, STATEMENTS + STATEMENT * j);
+            s[a..a + 8] == s[b..b + 8]
+                && s[a + 8..a + 42] == s[b + 8..b + 42]
+                && s[a + 44..a + 76] == s[b + 44..b + 76]
+        };
+        let tallies = |i: usize, j: usize| {
+            let (a, b) = (TALLIES + TALLY * i, TALLIES + TALLY * j);
+            s[a..a + 8] == s[b..b + 8] && s[a + 8..a + 40] == s[b + 8..b + 40]
+        };
+        (0..self.statements).all(|i| (i + 1..self.statements).all(|j| !statements(i, j)))
+            && (0..self.tallies).all(|i| (i + 1..self.tallies).all(|j| !tallies(i, j)))
+    }
+
+    fn linked(&self) -> bool {
+        let s = self.s;
+        let mut parent = &GENESIS;
+        (0..self.logged).all(|i| {
+            let block = name(s, LOG + 32 * i);
+            let found = (0..self.statements).map(|j| STATEMENTS + STATEMENT * j).any(|at| {
+                four(s, at + 4) == i as u32 + 1
+                    && s[at + 40] == 2
+                    && name(s, at + 8) == block
+                    && name(s, at + 44) == parent
+            });
+            parent = block;
+            found
+        })
+    }
+}
+
+/// What docs/STORE.md calls well formed.
+fn well_formed(s: &[u8]) -> bool {
+    let look = Look {
+        s,
+        n: s[4].into(),
+        statements: two(s, 62).into(),
+        tallies: two(s, 64).into(),
+        logged: two(s, 66).into(),
+    };
+    look.statements <= 128
+        && look.tallies <= 256
+        && look.logged <= 128
+        && zero(&s[STATEMENTS + STATEMENT * look.statements..TALLIES])
+        && zero(&s[TALLIES + TALLY * look.tallies..BLAMES])
+        && zero(&s[LOG + 32 * look.logged..])
+        && look.header()
+        && (0..look.statements).all(|i| look.statement(STATEMENTS + STATEMENT * i))
+        && (0..look.tallies).all(|i| look.tally(TALLIES + TALLY * i))
+        && look.distinct()
+        && (0..look.statements).all(|i| look.tallied(STATEMENTS + STATEMENT * i))
+        && (0..32).all(|i| u64::from(two(s, BLAMES + 2 * i)) < 1 << look.n)
+        && look.linked()
+}
+
+fn put(s: &mut [u8], at: usize, width: usize, value: usize) {
+    s[at..at + width].copy_from_slice(&value.to_be_bytes()[8 - width..]);
+}
+
+/// A store of a chain of view 1, all of it logged, with tallies of made-up names besides.
+fn store(blocks: usize, tallies: usize) -> Vec<u8> {
+    let mut s = Station::fresh(3, 2, 2).unwrap().store().to_vec();
+    for height in 0..=blocks {
+        if tallies == 0 {
+            break;
+        }
+        let at = TALLIES + TALLY * height;
+        put(&mut s, at, 4, 1);
+        put(&mut s, at + 4, 4, height);
+        put(&mut s, at + 32, 8, height);
+        put(&mut s, at + 40, 2, 3);
+        if height > 0 {
+            let at = STATEMENTS + STATEMENT * (height - 1);
+            put(&mut s, at, 4, 1);
+            put(&mut s, at + 4, 4, height);
+            put(&mut s, at + 32, 8, height);
+            put(&mut s, at + 40, 2, 0x0201);
+            put(&mut s, at + 42, 2, 3);
+            put(&mut s, at + 68, 8, height - 1);
+            put(&mut s, LOG + 32 * height - 8, 8, height);
+        }
+    }
+    for i in blocks + 1..tallies {
+        let at = TALLIES + TALLY * i;
+        put(&mut s, at, 4, 1);
+        put(&mut s, at + 4, 4, 1000 + i);
+        put(&mut s, at + 32, 8, 1000 + i);
+    }
+    put(&mut s, 62, 2, blocks);
+    put(&mut s, 64, 2, tallies);
+    put(&mut s, 66, 2, blocks);
+    s
+}
+
+/// The least time of one call, in microseconds.
+fn least(mut call: impl FnMut() -> bool) -> f64 {
+    let mut best = f64::MAX;
+    for _ in 0..60 {
+        let start = Instant::now();
+        for _ in 0..20 {
+            black_box(call());
+        }
+        best = best.min(start.elapsed().as_secs_f64() / 20.0 * 1e6);
+    }
+    best
+}
+
+fn main() {
+    println!("| store | proved, µs | plain Rust, µs | ratio |\n|---|---|---|---|");
+    for (what, s) in
+        [("empty", store(0, 0)), ("half full", store(64, 128)), ("full", store(128, 256))]
+    {
+        let mut station = Station::from_store(&s).expect("a store of ours");
+        assert!(well_formed(&s));
+        let proved = least(|| station.step(&[]).is_ok());
+        let plain = least(|| well_formed(black_box(&s)));
+        println!("| {what} | {proved:.2} | {plain:.2} | {:.2} |", proved / plain);
+    }
+    let (mut seed, mut tried, mut differ) = (1u64, 0, 0);
+    for base in [store(0, 0), store(9, 20), store(128, 256)] {
+        let mut s = base.clone();
+        for at in 0..STORE_LENGTH {
+            seed = seed
+                .wrapping_mul(6_364_136_223_846_793_005)
+                .wrapping_add(1_442_695_040_888_963_407);
+            s[at] = match seed >> 62 {
+                0 => s[at].wrapping_add(1),
+                1 => s[at].wrapping_sub(1),
+                2 => 0,
+                _ => (seed >> 40) as u8,
+            };
+            let proved = !matches!(Station::from_store(&s), Err(Refusal::Store));
+            tried += 1;
+            differ += usize::from(proved != well_formed(&s));
+            s[at] = base[at];
+        }
+    }
+    println!("\n{tried} stores with one byte changed, {differ} judged differently");
+    assert_eq!(differ, 0);
+}
