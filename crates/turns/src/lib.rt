@@ -2,7 +2,8 @@
 ghost use mathlib.Core.Path.{_≡_};
 ghost use mathlib.Core.Bool.{true};
 ghost use mathlib.Core.Option.{none};
-ghost use Prim.Native.Nat.{_+_, _*_, _≤_, _<_};
+ghost use Prim.Native.Nat.{_+_, _*_, _^_, _≤_, _<_};
+ghost use lib.Dec.{eqb};
 ghost use lib.ListN.{length};
 ghost use Rattle.rules.specs.Limits.{mostStatements, maskBits};
 ghost use Rattle.rules.specs.Sizes as sizes;
@@ -83,6 +84,14 @@ pub fn leads(store: &[u8]) -> bool
     settings.leader(station.view as u64) == settings.own
 }
 
+// Whether the clock is one tick past a wait, so that what was due at its end has come.
+fn is_past(clock: u32, start: u32, wait: u64) -> bool
+    requires { ⌜ wait < 2 ^ 32 ⌝ }
+    ensures { λ r. ⌜ r ≡ eqb clock (start + wait + 1) ⌝ }
+{
+    clock as u64 == start as u64 + wait + 1
+}
+
 // Whether it is the leader's moment to make a new-view.
 pub fn leads_now(store: &[u8]) -> bool
     requires { ⌜ Formed (now store) ⌝ }
@@ -93,7 +102,7 @@ pub fn leads_now(store: &[u8]) -> bool
     }
     let station = Station::load(store);
     let settings = station.settings;
-    station.clock as u64 == station.entry as u64 + 2 * settings.delay + 1
+    is_past(station.clock, station.entry, 2 * settings.delay)
 }
 
 // Whether a waiting station's wait is over.
@@ -106,8 +115,8 @@ pub fn enters_now(store: &[u8]) -> bool
     let phase = station.phase;
     match phase {
         Phase::Waiting(quit) => {
-            ((station.view as u64) < Settings::LAST_VIEW)
-                & (station.clock as u64 == quit as u64 + settings.delay + 1)
+            let is_over = is_past(station.clock, quit, settings.delay);
+            ((station.view as u64) < Settings::LAST_VIEW) & is_over
         }
         _ => false,
     }

@@ -1,7 +1,10 @@
 -- `turns::enters_now` meets its contract, by the loaded phase. Assumes nothing.
-use mathlib.Core.Path.{ap}
+use mathlib.Core.Path.{ap, _∙_}
+use mathlib.Core.Bool.{_&&_}
 use mathlib.Core.Logic.{⊎-elim}
+use lib.Dec.{ltb}
 use denote.Enum.Declared.{tagOf}
+use Rattle.rules.specs.Limits.{lastView}
 use Rattle.store.proofs.Phase.{the-type}
 use Rattle.turns.proofs.Moments.{short-delay, enters-at, enters-never}
 use Rattle.store.proofs.Forms.{form-long}
@@ -17,29 +20,19 @@ load-requires c κs =
 enum-known-phase : tie.Need-enum-known-phase
 enum-known-phase c = search needs
 
+is-past-requires : tie.Need-is-past-requires
+is-past-requires c κs =
+    let load = c .before .before .before .before .load in
+    omega (arith, short-delay (c .before .before .before .before .before .before .pre) (load .result) (load .ensures))
+
 cast-result : tie.Need-cast-result
 cast-result c = search needs
 
-cast-result-2 : tie.Need-cast-result-2
-cast-result-2 c = search needs
-
-cast-result-3 : tie.Need-cast-result-3
-cast-result-3 c = search needs
-
-add-result : tie.Need-add-result
-add-result c =
-    let load = c .before .before .before .before .before .before .before .load in
-    omega (arith, short-delay (c .before .before .before .before .before .before .before .before .before .pre) (load .result) (load .ensures))
-
-add-result-2 : tie.Need-add-result-2
-add-result-2 c =
-    let load = c .before .before .before .before .before .before .before .load in
-    omega (arith, short-delay (c .before .before .before .before .before .before .before .before .before .pre) (load .result) (load .ensures))
-
 returns : tie.Need-returns
 returns c =
-    let load = c .before .before .before .before .before .before .before .load in
-    enters-at (c .before .before .before .before .before .before .before .before .before .pre) (load .result) (load .ensures) _ (c .before .before .before .before .phase .given .1)
+    let load = c .before .before .before .before .before .before .load in
+    ap (ltb (load .result .view) lastView &&_) (c .before .is-past .ensures)
+    ∙ enters-at (c .before .before .before .before .before .before .before .before .pre) (load .result) (load .ensures) _ (c .before .before .before .phase .given .1)
 
 returns-2 : tie.Need-returns-2
 returns-2 c =
@@ -49,13 +42,4 @@ returns-2 c =
 pub enters-now-spec : {M : Type 1} → statement M
 enters-now-spec =
     tie.close
-    (tie.spec
-    load-requires
-    enum-known-phase
-    cast-result
-    cast-result-2
-    cast-result-3
-    add-result
-    add-result-2
-    returns
-    returns-2)
+    (tie.spec load-requires enum-known-phase is-past-requires cast-result returns returns-2)

@@ -19,42 +19,23 @@ load-requires : tie.Need-load-requires
 load-requires c κs =
     form-long _ (c .before .before .before .pre .form)
 
-cast-result : tie.Need-cast-result
-cast-result c = search needs
+mul-is-past : tie.Need-mul-is-past
+mul-is-past c =
+    let load = c .before .before .load in
+    omega (arith, short-delay (c .before .before .before .before .before .before .pre) (load .result) (load .ensures))
 
-cast-result-2 : tie.Need-cast-result-2
-cast-result-2 c = search needs
-
-mul-result : tie.Need-mul-result
-mul-result c =
-    let load = c .before .before .before .before .load in
-    omega (arith, short-delay (c .before .before .before .before .before .before .before .before .pre) (load .result) (load .ensures))
-
-add-result : tie.Need-add-result
-add-result c =
-    let load = c .before .before .before .before .load in
-    omega (arith, short-delay (c .before .before .before .before .before .before .before .before .pre) (load .result) (load .ensures))
-
-add-result-2 : tie.Need-add-result-2
-add-result-2 c =
-    let load = c .before .before .before .before .load in
-    omega (arith, short-delay (c .before .before .before .before .before .before .before .before .pre) (load .result) (load .ensures))
+is-past-requires : tie.Need-is-past-requires
+is-past-requires c κs =
+    let load = c .before .before .load in
+    omega (arith, short-delay (c .before .before .before .before .before .before .pre) (load .result) (load .ensures))
 
 returns-2 : tie.Need-returns-2
 returns-2 c =
-    let load = c .before .before .before .before .load in
-    loaded-now (c .before .before .before .before .before .before .before .before .pre) (load .result) (load .ensures) (sym (c .before .before .before .before .before .before .leads .ensures) ∙ not-false _ (c .before .before .before .before .before .if1 .left))
+    let load = c .before .before .before .load in
+    c .is-past .ensures
+    ∙ loaded-now (c .before .before .before .before .before .before .before .pre) (load .result) (load .ensures) (sym (c .before .before .before .before .before .leads .ensures) ∙ not-false _ (c .before .before .before .before .if1 .left))
 
 pub leads-now-spec : {M : Type 1} → statement M
 leads-now-spec =
     tie.close
-    (tie.spec
-    leads-requires
-    returns
-    load-requires
-    cast-result
-    cast-result-2
-    mul-result
-    add-result
-    add-result-2
-    returns-2)
+    (tie.spec leads-requires returns load-requires mul-is-past is-past-requires returns-2)
