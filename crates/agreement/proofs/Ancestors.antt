@@ -15,19 +15,20 @@ use Rattle.rules.specs.Words.{Statement, message, sameStatement, State, inView}
 use Rattle.rules.specs.Inputs.{isBlock, due, chain}
 use Rattle.rules.proofs.Tests.{by-bool, by-option, no-bool}
 use Rattle.rules.proofs.Truths.{eq-eqb}
-use Rattle.rules.proofs.Searches.{all-of, any-mem, first-any, first-mem, first-none}
+use Rattle.rules.proofs.Searches.{any-mem, first-any, first-mem, first-none}
 use Rattle.rules.proofs.Statements.{In, same-like, no-conflict-newView}
 use Rattle.rules.proofs.Moves.{counted, logAfter}
 use Rattle.rules.proofs.Kept.{true-in, moves-fixed, moves-kept, VoteKept, moves-vote}
 use Rattle.rules.proofs.Held.{held-stored}
 use Rattle.rules.proofs.Commits.{commits-some, Due, facts-due}
+use Rattle.kept.proofs.Allowed.{sizes}
 use Rattle.agreement.specs.Schedule.{Event, commonTick, ticks, at, Says, lineage}
 use Rattle.agreement.proofs.Lineage.{up, propose-facts, chain-whole}
 use Rattle.agreement.proofs.Events.{begun, begun-same}
 use Rattle.agreement.proofs.Clock.{clock-suc, clock-before}
-use Rattle.agreement.proofs.Group.{Group, good-facts, st, ck, Ok, G, SaidAt, VotedBy, begun-at, moves-of, at-settings, at-clock, kept-run, orderly-run, proper-run, reach}
+use Rattle.agreement.proofs.Group.{Group, st, ck, Ok, G, SaidAt, begun-at, moves-of, at-settings, at-clock, kept-run, orderly-run, reach}
 use Rattle.agreement.proofs.Behind.{SoundVote, Grounds, grounds}
-use Rattle.agreement.proofs.Logs.{tick-log, counted-same, RightIn, stored-lineage}
+use Rattle.agreement.proofs.Logs.{tick-log, counted-same, stored-placed, all-placed, stored-lineage}
 
 module _ (X : Group) where
   open Group X using (n, D, faulty, event, next, parentOf)
@@ -160,7 +161,7 @@ module _ (X : Group) where
 
     later : suc j < k
     later =
-        let (odd, least, most, delay) = good-facts (G X 0) (X .settings) in
+        let delay = sizes (G X 0) (X .settings) .leastD in
         let d = S .due in
         clock-before n D event (suc j) k (omega arith)
 
@@ -210,15 +211,14 @@ module _ (X : Group) where
     unfolding up
     whole z i kind zh zb =
         let xs = st X r k .statements in
-        let all = proper-run X r (S .ok) k .statements in
-        let right = all-of (RightIn X r k) xs all z i in
-        let (pz, hz, dz, bz) = propose-facts parentOf (G X r) (VotedBy X (ck X k)) z right kind in
+        let right = stored-placed X r (S .ok) k z i in
+        let (pz, hz, dz, bz) = propose-facts parentOf (G X r) z right kind in
         let shown = ancestors (ck X (suc j)) v h b (r, j, S .ok, omega arith, S .ballot) in
         let d = S .due in
         let t = after-tick in
         let sn = X .soon k in
         let link : parentOf b ≡ z .link = ap parentOf (sym zb) ∙ pz in
-        chain-whole parentOf (G X r) (VotedBy X (ck X k)) xs z all right kind
+        chain-whole parentOf (G X r) xs z (all-placed X r (S .ok) k) right kind
         (λ e l.
         let q : h - suc e ≡ z .height - 1 - e = omega arith in
         subst₂ (λ (x y : ℕ). any (isBlock x (up parentOf e y)) xs ≡ true) q link

@@ -5,22 +5,21 @@ use Prim.Native.Nat.{ℕ, suc, _-_, _≤_, _<_}
 use native.Mathlib.Omega.{arith}
 use mathlib.Core.Bool.{true, false}
 use mathlib.Core.Logic.{_⊎_, inl, inr}
-use lib.Dec.{eqb}
 use Rattle.rules.specs.Lists.{first}
 use Rattle.rules.specs.Sizes.{bit}
 use Rattle.rules.specs.Messages.{vote, maskAllowed, toAll}
-use Rattle.rules.specs.Words.{Statement, message, sameStatement, State}
-use Rattle.rules.proofs.Tests.{eqb-eq, by-bool, by-option, no-bool}
-use Rattle.rules.proofs.Searches.{All, all-first, first-any, first-none}
+use Rattle.rules.specs.Words.{Statement, message, sameStatement}
+use Rattle.rules.proofs.Tests.{by-option, no-bool}
+use Rattle.rules.proofs.Searches.{first-any, first-none, first-mem}
 use Rattle.rules.proofs.Statements.{In, same-like}
-use Rattle.rules.proofs.Allowed.{mask-facts, certificate-zero, certificate-later, allowed-rights}
+use Rattle.rules.proofs.Allowed.{mask-facts, allowed-rights}
 use Rattle.rules.proofs.Moves.{carried}
-use Rattle.rules.proofs.Orderly.{past-range}
+use Rattle.rules.proofs.Kept.{moves-kept}
 use Rattle.rules.proofs.Votes.{Cast}
-use Rattle.rules.proofs.Proper.{Right, Proper}
+use Rattle.kept.proofs.Allowed.{certificate-cases}
 use Rattle.agreement.specs.Schedule.{Says}
 use Rattle.agreement.proofs.Events.{Brings, begun}
-use Rattle.agreement.proofs.Group.{Group, st, ck, Ok, G, SaidAt, VotedBy, begun-at, proper-run, chain-proper, cast-run}
+use Rattle.agreement.proofs.Group.{Group, st, ck, Ok, G, SaidAt, VotedBy, Sure, sure-run, cast-run}
 use Rattle.agreement.proofs.Follow.{names-sound}
 
 module _ (X : Group) where
@@ -44,36 +43,34 @@ module _ (X : Group) where
       let (k, t, s) = f j e ok in
       (j, k, ok, t, s)
 
-  right-behind : (c i : ℕ) (z : Statement) → Right (G X i) (VotedBy X c) parentOf (message z) → Behind c z
+  sure-behind : (i k : ℕ) (z : Statement) → Sure X i k z → Behind (ck X k) z
   unfolding message carried
-  right-behind c i z r = (
+  sure-behind i k z r = (
     λ e.
-        let q = rw (e, message) at r in
-        let (o, l, b, p, m, a) = allowed-rights (G X i) _ (q .allows) in
-        (z .height - 1, omega arith, q .parent, quorum-vote c i (z .view) (z .height - 1) (z .link) (z .mask) m (λ j y. q .backed _ refl j y)),
+        let (w, q) = rw (e, message) at r in
+        let (o, l, b, p, m, a) = allowed-rights (G X i) _ w in
+        (z .height - 1, omega arith, q .parent, quorum-vote (ck X k) i (z .view) (z .height - 1) (z .link) (z .mask) m (λ j y. q .backed _ refl j y)),
     λ e.
-        let q = rw (e, message) at r in
-        let (o, b, l, m, a) = allowed-rights (G X i) _ (q .allows) in
-        by-bool (eqb (z .link) 0)
-        (λ k. let u = eqb-eq (z .link) 0 k in (l, inl (u, certificate-zero (G X i) _ _ _ m u .0)))
-        (λ k. (l, inr (quorum-vote c i (z .link) (z .height) (z .name) (z .mask) (certificate-later (G X i) _ _ _ m k .1) (λ j y. q .backed _ refl j y)))),
+        let (w, q) = rw (e, message) at r in
+        let (o, b, l, m, a) = allowed-rights (G X i) _ w in
+        elim (certificate-cases (G X i) _ _ _ m) [
+          | inl (u, h, _) ↦ (l, inl (u, h))
+          | inr (_, _, u) ↦ (l, inr (quorum-vote (ck X k) i (z .link) (z .height) (z .name) (z .mask) u (λ j y. q .backed _ refl j y)))
+        ],
   )
 
-  stored-behind : (c i : ℕ) (s : State) (w : Statement) → Proper (G X i) (VotedBy X c) parentOf s → In (s .statements) w → Behind c w
-  stored-behind c i s w p h =
-      by-option (first (sameStatement w) (s .statements)) (λ f. no-bool (sym h ∙ first-none (sameStatement w) (s .statements) f)) λ z f.
-      let r = all-first (λ (x : Statement). Right (G X i) (VotedBy X c) parentOf (message x)) (sameStatement w) (s .statements) z (p .statements) f in
-      subst (Behind c) (same-like w z (first-any (sameStatement w) (s .statements) z f .1)) (right-behind c i z r)
+  stored-behind : (i : ℕ) → Ok X i → (k : ℕ) (w : Statement) → In (st X i k .statements) w → Behind (ck X k) w
+  stored-behind i ok k w h =
+      let xs = st X i k .statements in
+      by-option (first (sameStatement w) xs) (λ f. no-bool (sym h ∙ first-none (sameStatement w) xs f)) λ z f.
+      subst (Behind (ck X k)) (same-like w z (first-any (sameStatement w) xs z f .1)) (sure-behind i k z (sure-run X i ok k z (first-mem (sameStatement w) xs z f)))
 
   -- L4, L6, L8 and G1: what stands behind a sound vote at event k
   pub record Grounds (i k v h b : ℕ) : Type 0 where
     pub cast : Cast (SaidAt X i) (Brings i (event k) (st X i k)) (begun (event k) (st X i k)) (st X i (suc k)) v h b
-    pub proper : Proper (G X i) (VotedBy X (ck X (suc k))) parentOf (cast .at)
     pub behind : Behind (ck X (suc k)) (cast .stands .what)
 
   pub grounds : (i : ℕ) → Ok X i → (k v h b a : ℕ) → Says n D event i k (toAll (vote v h b a)) → Grounds i k v h b
   grounds i ok k v h b a m =
       let c = cast-run X i ok k v h b a m in
-      let e = begun-at X i ok k in
-      let p = chain-proper X i ok k (proper-run X i ok k) (c .at) (c .said) (c .before) (subst (λ (y : ℕ). All (SaidAt X i y) (c .said)) e (c .heard)) (past-range (SaidAt X i) (c .orderly .past) .1) .0 in
-      record { cast = c; proper = p; behind = stored-behind (ck X (suc k)) i (c .at) (c .stands .what) p (c .stands .has) }
+      record { cast = c; behind = stored-behind i ok (suc k) (c .stands .what) (moves-kept (c .after) .has (c .stands .what) (c .stands .has)) }

@@ -111,8 +111,8 @@ begun-orderly S (tickOf j) s i = i
 begun-orderly S (given j bs) s i = i
 begun-orderly S (offeredTo j b) s i = i
 
-pub begun-proper : (g : Settings) (P : ℕ → ℕ → ℕ → ℕ → Type 0) (parentOf : ℕ → ℕ) (e : Event) (s : State) → Proper g P parentOf s → Proper g P parentOf (begun e s)
-begun-proper g P parentOf e s i = let (a, p, v, c, b, d, l) = begun-same e s in same-proper g P parentOf s (begun e s) a b c d i
+pub begun-proper : (P : ℕ → ℕ → ℕ → ℕ → Type 0) (parentOf : ℕ → ℕ) (g : Settings) (e : Event) (s : State) → Proper P parentOf g s → Proper P parentOf g (begun e s)
+begun-proper P parentOf g e s i = let (a, p, v, c, b, d, l) = begun-same e s in same-proper P parentOf g (begun e s) a b c i
 
 -- ---- what is said
 

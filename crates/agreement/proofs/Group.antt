@@ -1,49 +1,36 @@
 -- What the proof needs of a schedule, and what then holds of each sound station at every moment. `next k` is the clock to which a
 -- tick at moment k would go: the clock after event k where the schedule goes on. Assumes nothing.
 use mathlib.Core.Path.{_≡_, subst, refl, sym, ap, _∙_}
-use Prim.Native.Nat.{ℕ, zero, suc, _+_, _/_, _%_, _≤_, _<_}
+use Prim.Native.Nat.{ℕ, zero, suc, _+_, _/_, _≤_, _<_}
 use native.Mathlib.Omega.{arith}
 use native.Mathlib.Decide.{decLe, ℕ-discrete}
-use mathlib.Core.Bool.{true, _&&_}
+use mathlib.Core.Bool.{true}
 use mathlib.Core.List.{List, _++_, List·Memᴰ}
 use mathlib.Core.Logic.{_⊎_, inl, inr}
 use mathlib.Core.Option.{some}
-use lib.Dec.{eqb, leb, ltb}
 use lib.ListN.{length}
-use Rattle.rules.specs.Limits.{leastStations, mostStations, leastDelay, mostDelay, firstView, lastView}
-use Rattle.rules.specs.Lists.{within}
+use Rattle.rules.specs.Limits.{firstView, lastView}
+use Rattle.rules.specs.Lists.{distinct}
 use Rattle.rules.specs.Sizes.{Settings, goodSettings, leader, bit, count, quorum}
 use Rattle.rules.specs.Messages.{Message, newView, propose, vote, blame, blameSet, status, read, write, maskAllowed, certificateAllowed, allowed, Effect, toAll, toOne, committed}
-use Rattle.rules.specs.Words.{Tally, State, waiting, fresh}
+use Rattle.rules.specs.Words.{Statement, message, sameStatement, Tally, State, waiting, fresh}
 use Rattle.rules.specs.Inputs.{offered}
 use Rattle.rules.specs.Refusals.{Outcome, running, step}
-use Rattle.rules.proofs.Tests.{eqb-eq, leb-le}
-use Rattle.rules.proofs.Truths.{and-true}
 use Rattle.rules.proofs.Searches.{All, all-append, all-map, all-of, to-all}
-use Rattle.rules.proofs.Bytes.{Bytes}
-use Rattle.rules.proofs.Written.{read-write}
-use Rattle.rules.proofs.Statements.{Once}
-use Rattle.rules.proofs.Allowed.{IsName, allowed-fitting, fitting-named, read-fits}
 use Rattle.rules.proofs.Moves.{carried, Moves}
-use Rattle.rules.proofs.Kept.{no-phase, moves-fixed, Kept, kept-refl, kept-trans, moves-kept, moves-once, moves-late, settled-waits}
+use Rattle.rules.proofs.Kept.{no-phase, moves-fixed, Kept, kept-refl, kept-trans, moves-kept, moves-late, settled-waits}
 use Rattle.rules.proofs.Orderly.{Orderly, fresh-orderly, moves-orderly, past-range}
 use Rattle.rules.proofs.Held.{Held, held-kept, step-held, HeldSaid, moves-said}
 use Rattle.rules.proofs.Votes.{Cast, CastSaid, moves-cast}
-use Rattle.rules.proofs.Proper.{Right, Proper, Known, Sayable, Parented, fresh-proper, proper-map, moves-proper}
+use Rattle.rules.proofs.Proper.{Right, Proper, Known, Parented, fresh-proper, proper-map, moves-proper}
+use Rattle.kept.specs.Parts.{WellFormed}
+use Rattle.kept.proofs.Allowed.{sizes}
+use Rattle.kept.proofs.Statements.{stored-said}
+use Rattle.kept.proofs.Calls.{sent-read}
 use Rattle.agreement.specs.Schedule.{Event, idle, commonTick, tickOf, given, offeredTo, happens, ticks, IsCommon, settingsOf, at, out, clock, Says, Sound, IsLent, Hands, Offers}
+use Rattle.agreement.proofs.Whole.{settings-alike, formed-at, sent-at}
 use Rattle.agreement.proofs.Clock.{clock-suc, clock-mono, clock-before}
 use Rattle.agreement.proofs.Events.{GivenBy, OfferedBy, Brings, begun, before, event-moves, begun-clock, begun-same, begun-kept, begun-orderly, begun-proper, before-all, mem-after, event-settled, ticks-two, happens-given}
-
--- good settings, as facts
-pub good-facts : (g : Settings) → goodSettings g ≡ true → (g .n % 2 ≡ 1) × (leastStations ≤ g .n) × (g .n ≤ mostStations) × (leastDelay ≤ g .D)
-unfolding goodSettings within
-good-facts g e =
-    let a = and-true _ (ltb (g .own) (g .n)) e in
-    let b = and-true _ (leb leastDelay (g .D) && leb (g .D) mostDelay) (a .0) in
-    let c = and-true (eqb (g .n % 2) 1) (leb leastStations (g .n) && leb (g .n) mostStations) (b .0) in
-    let d = and-true (leb leastStations (g .n)) (leb (g .n) mostStations) (c .1) in
-    let f = and-true (leb leastDelay (g .D)) (leb (g .D) mostDelay) (b .1) in
-    (eqb-eq (g .n % 2) 1 (c .0), leb-le leastStations (g .n) (d .0), leb-le (g .n) mostStations (d .1), leb-le leastDelay (g .D) (f .0))
 
 -- what is allowed doesn't depend on the own number
 pub allowed-alike : (n D i j : ℕ) (m : Message) → allowed (settingsOf n D i) m ≡ allowed (settingsOf n D j) m
@@ -150,13 +137,6 @@ module _ (X : Group) where
       moves-orderly (SaidAt i) b (st i (suc k)) o w (said-here i k o q (b .clock) (sym (begun-at i h k)))
       (begun-orderly (SaidAt i) (event k) (st i k) (orderly-run i h k))
 
-  pub once-run : (i : ℕ) → Ok i → (k : ℕ) → Once (st i k .statements)
-  unfolding at fresh
-  once-run i h zero = tt
-  once-run i h (suc k) =
-      let (o, q, w) = moves-of i h k in
-      moves-once (begun (event k) (st i k)) (st i (suc k)) o w (subst Once (sym (begun-same (event k) (st i k) .3)) (once-run i h k))
-
   pub view-run : (i : ℕ) → Ok i → (k : ℕ) → (firstView ≤ st i k .view) × (st i k .view ≤ lastView)
   view-run i h k = past-range (SaidAt i) (orderly-run i h k .past)
 
@@ -201,14 +181,10 @@ module _ (X : Group) where
   offered-of i (given j bs) s b m r = absurd r
   offered-of i (offeredTo j c) s b m (q, p, r) = (ap (λ (x : ℕ). offeredTo x c) (sym q) ∙ ap (offeredTo i) (sym p), r)
 
-  given-right : (i : ℕ) → Ok i → (k : ℕ) (m : Message) → GivenBy i (event k) m → allowed (G i) m ≡ true → Right (G i) (VotedBy (ck (suc k))) parentOf m
+  given-right : (i : ℕ) → Ok i → (k : ℕ) (m : Message) → GivenBy i (event k) m → allowed (G i) m ≡ true → Right (VotedBy (ck (suc k))) parentOf m
   given-right i ok k m r a =
-      let (bs, e, q) = given-of i (event k) m r in
-      let hands : Hands n D event faulty k i m = (ok, (bs, e, q), a) in
-      let bytes : Bytes bs = subst (IsLent n D event faulty) e (X .lent k) in
+      let hands : Hands n D event faulty k i m = (ok, given-of i (event k) m r, a) in
       record {
-        allows = a;
-        named = fitting-named m (read-fits bs m bytes q);
         backed = λ t c j b s.
             let (l, u, w) = X .voters k i m hands t c j s b in
             let o = clock-mono n D event (suc l) (suc k) (omega arith) in
@@ -216,12 +192,10 @@ module _ (X : Group) where
         parent = X .parents k i m (inl hands);
       }
 
-  offers-known : (i : ℕ) → Ok i → (k b : ℕ) (m : Message) → OfferedBy i (event k) (st i k) b m → IsName b × Parented parentOf m
-  offers-known i ok k b m r =
-      let (e, q) = offered-of i (event k) (st i k) b m r in
-      (subst (IsLent n D event faulty) e (X .lent k), X .parents k i m (inr (ok, (b, e, q))))
+  offers-parent : (i : ℕ) → Ok i → (k b : ℕ) (m : Message) → OfferedBy i (event k) (st i k) b m → Parented parentOf m
+  offers-parent i ok k b m r = let (e, q) = offered-of i (event k) (st i k) b m r in X .parents k i m (inr (ok, (b, e, q)))
 
-  known-here : (i k : ℕ) (e : Effect) → SaidAt i (ck (suc k)) e → Known (G i) (VotedBy (ck (suc k))) parentOf e
+  known-here : (i k : ℕ) (e : Effect) → SaidAt i (ck (suc k)) e → Known (VotedBy (ck (suc k))) parentOf (G i) e
   known-here i k (toAll (newView v h b c m a)) s = tt
   known-here i k (toAll (propose v h b p m a)) s = tt
   known-here i k (toAll (vote v h b a)) (l, c, s) = λ q ok. (l, omega arith, subst (λ (x : ℕ). Says n D event x l (toAll (vote v h b a))) (sym q) s)
@@ -231,36 +205,45 @@ module _ (X : Group) where
   known-here i k (toOne j m) s = tt
   known-here i k (committed h b) s = tt
 
-  -- from the state at the begin of event k's moves to any that they reach
-  pub chain-proper : (i : ℕ) → Ok i → (k : ℕ) → Proper (G i) (VotedBy (ck k)) parentOf (st i k) → (t : State) (o : List Effect)
-      → Moves (Brings i (event k) (st i k)) (begun (event k) (st i k)) t o → All (SaidAt i (ck (suc k))) o → t .view ≤ lastView
-      → Proper (G i) (VotedBy (ck (suc k))) parentOf t × All (Sayable (G i) (VotedBy (ck (suc k))) parentOf) o
-  chain-proper i ok k p t o w s l =
-      let c = clock-mono n D event k (suc k) (omega arith) in
-      let later : (v h b j : ℕ) → VotedBy (ck k) v h b j → VotedBy (ck (suc k)) v h b j = λ v h b j f y. let (x, u, z) = f y in (x, omega arith, z) in
-      let q = proper-map (G i) (VotedBy (ck k)) (VotedBy (ck (suc k))) parentOf later (st i k) p in
-      let e = begun-same (event k) (st i k) .2 in
-      let r = view-run i ok k .0 in
-      moves-proper (G i) (VotedBy (ck (suc k))) parentOf (Brings i (event k) (st i k)) (ok .0) (given-right i ok k) (offers-known i ok k)
-      (begun (event k) (st i k)) t o w
-      (all-map (SaidAt i (ck (suc k))) (Known (G i) (VotedBy (ck (suc k))) parentOf) (known-here i k) o s) (omega arith) l
-      (begun-proper (G i) (VotedBy (ck (suc k))) parentOf (event k) (st i k) q)
-
-  pub proper-run : (i : ℕ) → Ok i → (k : ℕ) → Proper (G i) (VotedBy (ck k)) parentOf (st i k)
+  proper-run : (i : ℕ) → Ok i → (k : ℕ) → Proper (VotedBy (ck k)) parentOf (G i) (st i k)
   unfolding at
-  proper-run i ok zero = fresh-proper (G i) (VotedBy (ck 0)) parentOf
+  proper-run i ok zero = fresh-proper (VotedBy (ck 0)) parentOf (G i)
   proper-run i ok (suc k) =
       let (o, q, w) = moves-of i ok k in
-      chain-proper i ok k (proper-run i ok k) (st i (suc k)) o w (said-here i k o q (ck (suc k)) refl) (view-run i ok (suc k) .1) .0
+      let c = clock-mono n D event k (suc k) (omega arith) in
+      let later : (v h b j : ℕ) → VotedBy (ck k) v h b j → VotedBy (ck (suc k)) v h b j = λ v h b j f y. let (x, u, z) = f y in (x, omega arith, z) in
+      moves-proper (VotedBy (ck (suc k))) parentOf (G i) (Brings i (event k) (st i k)) (given-right i ok k) (offers-parent i ok k)
+      (begun (event k) (st i k)) (st i (suc k)) o w
+      (all-map (SaidAt i (ck (suc k))) (Known (VotedBy (ck (suc k))) parentOf (G i)) (known-here i k) o (said-here i k o q (ck (suc k)) refl))
+      (begun-proper (VotedBy (ck (suc k))) parentOf (G i) (event k) (st i k) (proper-map (VotedBy (ck k)) (VotedBy (ck (suc k))) parentOf later (G i) (st i k) (proper-run i ok k)))
+
+  -- ---- what is stored and said is allowed
+
+  good : (i : ℕ) → Ok i → goodSettings (G i) ≡ true
+  good i ok = settings-alike n D i (X .settings) (ok .0)
+
+  formed-run : (i : ℕ) → Ok i → (k : ℕ) → WellFormed (st i k)
+  formed-run i ok k = formed-at n D event faulty (X .lent) i (good i ok) k
+
+  -- no statement is stored twice
+  pub once-run : (i : ℕ) → Ok i → (k : ℕ) → distinct sameStatement (st i k .statements) ≡ true
+  once-run i ok k = formed-run i ok k .formed .tables .statementsDiffer
+
+  -- a stored statement is allowed, its voters voted, its parent is the name's
+  abbrev pub Sure : ℕ → ℕ → Statement → Type 0
+  Sure i k x = (allowed (G i) (message x) ≡ true) × Right (VotedBy (ck k)) parentOf (message x)
+
+  pub sure-run : (i : ℕ) → Ok i → (k : ℕ) (x : Statement) → List·Memᴰ x (st i k .statements) → Sure i k x
+  sure-run i ok k x m = (
+    subst (λ (g : Settings). allowed g (message x) ≡ true) (at-settings i ok k) (stored-said (formed-run i ok k .formed) x m .isAllowed),
+    all-of (λ (y : Statement). Right (VotedBy (ck k)) parentOf (message y)) (st i k .statements) (proper-run i ok k .statements) x m,
+  )
 
   -- what a sound station says to all can be read by each, and is allowed
   pub said-allowed : (i j : ℕ) → Ok i → (k : ℕ) (m : Message) → Says n D event i k (toAll m) → (read (write m) ≡ some m) × (allowed (G j) m ≡ true)
   said-allowed i j ok k m s =
-      let (o, q, w) = moves-of i ok k in
-      let a = chain-proper i ok k (proper-run i ok k) (st i (suc k)) o w (said-here i k o q (ck (suc k)) refl) (view-run i ok (suc k) .1) .1 in
-      let (p, r) = out-all (Sayable (G i) (VotedBy (ck (suc k))) parentOf) i ok k (λ h b. tt) a (toAll m) s in
-      let (odd, least, most, delay) = good-facts (G 0) (X .settings) in
-      (read-write m (allowed-fitting (G i) m (omega arith) most p r), sym (allowed-alike n D i j m) ∙ p)
+      let e = sent-at n D event faulty (X .lent) i (good i ok) k m s in
+      (sent-read e, sym (allowed-alike n D i j m) ∙ subst (λ (g : Settings). allowed g m ≡ true) (at-settings i ok k) (e .isAllowed))
 
   -- ---- what is said to all is held by all, the sender too, before the tick D + 1 later
 
@@ -289,7 +272,7 @@ module _ (X : Group) where
   pub reach : (i j : ℕ) → Ok i → Ok j → (m : Message) (c k : ℕ) → SaidAt i c (toAll m) → c + D + 1 ≤ next k → Held (G j) (st j k) m
   reach i j hi hj m c k (l, e, s) d =
       let u = X .late k in
-      let (odd, least, most, delay) = good-facts (G 0) (X .settings) in
+      let delay = sizes (G 0) (X .settings) .leastD in
       elim (ℕ-discrete i j) [
         | yes q ↦ (
             let b = clock-before n D event (suc l) k (omega arith) in

@@ -2,21 +2,20 @@
 use mathlib.Core.Path.{_≡_, subst, subst₂, refl, sym, ap, _∙_}
 use Prim.Native.Nat.{ℕ, zero, suc, _+_, _-_, _≤_, _<_}
 use native.Mathlib.Omega.{arith}
-use mathlib.Core.Bool.{true, false, not, _&&_}
+use mathlib.Core.Bool.{true, false}
 use mathlib.Core.List.{List, [], _∷_, _++_, append-assoc, append-nil, IsPrefix}
 use mathlib.Core.Option.{some, Option·some-injective}
-use lib.Dec.{eqb}
-use lib.ListN.{length, length-append}
 use Rattle.rules.specs.Lists.{first, any}
 use Rattle.rules.specs.Sizes.{Settings}
-use Rattle.rules.specs.Messages.{blockAllowed}
+use Rattle.rules.specs.Messages.{blockAllowed, allowed}
 use Rattle.rules.specs.Words.{Statement, message}
 use Rattle.rules.specs.Inputs.{isBlock, chainTo, chain}
-use Rattle.rules.proofs.Tests.{eqb-eq, by-option, no-some, no-bool}
-use Rattle.rules.proofs.Truths.{eq-eqb, and-true, not-true}
+use Rattle.rules.proofs.Tests.{by-option, no-some, no-bool}
 use Rattle.rules.proofs.Searches.{All, all-first, first-any, first-none}
-use Rattle.rules.proofs.Allowed.{block-zero, allowed-rights}
-use Rattle.rules.proofs.Proper.{Right}
+use Rattle.rules.proofs.Allowed.{allowed-rights}
+use Rattle.rules.proofs.Proper.{Parented}
+use Rattle.kept.proofs.Allowed.{genesis-zero}
+use Rattle.kept.proofs.Logs.{block-parts}
 use Rattle.agreement.specs.Schedule.{Linked, lineage}
 
 module _ (parentOf : ℕ → ℕ) where
@@ -45,43 +44,33 @@ module _ (parentOf : ℕ → ℕ) where
   lineage-linked (suc zero) b e = (e, tt)
   lineage-linked (suc (suc h)) b e = linked-append 0 (lineage parentOf h (parentOf (parentOf b))) (parentOf b) b (lineage-linked (suc h) (parentOf b) e) refl
 
-  -- ---- chains in a table of statements that are right
+  -- ---- chains in a table of statements that are allowed, each with its name's parent
 
-  module _ (g : Settings) (P : ℕ → ℕ → ℕ → ℕ → Type 0) where
-    abbrev Ok : Statement → Type 0
-    Ok x = Right g P parentOf (message x)
+  module _ (g : Settings) where
+    abbrev pub Placed : Statement → Type 0
+    Placed x = (allowed g (message x) ≡ true) × Parented parentOf (message x)
 
-    -- a right propose: its parent is its name's, and the parent's height is one less
-    pub propose-facts : (x : Statement) → Ok x → x .isNewView ≡ false
+    -- a propose: its parent is its name's, and the parent's height is one less
+    pub propose-facts : (x : Statement) → Placed x → x .isNewView ≡ false
         → (parentOf (x .name) ≡ x .link) × (1 ≤ x .height) × (blockAllowed (x .height - 1) (x .link) ≡ true) × (blockAllowed (x .height) (x .name) ≡ true)
     unfolding message
     propose-facts x r e =
-        let q = rw (e, message) at r in
-        let w = allowed-rights g _ (q .allows) in
-        (q .parent, w .1, w .3, w .2)
-
-    is-block : (h b : ℕ) (x : Statement) → isBlock h b x ≡ true → (x .isNewView ≡ false) × (h ≡ x .height) × (b ≡ x .name)
-    unfolding isBlock
-    is-block h b x e =
-        let p = and-true (not (x .isNewView) && eqb h (x .height)) (eqb b (x .name)) e in
-        let q = and-true (not (x .isNewView)) (eqb h (x .height)) (p .0) in
-        (not-true (x .isNewView) (q .0), eqb-eq h (x .height) (q .1), eqb-eq b (x .name) (p .1))
+        let (a, p) = rw (e, message) at r in
+        let w = allowed-rights g _ a in
+        (p, w .1, w .3, w .2)
 
     -- one step down
-    block-link : (xs : List Statement) (h b : ℕ) (z : Statement) → All Ok xs → first (isBlock (suc h) b) xs ≡ some z → (parentOf b ≡ z .link) × (blockAllowed h (z .link) ≡ true)
+    block-link : (xs : List Statement) (h b : ℕ) (z : Statement) → All Placed xs → first (isBlock (suc h) b) xs ≡ some z → (parentOf b ≡ z .link) × (blockAllowed h (z .link) ≡ true)
     block-link xs h b z a q =
-        let (n, k, c) = is-block (suc h) b z (first-any (isBlock (suc h) b) xs z q .1) in
-        let (p, l, d, u) = propose-facts z (all-first Ok (isBlock (suc h) b) xs z a q) n in
+        let (n, k, c) = block-parts (suc h) b z (first-any (isBlock (suc h) b) xs z q .1) in
+        let (p, l, d, u) = propose-facts z (all-first Placed (isBlock (suc h) b) xs z a q) n in
         let e : z .height - 1 ≡ h = omega arith in
         (ap parentOf c ∙ p, subst (λ (y : ℕ). blockAllowed y (z .link) ≡ true) e d)
 
-    zero-name : (b : ℕ) → blockAllowed 0 b ≡ true → b ≡ 0
-    zero-name b e = eqb-eq b 0 (sym (block-zero 0 b e) ∙ eq-eqb 0 0 refl)
-
-    chain-to : (xs : List Statement) → All Ok xs → (h b : ℕ) (above l : List ℕ) → blockAllowed h b ≡ true → chainTo xs h b above ≡ some l
+    chain-to : (xs : List Statement) → All Placed xs → (h b : ℕ) (above l : List ℕ) → blockAllowed h b ≡ true → chainTo xs h b above ≡ some l
         → (l ≡ lineage parentOf h b ++ above) × (up h b ≡ 0)
     unfolding chainTo lineage up
-    chain-to xs a zero b above l w e = (sym (Option·some-injective above l e), zero-name b w)
+    chain-to xs a zero b above l w e = (sym (Option·some-injective above l e), genesis-zero b w)
     chain-to xs a (suc h) b above l w e =
         by-option (first (isBlock (suc h) b) xs) (λ q. no-some (rw (q, chainTo) at e)) λ z q.
         let (p, u) = block-link xs h b z a q in
@@ -89,7 +78,7 @@ module _ (parentOf : ℕ → ℕ) where
         (f ∙ ap (λ (y : ℕ). lineage parentOf h y ++ b ∷ above) (sym p) ∙ sym (append-assoc (lineage parentOf h (parentOf b)) (b ∷ []) above), ap (up h) p ∙ o)
 
     -- the chain of a stored propose is its lineage, down to genesis
-    pub chain-lineage : (xs : List Statement) (x : Statement) (l : List ℕ) → All Ok xs → Ok x → x .isNewView ≡ false → chain xs x ≡ some l
+    pub chain-lineage : (xs : List Statement) (x : Statement) (l : List ℕ) → All Placed xs → Placed x → x .isNewView ≡ false → chain xs x ≡ some l
         → (l ≡ lineage parentOf (x .height) (x .name)) × (up (x .height) (x .name) ≡ 0)
     unfolding chain
     chain-lineage xs x l a r n e =
@@ -102,7 +91,7 @@ module _ (parentOf : ℕ → ℕ) where
     abbrev pub AllStored : List Statement → ℕ → ℕ → Type 0
     AllStored xs h b = (d : ℕ) → d < h → any (isBlock (h - d) (up d b)) xs ≡ true
 
-    chain-to-whole : (xs : List Statement) → All Ok xs → (h b : ℕ) (above : List ℕ) → AllStored xs h b → (l : List ℕ) × (chainTo xs h b above ≡ some l)
+    chain-to-whole : (xs : List Statement) → All Placed xs → (h b : ℕ) (above : List ℕ) → AllStored xs h b → (l : List ℕ) × (chainTo xs h b above ≡ some l)
     unfolding chainTo up
     chain-to-whole xs a zero b above f = (above, refl)
     chain-to-whole xs a (suc h) b above f =
@@ -113,7 +102,7 @@ module _ (parentOf : ℕ → ℕ) where
         let (l, e) = chain-to-whole xs a h (y .link) (b ∷ above) (λ d k. let w : suc h - suc d ≡ h - d = omega arith in subst₂ (λ (i j : ℕ). any (isBlock i (up d j)) xs ≡ true) w p (f (suc d) (omega arith))) in
         (l, rw (q, chainTo) e)
 
-    pub chain-whole : (xs : List Statement) (x : Statement) → All Ok xs → Ok x → x .isNewView ≡ false → AllStored xs (x .height - 1) (x .link)
+    pub chain-whole : (xs : List Statement) (x : Statement) → All Placed xs → Placed x → x .isNewView ≡ false → AllStored xs (x .height - 1) (x .link)
         → (l : List ℕ) × (chain xs x ≡ some l)
     unfolding chain
     chain-whole xs x a r n f = chain-to-whole xs a (x .height - 1) (x .link) (x .name ∷ []) f

@@ -11,23 +11,22 @@ use lib.ListN.{length, drop}
 use lib.Seq.{drop-append-seam}
 use Rattle.rules.specs.Sizes.{Settings}
 use Rattle.rules.specs.Messages.{Effect, toAll, toOne, committed}
-use Rattle.rules.specs.Words.{Statement, message, State, inView, fresh}
+use Rattle.rules.specs.Words.{Statement, State, inView, fresh}
 use Rattle.rules.specs.Inputs.{withClock, withLog, due, chain, commits, reports}
 use Rattle.rules.specs.Refusals.{running}
-use Rattle.rules.proofs.Searches.{All, all-of}
+use Rattle.rules.proofs.Searches.{All, to-all}
 use Rattle.rules.proofs.Statements.{once-first}
 use Rattle.rules.proofs.Tallies.{AtLeast, at-least-either}
 use Rattle.rules.proofs.Moves.{counted, logAfter, news, tick-moves}
 use Rattle.rules.proofs.Kept.{in-true, moves-fixed}
 use Rattle.rules.proofs.Orderly.{Voted}
-use Rattle.rules.proofs.Proper.{Right}
 use Rattle.rules.proofs.Commits.{begins-merge, commits-some, commits-none, Due, due-facts, reports-append, moves-messages}
 use Rattle.rules.proofs.Splits.{dueCommits}
 use Rattle.agreement.specs.Schedule.{Event, idle, commonTick, tickOf, given, offeredTo, happens, ticks, IsCommon, at, out, Linked, lineage, reportsIn, reported}
-use Rattle.agreement.proofs.Lineage.{up, lineage-up, lineage-linked, chain-lineage}
+use Rattle.agreement.proofs.Lineage.{Placed, up, lineage-up, lineage-linked, chain-lineage}
 use Rattle.agreement.proofs.Events.{Brings, begun, before}
 use Rattle.agreement.proofs.Clock.{clock-suc}
-use Rattle.agreement.proofs.Group.{Group, st, ck, Ok, G, SaidAt, VotedBy, moves-of, at-settings, at-clock, orderly-run, once-run, proper-run}
+use Rattle.agreement.proofs.Group.{Group, st, ck, Ok, G, SaidAt, moves-of, at-settings, at-clock, orderly-run, once-run, sure-run}
 use Rattle.agreement.proofs.Ripe.{Ripe}
 use Rattle.agreement.proofs.Behind.{SoundVote}
 use Rattle.agreement.proofs.Extends.{Extends, extends}
@@ -92,9 +91,6 @@ event-reported i (offeredTo j b) s c r = append-nil _
 module _ (X : Group) where
   open Group X using (n, D, faulty, event, next, parentOf)
 
-  abbrev pub RightIn : ℕ → ℕ → Statement → Type 0
-  RightIn i k x = Right (G X i) (VotedBy X (ck X k)) parentOf (message x)
-
   -- what is due is ripe
   pub due-ripe : (i : ℕ) → Ok X i → (k : ℕ) → ck X k + 1 ≤ next k → (x : Statement) → Due (counted (st X i k)) x → (c : ℕ) × Ripe X i k c x
   due-ripe i ok k nx x (m, n, v, (c, q, l)) =
@@ -121,12 +117,18 @@ module _ (X : Group) where
         },
       )
 
+  -- a stored statement is allowed, with its name's parent
+  pub stored-placed : (i : ℕ) → Ok X i → (k : ℕ) (x : Statement) → List·Memᴰ x (st X i k .statements) → Placed parentOf (G X i) x
+  stored-placed i ok k x m = let (a, r) = sure-run X i ok k x m in (a, r .parent)
+
+  pub all-placed : (i : ℕ) → Ok X i → (k : ℕ) → All (Placed parentOf (G X i)) (st X i k .statements)
+  all-placed i ok k = to-all (Placed parentOf (G X i)) (st X i k .statements) (stored-placed i ok k)
+
   -- the chain of a stored propose is its lineage
   pub stored-lineage : (i : ℕ) → Ok X i → (k : ℕ) (x : Statement) (l : List ℕ) → List·Memᴰ x (st X i k .statements) → x .isNewView ≡ false
       → chain (st X i k .statements) x ≡ some l → (l ≡ lineage parentOf (x .height) (x .name)) × (up parentOf (x .height) (x .name) ≡ 0)
   stored-lineage i ok k x l m n e =
-      let a = proper-run X i ok k .statements in
-      chain-lineage parentOf (G X i) (VotedBy X (ck X k)) (st X i k .statements) x l a (all-of (RightIn i k) (st X i k .statements) a x m) n e
+      chain-lineage parentOf (G X i) (st X i k .statements) x l (all-placed i ok k) (stored-placed i ok k x m) n e
 
   -- a common tick leaves the log that its commits make
   pub tick-log : (i : ℕ) → Ok X i → (k : ℕ) → event k ≡ commonTick

@@ -22,20 +22,21 @@ use Rattle.rules.proofs.Orderly.{Told, Past, past-told, Voted}
 use Rattle.rules.proofs.Held.{block, held-stored}
 use Rattle.rules.proofs.Votes.{Cast}
 use Rattle.rules.proofs.Locks.{HasAll, Locked, moves-locked}
+use Rattle.kept.proofs.Allowed.{sizes}
 use Rattle.agreement.specs.Schedule.{Event, at}
 use Rattle.agreement.proofs.Events.{Brings, begun, begun-same, begun-kept}
 use Rattle.agreement.proofs.Clock.{last-of}
-use Rattle.agreement.proofs.Group.{Group, st, ck, Ok, G, SaidAt, good-facts, moves-of, at-settings, at-clock, kept-run, orderly-run, view-run, reach}
+use Rattle.agreement.proofs.Group.{Group, st, ck, Ok, G, SaidAt, moves-of, at-settings, at-clock, kept-run, orderly-run, view-run, reach}
 use Rattle.agreement.proofs.Follow.{told-out, follow}
 
 module _ (X : Group) where
   open Group X using (n, D, faulty, event, next, parentOf)
 
   pub odd-stations : n % 2 ≡ 1
-  odd-stations = good-facts (G X 0) (X .settings) .0
+  odd-stations = sizes (G X 0) (X .settings) .odd
 
   pub fits-mask : n ≤ maskBits
-  fits-mask = let m = good-facts (G X 0) (X .settings) .2 in omega arith
+  fits-mask = let m = sizes (G X 0) (X .settings) .most in omega arith
 
   past-of : (i : ℕ) → Ok X i → (k : ℕ) → Past (SaidAt X i) (G X i) (st X i k .view) (st X i k .entry)
   past-of i h k = subst (λ (g : Settings). Past (SaidAt X i) g (st X i k .view) (st X i k .entry)) (at-settings X i h k) (orderly-run X i h k .past)
@@ -75,7 +76,7 @@ module _ (X : Group) where
     mid =
         let d = R .due in
         let u = X .late k0 in
-        let (odd, least, most, delay) = good-facts (G X 0) (X .settings) in
+        let delay = sizes (G X 0) (X .settings) .leastD in
         let m = last-of n D event (X .common) (t + D) k0 (omega arith) in
         (m .0, m .1, m .2, m .3)
 

@@ -16,10 +16,10 @@ use Rattle.kept.specs.Parts.{Formed, WellFormed}
 use Rattle.kept.proofs.Lists.{all-mem}
 use Rattle.kept.proofs.Allowed.{Sizes, sizes, view-within, height-le, leader-lt, mask-small, certificate-mask}
 use Rattle.kept.proofs.Tallies.{TallyGood, tally-parts, Certificate, lock-parts}
-use Rattle.kept.proofs.Statements.{Stated, voted-le}
+use Rattle.kept.proofs.Statements.{Stated, voted-le, stored-stated}
 use Rattle.kept.proofs.Phases.{Clocks, clocks-parts}
 use Rattle.kept.proofs.Blames.{blames-mask, blames-length}
-use Rattle.kept.proofs.Logs.{proposes, proposes-length, linked-length, stored-stated, chain-linked}
+use Rattle.kept.proofs.Logs.{proposes, proposes-length, linked-length, chain-linked}
 
 module _ {s : State} (f : Formed s) where
   -- n odd, 3 to 15; D; own

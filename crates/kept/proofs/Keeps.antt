@@ -10,16 +10,15 @@ use Rattle.rules.specs.Sizes.{only}
 use Rattle.rules.specs.Messages.{Message, newView, propose, vote, blame, blameSet, status, viewAllowed, allowed, Effect, toAll}
 use Rattle.rules.specs.Words.{Statement, message, sameStatement, conflict, Tally, State}
 use Rattle.rules.specs.Inputs.{Work, saying, _▸_, withPhase, withTables, withBlames, isIn, quit, belowLock, votedFor, ballot, voting, certificateJoined, stored, statement, tallied, blamesOf, blamed, blameFull, blaming, handled}
-use Rattle.rules.specs.WellFormed.{statementGood}
 use Rattle.rules.proofs.Tests.{by-bool, by-option}
 use Rattle.kept.specs.Parts.{Formed}
 use Rattle.kept.specs.Said.{Each, Sendable, Sayable}
 use Rattle.kept.proofs.Truths.{and-2, both}
-use Rattle.kept.proofs.Lists.{each-append, all-mem, first-mem}
+use Rattle.kept.proofs.Lists.{each-append, first-mem}
 use Rattle.kept.proofs.Allowed.{sizes, only-lt, mask-parts, mask-made}
 use Rattle.kept.proofs.Sendable.{named, sendable, vote-parts, blame-parts, blameSet-parts, status-parts}
 use Rattle.kept.proofs.Tallies.{Joinable, joinable, tally-made}
-use Rattle.kept.proofs.Statements.{stated, stored-sendable}
+use Rattle.kept.proofs.Statements.{stated, stored-said}
 use Rattle.kept.proofs.Tables.{tallied-formed, certificateJoined-formed, stored-formed, votedFor-formed}
 use Rattle.kept.proofs.Phases.{quit-formed}
 use Rattle.kept.proofs.Blames.{blamesOf-mask, blamed-formed}
@@ -78,9 +77,8 @@ module _ {s : State} (f : Formed s) (x : Statement) (m : Sendable (s .settings) 
       (λ i.
       by-option (first (conflict x) (s .statements)) (λ o. rw (q, i, o, statement) (onward s refl (voting-keeps t x m)))
       (λ y o.
-      let g = all-mem (statementGood s) (f .tables .statements) (first-mem (conflict x) (s .statements) o .0) in
-      rw (q, i, o, statement)
-      (onward s refl (quit-keeps t (toAll (message y) ∷ toAll (message x) ∷ []) (stored-sendable s y (sizes (s .settings) (f .settings)) g, (m, tt))))))
+      let g = stored-said f y (first-mem (conflict x) (s .statements) o .0) in
+      rw (q, i, o, statement) (onward s refl (quit-keeps t (toAll (message y) ∷ toAll (message x) ∷ []) (g, (m, tt))))))
       (λ i. rw (q, i, statement) (record { settings = refl; formed = t; said = tt })))
 
 -- ---- vote, status, blame, blame set

@@ -13,15 +13,15 @@ use Rattle.rules.specs.Lists.{first, any, keep}
 use Rattle.rules.specs.Messages.{blockAllowed}
 use Rattle.rules.specs.Words.{Statement, State}
 use Rattle.rules.specs.Inputs.{isBlock, chainTo, chain, merge, commit, commits}
-use Rattle.rules.specs.WellFormed.{statementGood, linked}
+use Rattle.rules.specs.WellFormed.{linked}
 use Rattle.rules.proofs.Tests.{by-bool, by-option, no-some, eqb-self}
 use Rattle.kept.specs.Parts.{Formed}
 use Rattle.kept.specs.Said.{Each}
 use Rattle.kept.proofs.Truths.{and-2, and-3, both}
-use Rattle.kept.proofs.Lists.{all-mem, any-mem, any-find, first-mem, keep-length, keep-fewer, keep-fewer-by}
-use Rattle.kept.proofs.Allowed.{sizes, genesis-zero}
+use Rattle.kept.proofs.Lists.{any-mem, any-find, first-mem, keep-length, keep-fewer, keep-fewer-by}
+use Rattle.kept.proofs.Allowed.{genesis-zero}
 use Rattle.kept.proofs.Tables.{isAbove}
-use Rattle.kept.proofs.Statements.{Stated, stated, stored-sendable}
+use Rattle.kept.proofs.Statements.{stored-stated}
 
 pub block-parts : (h b : ℕ) (x : Statement) → isBlock h b x ≡ true → (x .isNewView ≡ false) × (h ≡ x .height) × (b ≡ x .name)
 unfolding isBlock
@@ -138,9 +138,6 @@ module _ (xs : List Statement) where
 -- ---- chains and commits
 
 module _ {s : State} (f : Formed s) where
-  pub stored-stated : (x : Statement) → Mem x (s .statements) → Stated (s .settings) x
-  stored-stated x m = stated (s .settings) x (stored-sendable s x (sizes (s .settings) (f .settings)) (all-mem (statementGood s) (f .tables .statements) m))
-
   chainTo-linked : (h b : ℕ) (above l : List ℕ) → blockAllowed h b ≡ true → linked (s .statements) h b above ≡ true
       → chainTo (s .statements) h b above ≡ some l → linked (s .statements) 0 0 l ≡ true
   unfolding chainTo
@@ -150,7 +147,7 @@ module _ {s : State} (f : Formed s) where
       let (m, t) = first-mem (isBlock (suc h) b) (s .statements) q in
       let (n, o, _) = block-parts (suc h) b x t in
       let z : x .height - 1 ≡ h = omega arith in
-      let p = stored-stated x m .parent n in
+      let p = stored-stated f x m .parent n in
       chainTo-linked h (x .link) (b ∷ above) l (rw z at (p .1))
       (cons-linked (s .statements) h (x .link) b above (any-mem (isAbove (suc h) b (x .link)) m (both t (eqb-self (x .link)))) k) (rw (q, chainTo) at e)
 
@@ -159,7 +156,7 @@ module _ {s : State} (f : Formed s) where
       → linked (s .statements) 0 0 l ≡ true
   unfolding chain
   chain-linked x l m n e =
-      let (h, p) = stored-stated x m .parent n in
+      let (h, p) = stored-stated f x m .parent n in
       let z : suc (x .height - 1) ≡ x .height = omega arith in
       let o : isBlock (suc (x .height - 1)) (x .name) x ≡ true = rw z (block-self x n) in
       chainTo-linked (x .height - 1) (x .link) (x .name ∷ []) l p

@@ -1,37 +1,26 @@
 -- The propose that an offer makes may be sent. Assumes nothing.
-use mathlib.Core.Path.{_≡_, sym, _∙_}
+use mathlib.Core.Path.{_≡_}
 use Prim.Native.Nat.{ℕ, _+_, _-_, _^_, _<_}
 use native.Mathlib.Omega.{arith}
-use mathlib.Core.Bool.{true, false, not, _&&_}
-use mathlib.Core.List.{List, [], _∷_, List·Memᴰ as Mem, List·Memᴰ·head as here, List·Memᴰ·tail as there}
-use mathlib.Core.Option.{some, Option·some-injective}
+use mathlib.Core.Bool.{true, false}
+use mathlib.Core.List.{List·Memᴰ as Mem}
+use mathlib.Core.Option.{some}
 use lib.Dec.{ltb, eqb}
-use borrow.Author.Tests.{eqb-false, eq-eqb, ltb-true, le-leb, not-true}
+use borrow.Author.Tests.{eqb-false, eq-eqb, ltb-true, le-leb}
 use Rattle.rules.specs.Limits.{lastHeight}
 use Rattle.rules.specs.Sizes.{leader, quorum}
 use Rattle.rules.specs.Messages.{Message, propose, allowed}
 use Rattle.rules.specs.Words.{Statement, ownBlock, voters, State}
-use Rattle.rules.specs.Inputs.{leads, isOpened, isUsed, top, extendable, above, offered}
-use Rattle.rules.proofs.Tests.{by-bool, by-option, no-some}
+use Rattle.rules.specs.Inputs.{leads, extendable, above, offered}
+use Rattle.rules.proofs.Offers.{offer-made}
 use Rattle.kept.specs.Parts.{Formed}
 use Rattle.kept.specs.Said.{Sendable}
-use Rattle.kept.proofs.Truths.{and-2, and-4}
+use Rattle.kept.proofs.Truths.{and-2}
 use Rattle.kept.proofs.Allowed.{sizes, block-made, mask-made}
 use Rattle.kept.proofs.Sendable.{sendable}
 use Rattle.kept.proofs.Tallies.{voters-mask}
-use Rattle.kept.proofs.Logs.{stored-stated}
+use Rattle.kept.proofs.Statements.{stored-stated}
 use Rattle.kept.proofs.Ticks.{leads-own}
-
-pub top-mem : (v : ℕ) (xs : List Statement) {x : Statement} → top v xs ≡ some x → Mem x xs
-unfolding top
-top-mem v [] e = no-some e
-top-mem v (y ∷ ys) {x} e =
-    by-bool (eqb (y .view) v)
-    (λ q.
-    by-option (top v ys) (λ r. here (sym (Option·some-injective y x (rw (q, r, top) at e)))) λ z r.
-    by-bool (ltb (y .height) (z .height)) (λ k. there (top-mem v ys (r ∙ (rw (q, r, k, top) at e))))
-    (λ k. here (sym (Option·some-injective y x (rw (q, r, k, top) at e)))))
-    (λ q. there (top-mem v ys (rw (q, top) at e)))
 
 module _ {s : State} (f : Formed s) where
   above-sendable : (x : Statement) (b : ℕ) → Mem x (s .statements) → extendable x s ≡ true → leads s ≡ true → eqb b 0 ≡ false → b < 256 ^ 32
@@ -50,15 +39,4 @@ module _ {s : State} (f : Formed s) where
       (n, d .name)
 
   pub offered-sendable : (b : ℕ) (m : Message) → b < 256 ^ 32 → offered b s ≡ some m → Sendable (s .settings) m
-  unfolding offered
-  offered-sendable b m n e =
-      by-bool (leads s && isOpened s && not (eqb b 0) && not (isUsed b s))
-      (λ q.
-      let c = and-4 (leads s) (isOpened s) (not (eqb b 0)) (not (isUsed b s)) q in
-      by-option (top (s .view) (s .statements)) (λ r. no-some (rw (q, r, offered) at e)) λ x r.
-      by-bool (extendable x s)
-      (λ k.
-      rw (← Option·some-injective (above x b s) m (rw (q, r, k, offered) at e))
-      (above-sendable x b (top-mem (s .view) (s .statements) r) k (c .0) (not-true (eqb b 0) (c .2)) n))
-      (λ k. no-some (rw (q, r, k, offered) at e)))
-      (λ q. no-some (rw (q, offered) at e))
+  offered-sendable b m n e = let (x, i, v, l, z, k, f) = offer-made b s m e in rw (← f) (above-sendable x b i k l z n)

@@ -17,7 +17,8 @@ use Rattle.kept.proofs.Truths.{and-2}
 use Rattle.kept.proofs.Lists.{mem-each, any-find, keep-mem, sorted-mem}
 use Rattle.kept.proofs.Allowed.{height-le}
 use Rattle.kept.proofs.Tables.{isAbove}
-use Rattle.kept.proofs.Logs.{block-parts, linked-cons, stored-stated}
+use Rattle.kept.proofs.Statements.{stored-stated}
+use Rattle.kept.proofs.Logs.{block-parts, linked-cons}
 
 -- "every propose of this view voted for"
 due-propose : (s : State) (x : Statement) → isDue s x ≡ true → x .isNewView ≡ false

@@ -3,7 +3,7 @@ use mathlib.Core.Path.{_≡_, refl, sym, _∙_}
 use Prim.Native.Nat.{ℕ, _-_, _^_, _≤_, _<_}
 use native.Mathlib.Omega.{arith}
 use mathlib.Core.Bool.{Bool, true, false}
-use mathlib.Core.List.{List}
+use mathlib.Core.List.{List, List·Memᴰ as Mem}
 use mathlib.Core.Option.{none, some}
 use lib.Dec.{leb}
 use borrow.Author.Tests.{leb-true, le-leb}
@@ -13,9 +13,11 @@ use Rattle.rules.specs.Words.{Statement, message, sameStatement, Tally, ownBloc
 use Rattle.rules.specs.Inputs.{noted}
 use Rattle.rules.specs.WellFormed.{isName, statementGood, tallyGood, talliesThere}
 use Rattle.rules.proofs.Tests.{by-bool, by-option, no-bool}
+use Rattle.kept.specs.Parts.{Formed}
 use Rattle.kept.specs.Said.{Sendable}
-use Rattle.kept.proofs.Truths.{and-4, eqb-sym, iff-sym}
-use Rattle.kept.proofs.Allowed.{Sizes, view-within, view-name, name-lt, lt-name, mask-parts, certificate-mask}
+use Rattle.kept.proofs.Truths.{and-4}
+use Rattle.kept.proofs.Lists.{all-mem}
+use Rattle.kept.proofs.Allowed.{Sizes, sizes, view-within, view-name, name-lt, lt-name, mask-parts, certificate-mask}
 use Rattle.kept.proofs.Sendable.{named, sendable, newView-parts, propose-parts}
 use Rattle.kept.proofs.Tallies.{Joinable, joinable, tally-made}
 
@@ -116,12 +118,14 @@ later-good s t x g l e =
     let (a, n, k, v) = statement-parts s x e in
     rw (g, a, n, k) (by-option (x .voted) (λ o. rw (o, inTime) refl) (λ c o. rw (o, inTime) (let m = voted-le s x c e o in le-leb c (t .clock) (omega arith))))
 
--- ---- the same
+module _ {s : State} (f : Formed s) (x : Statement) (m : Mem x (s .statements)) where
+  pub stored-said : Sendable (s .settings) (message x)
+  stored-said = stored-sendable s x (sizes (s .settings) (f .settings)) (all-mem (statementGood s) (f .tables .statements) m)
 
-pub same-sym : (x y : Statement) → sameStatement x y ≡ sameStatement y x
-unfolding sameStatement
-same-sym x y =
-    rw (iff-sym (x .isNewView) (y .isNewView), eqb-sym (x .view) (y .view), eqb-sym (x .height) (y .height), eqb-sym (x .name) (y .name), eqb-sym (x .link) (y .link), eqb-sym (x .author) (y .author))
+  pub stored-stated : Stated (s .settings) x
+  stored-stated = stated (s .settings) x stored-said
+
+-- ---- the same
 
 -- noting a clock changes neither what is the same nor what is a block
 module _ (c : ℕ) (x y : Statement) where

@@ -1,29 +1,29 @@
 -- The rules of a tick keep what a rule keeps: commit, blame, the leader's new-view, entering a view. Assumes nothing.
 use mathlib.Core.Path.{_≡_, refl, sym, _∙_}
-use Prim.Native.Nat.{ℕ, suc, _+_, _*_, _<_}
+use Prim.Native.Nat.{ℕ, _+_, _*_, _<_}
 use native.Mathlib.Omega.{arith}
-use mathlib.Core.Bool.{true, false}
-use mathlib.Core.List.{List, [], _∷_, List·Memᴰ as Mem, List·Memᴰ·head as here, List·Memᴰ·tail as there}
-use mathlib.Core.Option.{some, map-eq-some-iff, Option·some-injective}
+use mathlib.Core.Bool.{true}
+use mathlib.Core.List.{List, [], _∷_, List·Memᴰ as Mem}
+use mathlib.Core.Option.{some, map-eq-some-iff}
 use lib.Dec.{ltb, eqb}
 use lib.ListN.{length}
 use borrow.Author.Tests.{eqb-true, eq-eqb, ltb-true, lt-ltb}
 use Rattle.rules.specs.Limits.{lastView, lastClock}
-use Rattle.rules.specs.Lists.{first}
 use Rattle.rules.specs.Sizes.{Settings, leader, only}
 use Rattle.rules.specs.Messages.{newView, blame, blameSet, status, allowed, toAll}
-use Rattle.rules.specs.Words.{Statement, message, conflict, highest, Phase, inView, waiting, stopped, State}
+use Rattle.rules.specs.Words.{Statement, message, highest, Phase, inView, waiting, stopped, State}
 use Rattle.rules.specs.Inputs.{Work, saying, _▸_, withClock, withLog, isIn, blamesOf, blameFull, leads, due, commits, logging, overdue, complain, leadsNow, ownNewView, lead, entersNow, nextLock, report, entering, entered, current, pair, inOrder, votingAll, arrive, enter, ticked}
-use Rattle.rules.specs.WellFormed.{statementGood, linked}
-use Rattle.rules.proofs.Tests.{by-bool, by-option, no-bool, no-some}
+use Rattle.rules.specs.WellFormed.{linked}
+use Rattle.rules.proofs.Tests.{by-bool, by-option, no-bool}
+use Rattle.rules.proofs.Statements.{pair-some, mem-order}
 use Rattle.kept.specs.Parts.{Formed}
 use Rattle.kept.specs.Said.{Each, Sendable, Sayable}
 use Rattle.kept.proofs.Truths.{and-2, both}
-use Rattle.kept.proofs.Lists.{mem-each, all-mem, first-mem, keep-mem, sorted-mem}
+use Rattle.kept.proofs.Lists.{mem-each, keep-mem}
 use Rattle.kept.proofs.Allowed.{sizes, leader-lt, only-lt, view-within}
 use Rattle.kept.proofs.Sendable.{sendable}
 use Rattle.kept.proofs.Tallies.{Certificate, highest-good}
-use Rattle.kept.proofs.Statements.{stored-sendable}
+use Rattle.kept.proofs.Statements.{stored-said}
 use Rattle.kept.proofs.Phases.{clock-formed, entering-formed}
 use Rattle.kept.proofs.Logs.{commits-linked}
 use Rattle.kept.proofs.Reports.{due-stored, gained-said, logged-formed}
@@ -115,19 +115,6 @@ module _ {s : State} (f : Formed s) where
       let l = enters-below s e in
       record { settings = refl; formed = entering-formed f (s .view + 1) (nextLock s) (omega arith) (omega arith) nextLock-good; said = report-said }
 
-  stored-said : (x : Statement) → Mem x (s .statements) → Sendable (s .settings) (message x)
-  stored-said x m = stored-sendable s x (sizes (s .settings) (f .settings)) (all-mem (statementGood s) (f .tables .statements) m)
-
-pair-mem : (xs : List Statement) (p : Statement × Statement) → pair xs ≡ some p → Mem (p .0) xs × Mem (p .1) xs
-unfolding pair
-pair-mem [] p e = no-some e
-pair-mem (x ∷ xs) p e =
-    by-option (first (conflict x) xs)
-    (λ q. let t = pair-mem xs p (rw (q, pair) at e) in (there (t .0), there (t .1)))
-    (λ y q.
-    let i : (x, y) ≡ p = Option·some-injective (x, y) p (rw (q, pair) at e) in
-    rw (← i) (here refl, there (first-mem (conflict x) xs q .0)))
-
 pub votingAll-keeps : (g : Settings) (xs : List Statement) {s : State} → s .settings ≡ g → Formed s → Each (λ x. Sendable g (message x)) xs → Keeps s (votingAll xs s)
 unfolding votingAll
 votingAll-keeps g [] e f h = silent f
@@ -137,10 +124,6 @@ votingAll-keeps g (x ∷ xs) {s} e f h =
 current-mem : (s : State) (x : Statement) → Mem x (current s) → Mem x (s .statements)
 unfolding current
 current-mem s x m = keep-mem (λ y. eqb (y .view) (s .view)) (s .statements) m .0
-
-inOrder-mem : (xs : List Statement) (x : Statement) → Mem x (inOrder xs) → Mem x xs
-unfolding inOrder
-inOrder-mem xs x m = sorted-mem (λ y. elim (y .isNewView) [ true ↦ 0 | false ↦ suc (y .height) ]) xs m
 
 module _ {s : State} (f : Formed s) where
   pub arrive-keeps : Keeps s (arrive s)
@@ -153,12 +136,12 @@ module _ {s : State} (f : Formed s) where
       (λ o.
       rw (q, o, arrive)
       (votingAll-keeps (s .settings) (inOrder (current s)) refl f
-      (mem-each (λ x. Sendable (s .settings) (message x)) (inOrder (current s)) (λ x m. stored-said f x (current-mem s x (inOrder-mem (current s) x m))))))
+      (mem-each (λ x. Sendable (s .settings) (message x)) (inOrder (current s)) (λ x m. stored-said f x (mem-order s x m .0)))))
       (λ p o.
-      let t = pair-mem (current s) p o in
+      let (c, i, j) = pair-some (current s) p o in
       rw (q, o, arrive)
       (quit-keeps f (toAll (message (p .0)) ∷ toAll (message (p .1)) ∷ [])
-      (stored-said f (p .0) (current-mem s (p .0) (t .0)), (stored-said f (p .1) (current-mem s (p .1) (t .1)), tt)))))
+      (stored-said f (p .0) (current-mem s (p .0) i), (stored-said f (p .1) (current-mem s (p .1) j), tt)))))
 
 pub enter-keeps : {s : State} → Formed s → Keeps s (enter s)
 unfolding enter

@@ -1,13 +1,12 @@
 -- Along a schedule a store is the bytes of the rules' state, and what a call writes is what the rules say. Assumes nothing.
 use Prim.Native.Nat.{ℕ, zero, suc, _+_, _*_, _%_, _≤_, _<_, _^_}
 use native.Mathlib.Omega.{arith}
-use mathlib.Core.Path.{_≡_, refl, sym, ap, _∙_}
-use mathlib.Core.Bool.{Bool, true, false}
-use mathlib.Core.List.{List, [], _∷_, _++_}
-use mathlib.Core.Option.{none, some}
-use lib.ListN.{length, take, drop}
+use mathlib.Core.Path.{_≡_, refl, ap, _∙_}
+use mathlib.Core.Bool.{true, false}
+use mathlib.Core.List.{List, []}
+use lib.ListN.{length, drop}
 use lib.Seq.{take-at}
-use lib.Dec.{eqb, leb}
+use lib.Dec.{eqb}
 use Rattle.rules.specs.Limits.{leastOut}
 use Rattle.rules.specs.Lists.{be, unbe}
 use Rattle.rules.specs.Sizes.{goodSettings}
@@ -16,19 +15,19 @@ use Rattle.rules.specs.Words.{State, fresh}
 use Rattle.rules.specs.Inputs.{saying}
 use Rattle.rules.specs.Refusals.{Outcome, done, step, offer, tick, result}
 use Rattle.rules.specs.WellFormed.{wellFormed}
-use Rattle.rules.proofs.Bytes.{Bytes, length-unbe, be-unbe}
+use Rattle.rules.proofs.Bytes.{length-unbe, be-unbe}
 use Rattle.rules.proofs.Tests.{by-bool, le-leb}
 use borrow.Author.Tests.{eq-eqb}
-use Rattle.kept.proofs.Calls.{step-whole, offer-whole, tick-whole}
 use Rattle.kept.proofs.Outs.{step-room, offer-room, tick-room}
-use Rattle.kept.proofs.WellFormed.{fresh-whole}
+use Rattle.kept.proofs.WellFormed.{whole}
 use Rattle.agreement.specs.Schedule.{Event, idle, commonTick, tickOf, given, offeredTo, happens, settingsOf, at, out, IsLent}
+use Rattle.agreement.proofs.Whole.{formed-at}
 use Rattle.store.specs.Layout.{storeLength}
-use Rattle.store.specs.Decode.{decode, encode, stateOf}
+use Rattle.store.specs.Decode.{encode}
 use Rattle.store.specs.Fresh.{freshly, answer}
 use Rattle.store.proofs.Forms.{parts as form-parts}
 use Rattle.oneform.proofs.OneForm.{encoded-left, encoded}
-use Rattle.calls.specs.Calls.{Called, refusal, answered, called, stepCalled, tickCalled, offerCalled}
+use Rattle.calls.specs.Calls.{Called, answered, called, stepCalled, tickCalled, offerCalled}
 use Rattle.promises.specs.Run.{untouched, calls, written, Lends, storeAt, saidAt}
 
 -- ---- one call
@@ -44,21 +43,6 @@ called-encoded f s o w l =
 idle-answered : (s : State) (o : List ℕ) → untouched (encode s) o ≡ answered (done (saying s [])) o
 unfolding untouched answered done saying result outgoing
 idle-answered s o = refl
-
--- "hosts lend proper buffers": what an event hands over is bytes, an offered name 32 of them
-abbrev pub Proper : Event → Type 0
-Proper idle = Unit {0}
-Proper commonTick = Unit {0}
-Proper (tickOf j) = Unit {0}
-Proper (given j bs) = Bytes bs
-Proper (offeredTo j b) = b < 256 ^ 32
-
-pub lent-proper : (n D : ℕ) (event : ℕ → Event) (faulty : ℕ) (e : Event) → IsLent n D event faulty e → Proper e
-lent-proper n D event faulty idle h = h
-lent-proper n D event faulty commonTick h = h
-lent-proper n D event faulty (tickOf j) h = h
-lent-proper n D event faulty (given j bs) h = h
-lent-proper n D event faulty (offeredTo j b) h = h
 
 -- whether the event is for station i
 own-or-not : (i j : ℕ) (f : State → Outcome) (s : State) (o : List ℕ) (c : Called) → c ≡ answered (f s) o
@@ -76,34 +60,18 @@ offer-answered b s o h w l =
     ∙ ap (λ (x : ℕ). called (offer x) (encode s) o) (be-unbe 32 b h)
     ∙ called-encoded (offer b) s o w l
 
-pub calls-answered : (i : ℕ) (e : Event) (s : State) (o : List ℕ) → Proper e → wellFormed s ≡ true → leastOut ≤ length o → calls i e (encode s) o ≡ answered (happens i e s) o
-unfolding calls happens tickCalled stepCalled
-calls-answered i idle s o h w l = idle-answered s o
-calls-answered i commonTick s o h w l = called-encoded tick s o w l
-calls-answered i (tickOf j) s o h w l = own-or-not i j tick s o (tickCalled (encode s) o) (called-encoded tick s o w l)
-calls-answered i (given j bs) s o h w l = own-or-not i j (step bs) s o (stepCalled bs (encode s) o) (called-encoded (step bs) s o w l)
-calls-answered i (offeredTo j b) s o h w l =
-    own-or-not i j (offer b) s o (offerCalled (unbe 32 b) (encode s) o) (offer-answered b s o h w l)
+module _ (n D : ℕ) (event : ℕ → Event) (faulty : ℕ) where
+  calls-answered : (i : ℕ) (e : Event) (s : State) (o : List ℕ) → IsLent n D event faulty e → wellFormed s ≡ true → leastOut ≤ length o
+      → calls i e (encode s) o ≡ answered (happens i e s) o
+  unfolding calls happens tickCalled stepCalled
+  calls-answered i idle s o h w l = idle-answered s o
+  calls-answered i commonTick s o h w l = called-encoded tick s o w l
+  calls-answered i (tickOf j) s o h w l = own-or-not i j tick s o (tickCalled (encode s) o) (called-encoded tick s o w l)
+  calls-answered i (given j bs) s o h w l = own-or-not i j (step bs) s o (stepCalled bs (encode s) o) (called-encoded (step bs) s o w l)
+  calls-answered i (offeredTo j b) s o h w l =
+      own-or-not i j (offer b) s o (offerCalled (unbe 32 b) (encode s) o) (offer-answered b s o h w l)
 
--- ---- what an event keeps
-
-Whole : Outcome → Type 0
-Whole x = wellFormed (x .next) ≡ true
-
-nothing-keeps : (s : State) → wellFormed s ≡ true → Whole (done (saying s []))
-unfolding Whole done saying
-nothing-keeps s w = w
-
-one-keeps : (i j : ℕ) (x : Outcome) (s : State) → Whole x → wellFormed s ≡ true → Whole (elim (eqb i j) [ true ↦ x | false ↦ done (saying s []) ])
-one-keeps i j x s h w = by-bool (eqb i j) (λ q. rw q h) (λ q. rw q (nothing-keeps s w))
-
-keeps : (i : ℕ) (e : Event) (s : State) → Proper e → wellFormed s ≡ true → Whole (happens i e s)
-unfolding happens Whole
-keeps i idle s h w = nothing-keeps s w
-keeps i commonTick s h w = tick-whole s w
-keeps i (tickOf j) s h w = one-keeps i j (tick s) s (tick-whole s w) w
-keeps i (given j bs) s h w = one-keeps i j (step bs s) s (step-whole bs s h w) w
-keeps i (offeredTo j b) s h w = one-keeps i j (offer b s) s (offer-whole b s h w) w
+-- ---- what an event writes
 
 -- what is said fits the out buffer
 Fits : Outcome → Type 0
@@ -142,12 +110,10 @@ fresh-store : (b : List ℕ) (n D i : ℕ) → length b ≡ storeLength → good
 unfolding freshly answer
 fresh-store b n D i l g = rw (eq-eqb (length b) storeLength l, freshly, g)
 
-module _ (n D : ℕ) (event : ℕ → Event) (room : ℕ → List ℕ) (lent : ℕ → ℕ → List ℕ) (L : Lends n D event room lent)
-    (proper : (k : ℕ) → Proper (event k)) where
+module _ (n D : ℕ) (event : ℕ → Event) (faulty : ℕ) (proper : (k : ℕ) → IsLent n D event faulty (event k))
+    (room : ℕ → List ℕ) (lent : ℕ → ℕ → List ℕ) (L : Lends n D event room lent) where
   pub whole-at : (i : ℕ) → goodSettings (settingsOf n D i) ≡ true → (k : ℕ) → wellFormed (at n D event i k) ≡ true
-  unfolding at Whole
-  whole-at i g zero = fresh-whole (settingsOf n D i) g
-  whole-at i g (suc k) = keeps i (event k) (at n D event i k) (proper k) (whole-at i g k)
+  whole-at i g k = whole (formed-at n D event faulty proper i g k)
 
   -- station i's store is the bytes of its state
   pub store-carried : (i : ℕ) → goodSettings (settingsOf n D i) ≡ true → (k : ℕ) → storeAt n D event room lent i k ≡ encode (at n D event i k)
@@ -157,7 +123,7 @@ module _ (n D : ℕ) (event : ℕ → Event) (room : ℕ → List ℕ) (lent : �
       let s = at n D event i k in
       let o = lent i k in
       ap (λ (b : List ℕ). calls i (event k) b o .store) (store-carried i g k)
-      ∙ ap (λ (c : Called). c .store) (calls-answered i (event k) s o (proper k) (whole-at i g k) (L .out i k))
+      ∙ ap (λ (c : Called). c .store) (calls-answered n D event faulty i (event k) s o (proper k) (whole-at i g k) (L .out i k))
       ∙ answered-store (happens i (event k) s) o
 
   -- and what its calls write is what it says
@@ -168,5 +134,5 @@ module _ (n D : ℕ) (event : ℕ → Event) (room : ℕ → List ℕ) (lent : �
       let o = lent i k in
       let w = whole-at i g k in
       ap (λ (b : List ℕ). written (calls i (event k) b o)) (store-carried i g k)
-      ∙ ap written (calls-answered i (event k) s o (proper k) w (L .out i k))
+      ∙ ap written (calls-answered n D event faulty i (event k) s o (proper k) w (L .out i k))
       ∙ (written-answered (happens i (event k) s) (lent i k) (unfold Fits in fits i (event k) s w))

@@ -1,35 +1,21 @@
 -- Demand 3 of the calls: whatever bytes the hosts' stores and out buffers hold, the logs in the stores of sound stations agree, and a
 -- vote that lasts is in the log. Assumes nothing.
-use Prim.Native.Nat.{ℕ, zero, suc, _+_, _*_, _%_, _<_}
-use mathlib.Core.Path.{_≡_, subst, subst₂, refl, sym, ap, _∙_}
-use mathlib.Core.Bool.{Bool, true, _&&_}
-use mathlib.Core.List.{List, [], _∷_, IsPrefix}
+use Prim.Native.Nat.{ℕ, suc, _+_, _*_, _<_}
+use mathlib.Core.Path.{_≡_, subst, subst₂, sym, ap, _∙_}
+use mathlib.Core.Bool.{true}
+use mathlib.Core.List.{List, IsPrefix}
 use mathlib.Core.Logic.{_⊎_}
-use lib.Dec.{ltb, eqb}
-use borrow.Author.Tests.{lt-ltb}
-use Rattle.rules.specs.Limits.{leastStations, mostStations, leastDelay, mostDelay}
-use Rattle.rules.specs.Lists.{within}
 use Rattle.rules.specs.Sizes.{goodSettings}
 use Rattle.rules.specs.WellFormed.{wellFormed}
-use Rattle.rules.proofs.Tests.{and-left}
 use Rattle.rules.specs.Messages.{outgoing, propose, vote, toAll}
 use Rattle.rules.specs.Words.{State, inView}
 use Rattle.agreement.specs.Schedule.{Event, commonTick, settingsOf, at, clock, out, Says, Sound, Schedule, Linked, lineage}
+use Rattle.agreement.proofs.Whole.{settings-alike}
 use Rattle.agreement.proofs.Theorems.{logs-agree, one-clerk, vote-commits}
 use Rattle.store.specs.Decode.{names, stateFrom, stateOf, encode}
 use Rattle.oneform.proofs.OneForm.{encoded-left}
 use Rattle.promises.specs.Run.{Lends, storeAt, saidAt}
-use Rattle.promises.proofs.Carried.{Proper, lent-proper, whole-at, store-carried, said-carried}
-
-and-true : (a : Bool) → a ≡ true → (a && true) ≡ true
-and-true a e = rw e
-
--- good settings are good for every own number below n
-settings-alike : (n D i : ℕ) → goodSettings (settingsOf n D 0) ≡ true → i < n → goodSettings (settingsOf n D i) ≡ true
-unfolding goodSettings
-settings-alike n D i g l =
-    let a = eqb (n % 2) 1 && within leastStations mostStations n && within leastDelay mostDelay D in
-    rw (lt-ltb i n l) (and-true a (and-left a (ltb 0 n) g))
+use Rattle.promises.proofs.Carried.{whole-at, store-carried, said-carried}
 
 -- the log of a state's bytes
 encoded-log : (s : State) → wellFormed s ≡ true → names (encode s) ≡ s .log
@@ -42,19 +28,16 @@ module _ (n D : ℕ) (event : ℕ → Event) (faulty : ℕ) (heightOf parentOf :
   good-of : (i : ℕ) → i < n → goodSettings (settingsOf n D i) ≡ true
   good-of i l = settings-alike n D i (X .premises .settings) l
 
-  proper-of : (k : ℕ) → Proper (event k)
-  proper-of k = lent-proper n D event faulty (event k) (X .premises .lent k)
-
   -- the log that a station's store holds is the rules'
   pub log-carried : (i : ℕ) → i < n → (k : ℕ) → names (storeAt n D event room lent i k) ≡ at n D event i k .log
   log-carried i l k =
       let s = at n D event i k in
-      ap names (store-carried n D event room lent L proper-of i (good-of i l) k)
-      ∙ encoded-log s (whole-at n D event room lent L proper-of i (good-of i l) k)
+      ap names (store-carried n D event faulty (X .premises .lent) room lent L i (good-of i l) k)
+      ∙ encoded-log s (whole-at n D event faulty (X .premises .lent) room lent L i (good-of i l) k)
 
   -- what the call of an event writes is what the rules say
   pub bytes-carried : (i : ℕ) → i < n → (k : ℕ) → saidAt n D event room lent i k ≡ outgoing (out n D event i k)
-  bytes-carried i l k = said-carried n D event room lent L proper-of i (good-of i l) k
+  bytes-carried i l k = said-carried n D event faulty (X .premises .lent) room lent L i (good-of i l) k
 
   -- Theorem A of the calls: of the logs in the stores of two sound stations, at whatever moments, one begins the other
   pub stores-agree : (i j : ℕ) → Sound n D event faulty i → Sound n D event faulty j → (k l : ℕ)

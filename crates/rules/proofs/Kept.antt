@@ -22,7 +22,7 @@ use Rattle.rules.proofs.Tests.{eqb-eq, by-bool, by-option, no-bool}
 use Rattle.rules.proofs.Truths.{eq-eqb, lt-ltb, ltb-lt, and-true, true-and}
 use Rattle.rules.proofs.Searches.{first-kept, first-any}
 use Rattle.rules.proofs.Masks.{quorum-joined}
-use Rattle.rules.proofs.Statements.{in-cong, in-append, in-noted, first-other, In, Once, once-append, once-noted}
+use Rattle.rules.proofs.Statements.{in-cong, in-append, in-noted, first-other, In}
 use Rattle.rules.proofs.Tallies.{count-quorum, voters-join, voters-certificate}
 use Rattle.rules.proofs.Moves.{Outside, arrived, Move, joins, stores, passes, casts, clashes, accuses, fills, complains, entersFull, entersPair, enters, Moves, here, more, voting-low, voting-high, arrive-full, arrive-pair, arrive-clean}
 
@@ -224,13 +224,6 @@ module _ {R : Outside} where
   moves-kept {s} here = kept-refl s
   moves-kept {s} {t} (more {t = u} {p = p} a b) = kept-trans (moves-kept a) (move-kept u t p b)
 
-votingAll-once : (ys : List Statement) (s : State) → Once (s .statements) → Once (votingAll ys s .now .statements)
-unfolding votingAll saying votedFor withTables _▸_
-votingAll-once [] s o = o
-votingAll-once (y ∷ ys) s o =
-    by-bool (belowLock y s) (λ l. rw (voting-low y s l) (votingAll-once ys s o))
-    (λ l. rw (voting-high y s l) (votingAll-once ys (votedFor y s) (once-noted y (s .clock) (s .statements) o)))
-
 -- ---- the clock of a vote stays noted while the view stays
 
 abbrev pub VoteKept : State → State → Type 0
@@ -265,26 +258,6 @@ module _ {R : Outside} where
       let w : u .view ≡ s .view = omega arith in
       let (y, g, d) = moves-vote s u p a x z c f e w in
       move-vote u t q m x y c g d (v ∙ sym w)
-
-  -- ---- no statement is stored twice
-
-  move-once : (s t : State) (o : List Effect) → Move R s t o → Once (s .statements) → Once (t .statements)
-  unfolding withTables withPhase withBlames withLog entering stored votedFor blamed
-  move-once s t o (joins m u g c) h = h
-  move-once s t o (stores x (g, n, q) f) h = once-append (s .statements) x q h
-  move-once s t o (passes x (g, n, q) f c l) h = once-append (s .statements) x q h
-  move-once s t o (casts x (g, n, q) f c l) h = once-noted x (s .clock) (s .statements ++ x ∷ []) (once-append (s .statements) x q h)
-  move-once s t o (clashes x y (g, n, q) f c) h = once-append (s .statements) x q h
-  move-once s t o (accuses v m a f) h = h
-  move-once s t o (fills v m a f) h = h
-  move-once s t o (complains f) h = h
-  move-once s t o (entersFull e c) h = h
-  move-once s t o (entersPair p e c f) h = h
-  move-once s t o (enters e c f) h = votingAll-once (inOrder (current (arrived s))) (arrived s) h
-
-  pub moves-once : (s t : State) (o : List Effect) → Moves R s t o → Once (s .statements) → Once (t .statements)
-  moves-once s t o here h = h
-  moves-once s t o (more {t = u} {o = p} {p = q} a m) h = move-once u t q m (moves-once s u p a h)
 
   -- ---- who waits has waited, or quits now
 

@@ -8,6 +8,7 @@ pub mod Searches
 pub mod Statements
 pub mod Tallies
 pub mod Allowed
+pub mod Offers
 pub mod Moves
 pub mod Kept
 pub mod Orderly

@@ -1,5 +1,4 @@
--- The table of statements: what is the same, what conflicts, and that no statement is stored twice. The table is seen only by
--- what a search finds. Assumes nothing.
+-- The table of statements: what is the same, what conflicts. The table is seen only by what a search finds. Assumes nothing.
 use mathlib.Core.Path.{_≡_, subst, refl, sym, ap, _∙_}
 use Prim.Native.Nat.{ℕ, suc, _<_}
 use native.Mathlib.Omega.{arith}
@@ -9,11 +8,11 @@ use mathlib.Core.List.{List, [], _∷_, _++_, List·Memᴰ, List·Memᴰ·head, 
 use mathlib.Core.Logic.{_⊎_, inl, inr}
 use mathlib.Core.Option.{Option, none, some, Option·map, Option·some-injective}
 use lib.Dec.{eqb, leb}
-use Rattle.rules.specs.Lists.{iff, first, any, keep, alter}
+use Rattle.rules.specs.Lists.{iff, first, any, keep, alter, distinct}
 use Rattle.rules.specs.Words.{Statement, sameStatement, conflict, State}
 use Rattle.rules.specs.Inputs.{noted, pair, current, inOrder}
 use Rattle.rules.proofs.Tests.{eqb-eq, le-leb, by-bool, by-option, no-some, no-bool}
-use Rattle.rules.proofs.Truths.{eq-eqb, eqb-sym, and-true, or-true, iff-eq, iff-refl, iff-sym}
+use Rattle.rules.proofs.Truths.{eq-eqb, eqb-sym, and-true, or-true, not-true, iff-eq, iff-refl, iff-sym}
 use Rattle.rules.proofs.Searches.{by-mem, any-append, any-alter, any-sorted, any-mem, first-any, mem-keep, mem-sorted, first-mem}
 
 -- ---- the same statement
@@ -243,34 +242,12 @@ pub mem-order : (s : State) (x : Statement) → List·Memᴰ x (inOrder (current
 unfolding inOrder current
 mem-order s x m = let r = mem-keep (λ (y : Statement). eqb (y .view) (s .view)) (s .statements) x (mem-sorted place _ x m) in (r .0, eqb-eq (x .view) (s .view) (r .1))
 
--- ---- no statement is stored twice
-
-abbrev pub Once : List Statement → Type 0
-Once [] = Unit {0}
-Once (x ∷ xs) = (any (sameStatement x) xs ≡ false) × Once xs
-
-pub once-append : (xs : List Statement) (y : Statement) → any (sameStatement y) xs ≡ false → Once xs → Once (xs ++ y ∷ [])
-unfolding any
-once-append [] y n o = (refl, tt)
-once-append (x ∷ xs) y n o =
-    by-bool (sameStatement y x) (λ q. no-bool (rw (q, any) at n)) λ q.
-    (any-append (sameStatement x) xs y ∙ both (o .0) (same-sym x y ∙ q), once-append xs y (rw (q, any) at n) (o .1))
-  where
-    both : {a b : Bool} → a ≡ false → b ≡ false → (a || b) ≡ false
-    both {a} {b} p r = rw (p, r)
-
-pub once-noted : (y : Statement) (c : ℕ) (xs : List Statement) → Once xs → Once (alter (sameStatement y) (noted c) xs)
-unfolding alter
-once-noted y c [] o = tt
-once-noted y c (x ∷ xs) o =
-    by-bool (sameStatement y x) (λ q. rw (q, alter) (in-cong (noted c x) x (same-sym (noted c x) x ∙ noted-same x x c ∙ same-self x) xs ∙ o .0, o .1))
-    (λ q. rw (q, alter) (in-noted x y c xs ∙ o .0, once-noted y c xs (o .1)))
-
--- a stored statement is what a search for it finds
-pub once-first : (xs : List Statement) (z : Statement) → Once xs → List·Memᴰ z xs → first (sameStatement z) xs ≡ some z
-unfolding first
+-- where no statement is stored twice, a stored one is what a search for it finds
+pub once-first : (xs : List Statement) (z : Statement) → distinct sameStatement xs ≡ true → List·Memᴰ z xs → first (sameStatement z) xs ≡ some z
+unfolding first distinct
 once-first (x ∷ xs) z o m =
+    let (n, d) = and-true (not (any (sameStatement x) xs)) (distinct sameStatement xs) o in
     by-mem m (λ e. rw e (rw (same-self x, first) refl))
     (λ t.
-    by-bool (sameStatement z x) (λ q. no-bool (sym (any-mem (sameStatement x) xs z t (same-sym x z ∙ q)) ∙ o .0))
-    (λ q. rw (q, first) (once-first xs z (o .1) t)))
+    by-bool (sameStatement z x) (λ q. no-bool (sym (any-mem (sameStatement x) xs z t (same-sym x z ∙ q)) ∙ not-true (any (sameStatement x) xs) n))
+    (λ q. rw (q, first) (once-first xs z d t)))

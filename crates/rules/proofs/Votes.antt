@@ -127,7 +127,6 @@ module _ (S : ℕ → Effect → Type 0) where
     pub said : List Effect
     pub later : List Effect
     pub before : Moves R s at said
-    pub heard : All (S (s .clock)) said
     pub after : Moves R at t later
     pub orderly : Orderly S at
     pub stands : Stands at v h b
@@ -149,22 +148,22 @@ module _ (S : ℕ → Effect → Type 0) where
   cast-on R s k (toAll (newView v h b c m a)) x = tt
   cast-on R s k (toAll (propose v h b p m a)) x = tt
   cast-on R s {o = o} k (toAll (vote v h b a)) x =
-      record { at = x .at; said = x .said; later = x .later ++ o; before = x .before; heard = x .heard; after = more (x .after) k; orderly = x .orderly; stands = x .stands }
+      record { at = x .at; said = x .said; later = x .later ++ o; before = x .before; after = more (x .after) k; orderly = x .orderly; stands = x .stands }
   cast-on R s k (toAll (blame v a)) x = tt
   cast-on R s k (toAll (blameSet v m)) x = tt
   cast-on R s k (toAll (status h b c m)) x = tt
   cast-on R s k (toOne i m) x = tt
   cast-on R s k (committed h b) x = tt
 
-  stands-cast : {R : Outside} (s t : State) (o : List Effect) → Moves R s t o → All (S (s .clock)) o → Orderly S t → (e : Effect) → StandsSaid t e → CastSaid R s t e
-  stands-cast s t o w k i (toAll (newView v h b c m a)) x = tt
-  stands-cast s t o w k i (toAll (propose v h b p m a)) x = tt
-  stands-cast s t o w k i (toAll (vote v h b a)) x = record { at = t; said = o; later = []; before = w; heard = k; after = here; orderly = i; stands = x }
-  stands-cast s t o w k i (toAll (blame v a)) x = tt
-  stands-cast s t o w k i (toAll (blameSet v m)) x = tt
-  stands-cast s t o w k i (toAll (status h b c m)) x = tt
-  stands-cast s t o w k i (toOne j m) x = tt
-  stands-cast s t o w k i (committed h b) x = tt
+  stands-cast : {R : Outside} (s t : State) (o : List Effect) → Moves R s t o → Orderly S t → (e : Effect) → StandsSaid t e → CastSaid R s t e
+  stands-cast s t o w i (toAll (newView v h b c m a)) x = tt
+  stands-cast s t o w i (toAll (propose v h b p m a)) x = tt
+  stands-cast s t o w i (toAll (vote v h b a)) x = record { at = t; said = o; later = []; before = w; after = here; orderly = i; stands = x }
+  stands-cast s t o w i (toAll (blame v a)) x = tt
+  stands-cast s t o w i (toAll (blameSet v m)) x = tt
+  stands-cast s t o w i (toAll (status h b c m)) x = tt
+  stands-cast s t o w i (toOne j m) x = tt
+  stands-cast s t o w i (committed h b) x = tt
 
   pub moves-cast : {R : Outside} (s t : State) (o : List Effect) → Moves R s t o → All (S (s .clock)) o → Orderly S s → All (CastSaid R s t) o
   moves-cast {R} s t o here h i = tt
@@ -174,4 +173,4 @@ module _ (S : ℕ → Effect → Type 0) where
       let hq : All (S (u .clock)) q = rw (moves-fixed a .1) (r .1) in
       let it = move-orderly S u t q b hq iu in
       all-append (CastSaid R s t) p q (all-map (CastSaid R s u) (CastSaid R s t) (cast-on R s b) p (moves-cast s u p a (r .0) i))
-      (all-map (StandsSaid t) (CastSaid R s t) (stands-cast s t (p ++ q) (more a b) h it) q (move-stands u t q b hq))
+      (all-map (StandsSaid t) (CastSaid R s t) (stands-cast s t (p ++ q) (more a b) it) q (move-stands u t q b hq))

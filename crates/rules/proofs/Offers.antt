@@ -1,0 +1,42 @@
+-- What an offer that is taken makes: who leads makes a propose above the stored statement of greatest height of the view. Assumes nothing.
+use mathlib.Core.Path.{_≡_, sym, _∙_}
+use Prim.Native.Nat.{ℕ}
+use mathlib.Core.Bool.{true, false, not, _&&_}
+use mathlib.Core.List.{List, [], _∷_, List·Memᴰ, List·Memᴰ·head, List·Memᴰ·tail}
+use mathlib.Core.Option.{some, Option·some-injective}
+use lib.Dec.{ltb, eqb}
+use Rattle.rules.specs.Messages.{Message}
+use Rattle.rules.specs.Words.{Statement, State}
+use Rattle.rules.specs.Inputs.{leads, isOpened, isUsed, top, extendable, above, offered}
+use Rattle.rules.proofs.Tests.{eqb-eq, by-bool, by-option, no-some}
+use Rattle.rules.proofs.Truths.{and-true, not-true}
+
+-- the greatest-height statement of a view is stored and of that view
+pub top-mem : (v : ℕ) (xs : List Statement) (x : Statement) → top v xs ≡ some x → List·Memᴰ x xs × (x .view ≡ v)
+unfolding top
+top-mem v [] x e = no-some e
+top-mem v (y ∷ ys) x e =
+    by-bool (eqb (y .view) v)
+    (λ q.
+    let this : some y ≡ some x → List·Memᴰ x (y ∷ ys) × (x .view ≡ v) =
+    λ f. let k = Option·some-injective y x f in (List·Memᴰ·head (sym k), rw (← k) (eqb-eq (y .view) v q)) in
+    by-option (top v ys) (λ r. this (rw (q, r, top) at e)) λ z r.
+    by-bool (ltb (y .height) (z .height))
+    (λ k. let h = top-mem v ys x (r ∙ (rw (q, r, k, top) at e)) in (List·Memᴰ·tail (h .0), h .1)) (λ k. this (rw (q, r, k, top) at e)))
+    (λ q. let h = top-mem v ys x (rw (q, top) at e) in (List·Memᴰ·tail (h .0), h .1))
+
+pub offer-made : (b : ℕ) (s : State) (m : Message) → offered b s ≡ some m
+    → (x : Statement) × List·Memᴰ x (s .statements) × (x .view ≡ s .view) × (leads s ≡ true) × (eqb b 0 ≡ false) × (extendable x s ≡ true) × (above x b s ≡ m)
+unfolding offered
+offer-made b s m e =
+    by-bool (leads s && isOpened s && not (eqb b 0) && not (isUsed b s))
+    (λ c.
+    let c1 = and-true (leads s && isOpened s && not (eqb b 0)) (not (isUsed b s)) c in
+    let c2 = and-true (leads s && isOpened s) (not (eqb b 0)) (c1 .0) in
+    let c3 = and-true (leads s) (isOpened s) (c2 .0) in
+    by-option (top (s .view) (s .statements)) (λ t. no-some (rw (c, t, offered) at e)) λ x t.
+    let (i, v) = top-mem (s .view) (s .statements) x t in
+    by-bool (extendable x s)
+    (λ k. (x, i, v, c3 .0, not-true (eqb b 0) (c2 .1), k, Option·some-injective (above x b s) m (rw (c, t, k, offered) at e)))
+    (λ k. no-some (rw (c, t, k, offered) at e)))
+    (λ c. no-some (rw (c, offered) at e))
