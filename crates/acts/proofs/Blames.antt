@@ -1,13 +1,12 @@
 -- A blame mask that grew: the station goes on, or sends the set and quits. Assumes nothing.
 use Prim.Native.Nat.{ℕ}
 use mathlib.Core.Path.{_≡_, refl, ap, _∙_}
-use mathlib.Core.Bool.{true, false, _&&_}
+use mathlib.Core.Bool.{true, false, _&&_, and-false}
 use mathlib.Core.List.{List, [], _∷_}
 use Rattle.rules.specs.Messages.{toAll, blameSet}
 use Rattle.rules.specs.Words.{State}
 use Rattle.rules.specs.Inputs.{Work, saying, quit, isIn, blamesOf, blamed, blameFull, blaming}
 use Rattle.store.specs.Decode.{stateOf, Left}
-use Rattle.kept.proofs.Truths.{and-false}
 use Rattle.acts.specs.Works.{Works}
 use Rattle.acts.proofs.Works.{works-is, works-none}
 

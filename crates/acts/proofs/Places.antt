@@ -26,7 +26,7 @@ use Rattle.store.proofs.Searches.{alter-found}
 use Rattle.search.specs.Lookups.{Certifies}
 use Rattle.search.proofs.Statements.{same-unvoted, certifies-allowed}
 use Rattle.kept.specs.Said.{Sendable}
-use Rattle.kept.proofs.Truths.{and-2}
+use Rattle.rules.proofs.Truths.{and-2}
 use Rattle.kept.proofs.Statements.{stored-sendable}
 use Rattle.kept.proofs.Facts.{sizes-of}
 use Rattle.acts.specs.Works.{Formed}

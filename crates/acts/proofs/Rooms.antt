@@ -18,7 +18,7 @@ use Rattle.rules.specs.WellFormed.{talliesThere}
 use Rattle.rules.proofs.Tests.{by-bool, no-bool, eqb-self}
 use Rattle.kept.specs.Parts.{Formed, WellFormed}
 use Rattle.kept.specs.Said.{Sendable}
-use Rattle.kept.proofs.Truths.{and-2, and-6}
+use Rattle.rules.proofs.Truths.{and-2, and-6}
 use Rattle.kept.proofs.Lists.{all-mem, any-find, any-cong}
 use Rattle.kept.proofs.Sendable.{newView-parts}
 use Rattle.kept.proofs.Statements.{stated}

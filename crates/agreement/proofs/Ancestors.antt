@@ -8,13 +8,13 @@ use mathlib.Core.Bool.{true, false}
 use mathlib.Core.List.{List, IsPrefix, List·Memᴰ}
 use mathlib.Core.Logic.{_⊎_, inl, inr}
 use mathlib.Core.Option.{none, some}
+use borrow.Author.Tests.{eq-eqb}
 use Rattle.rules.specs.Lists.{first, any}
 use Rattle.rules.specs.Sizes.{Settings}
 use Rattle.rules.specs.Messages.{propose, vote, toAll}
 use Rattle.rules.specs.Words.{Statement, message, sameStatement, State, inView}
 use Rattle.rules.specs.Inputs.{isBlock, due, chain}
 use Rattle.rules.proofs.Tests.{by-bool, by-option, no-bool}
-use Rattle.rules.proofs.Truths.{eq-eqb}
 use Rattle.rules.proofs.Searches.{any-mem, first-any, first-mem, first-none}
 use Rattle.rules.proofs.Statements.{In, same-like, no-conflict-newView}
 use Rattle.rules.proofs.Moves.{counted, logAfter}

@@ -9,6 +9,7 @@ use mathlib.Core.Logic.{_⊎_, inl, inr}
 use mathlib.Core.Option.{Option, none, some}
 use lib.Dec.{ltb, eqb}
 use lib.ListN.{length, getD, List·getD-eq-default}
+use borrow.Author.Tests.{eqb-true, eq-eqb, lt-ltb, ltb-true}
 use Rattle.rules.specs.Lists.{first, any, all}
 use Rattle.rules.specs.Sizes.{bit}
 use Rattle.rules.specs.Messages.{Message, newView, propose, vote, blame, blameSet, status, table, rowOf, kind, values, read, write, allowed, Effect, toAll, toOne, committed}
@@ -16,8 +17,8 @@ use Rattle.rules.specs.Words.{Phase, inView, waiting, stopped, full, clock as l
 use Rattle.rules.specs.Inputs.{saying, offered}
 use Rattle.rules.specs.Refusals.{done, running}
 use Rattle.rules.specs.Script.{sameList}
-use Rattle.rules.proofs.Tests.{eqb-eq, by-bool, by-option, no-some, no-bool}
-use Rattle.rules.proofs.Truths.{eq-eqb, lt-ltb, ltb-lt, and-true, true-and, or-true}
+use Rattle.rules.proofs.Tests.{by-bool, by-option, no-some, no-bool}
+use Rattle.rules.proofs.Truths.{and-2, both, or-2}
 use Rattle.rules.proofs.Searches.{by-mem, first-mem, first-any, first-none}
 use Rattle.rules.proofs.Bytes.{Bytes, none as no-bytes, one}
 use Rattle.agreement.specs.Schedule.{Event, idle, commonTick, tickOf, given, offeredTo, happens, ticks, IsCommon, CommonTicks, settingsOf, at, out, clock, Says, HasVoted, HasBlamed, HasMade, Sound, NeverFull, IsLent, ProperBuffers, Sends, InTime, VotersVoted, Genuine, Hands, NoForgery, Offers, OneBlock, OneName}
@@ -34,7 +35,7 @@ every-true : (n : ℕ) (p : ℕ → Bool) → every n p ≡ true → (k : ℕ) �
 unfolding every
 every-true zero p h k l = absurd (omega arith)
 every-true (suc n) p h k l =
-    let a = and-true (p n) (every n p) h in
+    let a = and-2 (p n) (every n p) h in
     elim (decLt k n) [
       | yes d ↦ every-true n p (a .1) k d
       | no d ↦ (let e : n ≡ k = omega arith in subst (λ (x : ℕ). p x ≡ true) e (a .0))
@@ -43,7 +44,7 @@ every-true (suc n) p h k l =
 some-true : (n : ℕ) (p : ℕ → Bool) → some? n p ≡ true → (k : ℕ) × (k < n) × (p k ≡ true)
 unfolding some?
 some-true zero p h = no-bool (sym h)
-some-true (suc n) p h = go (or-true (p n) (some? n p) h) (λ q. some-true n p q)
+some-true (suc n) p h = go (or-2 (p n) (some? n p) h) (λ q. some-true n p q)
   where
     go : (p n ≡ true) ⊎ (some? n p ≡ true) → (some? n p ≡ true → (k : ℕ) × (k < n) × (p k ≡ true)) → (k : ℕ) × (k < suc n) × (p k ≡ true)
     go (inl e) f = (n, omega arith, e)
@@ -54,7 +55,7 @@ module _ {A : Type 0} (p : A → Bool) where
   unfolding all
   all-true [] h x m = absurd (List·Memᴰ·not-nil m)
   all-true (y ∷ ys) h x m =
-      let a = and-true (p y) (all p ys) h in by-mem m (λ e. ap p e ∙ a .0) (λ t. all-true ys (a .1) x t)
+      let a = and-2 (p y) (all p ys) h in by-mem m (λ e. ap p e ∙ a .0) (λ t. all-true ys (a .1) x t)
 
   any-true : (xs : List A) → any p xs ≡ true → (x : A) × List·Memᴰ x xs × (p x ≡ true)
   any-true xs h =
@@ -70,7 +71,7 @@ sameList-eq [] [] h = refl
 sameList-eq [] (y ∷ ys) h = no-bool (sym h)
 sameList-eq (x ∷ xs) [] h = no-bool (sym h)
 sameList-eq (x ∷ xs) (y ∷ ys) h =
-    let a = and-true (eqb x y) (sameList xs ys) h in ap₂ (λ (u : ℕ) (us : List ℕ). u ∷ us) (eqb-eq x y (a .0)) (sameList-eq xs ys (a .1))
+    let a = and-2 (eqb x y) (sameList xs ys) h in ap₂ (λ (u : ℕ) (us : List ℕ). u ∷ us) (eqb-true x y (a .0)) (sameList-eq xs ys (a .1))
 
 -- a message is made from its kind and values
 made : ℕ → List ℕ → Message
@@ -88,8 +89,8 @@ made-law (status h b c m) = refl
 sameMessage-eq : (m k : Message) → sameMessage m k ≡ true → m ≡ k
 unfolding sameMessage
 sameMessage-eq m k h =
-    let a = and-true (eqb (kind m) (kind k)) (sameList (values m) (values k)) h in
-    sym (made-law m) ∙ ap₂ made (eqb-eq (kind m) (kind k) (a .0)) (sameList-eq (values m) (values k) (a .1)) ∙ made-law k
+    let a = and-2 (eqb (kind m) (kind k)) (sameList (values m) (values k)) h in
+    sym (made-law m) ∙ ap₂ made (eqb-true (kind m) (kind k) (a .0)) (sameList-eq (values m) (values k) (a .1)) ∙ made-law k
 
 toAllThat-true : (p : Message → Bool) (e : Effect) → toAllThat p e ≡ true → (m : Message) × (e ≡ toAll m) × (p m ≡ true)
 unfolding toAllThat
@@ -107,7 +108,7 @@ module _ (n D : ℕ) (es : List Event) (faulty : ℕ) where
 
   sound-test : (i : ℕ) → Sound n D E faulty i → isSound n D es faulty i ≡ true
   unfolding isSound
-  sound-test i ok = true-and (ltb i n) (eqb (bit faulty i) 0) (lt-ltb i n (ok .0)) (eq-eqb (bit faulty i) 0 (ok .1))
+  sound-test i ok = both (lt-ltb i n (ok .0)) (eq-eqb (bit faulty i) 0 (ok .1))
 
   says-here : (i k : ℕ) (e : Effect) → Says n D E i k e → k < length es
   unfolding out
@@ -136,7 +137,7 @@ module _ (n D : ℕ) (es : List Event) (faulty : ℕ) where
   unfolding votersVoted
   voters-test k m v h b t i ok y =
       said-message i k (vote v h b i)
-      (implies-true (isSound n D es faulty i && eqb (bit m i) 1) (every-true n _ t i (ok .0)) (true-and (isSound n D es faulty i) (eqb (bit m i) 1) (sound-test i ok) (eq-eqb (bit m i) 1 y)))
+      (implies-true (isSound n D es faulty i && eqb (bit m i) 1) (every-true n _ t i (ok .0)) (both (sound-test i ok) (eq-eqb (bit m i) 1 y)))
 
   made-test : (i k : ℕ) (f : ℕ → Message) → hasMade n D es faulty i k f ≡ true → Sound n D E faulty i → HasMade n D E i k f
   unfolding hasMade
@@ -146,13 +147,13 @@ module _ (n D : ℕ) (es : List Event) (faulty : ℕ) where
 
   genuine-test : (k : ℕ) (m : Message) → isGenuine n D es faulty k m ≡ true → Genuine n D E faulty k m
   unfolding isGenuine
-  genuine-test k (newView v h b c m a) t = let q = and-true (votersVoted n D es faulty k m c h b) _ t in (voters-test k m c h b (q .0), made-test a k (λ x. newView v h b c x a) (q .1))
-  genuine-test k (propose v h b p m a) t = let q = and-true (votersVoted n D es faulty k m v (h - 1) p) _ t in (voters-test k m v (h - 1) p (q .0), made-test a k (λ x. propose v h b p x a) (q .1))
+  genuine-test k (newView v h b c m a) t = let q = and-2 (votersVoted n D es faulty k m c h b) _ t in (voters-test k m c h b (q .0), made-test a k (λ x. newView v h b c x a) (q .1))
+  genuine-test k (propose v h b p m a) t = let q = and-2 (votersVoted n D es faulty k m v (h - 1) p) _ t in (voters-test k m v (h - 1) p (q .0), made-test a k (λ x. propose v h b p x a) (q .1))
   genuine-test k (vote v h b a) t = λ ok. said-message a k (vote v h b a) (implies-true (isSound n D es faulty a) t (sound-test a ok))
   genuine-test k (blame v a) t = λ ok. said-message a k (blame v a) (implies-true (isSound n D es faulty a) t (sound-test a ok))
   genuine-test k (blameSet v m) t = λ i ok y.
       said-message i k (blame v i)
-      (implies-true (isSound n D es faulty i && eqb (bit m i) 1) (every-true n _ t i (ok .0)) (true-and (isSound n D es faulty i) (eqb (bit m i) 1) (sound-test i ok) (eq-eqb (bit m i) 1 y)))
+      (implies-true (isSound n D es faulty i && eqb (bit m i) 1) (every-true n _ t i (ok .0)) (both (sound-test i ok) (eq-eqb (bit m i) 1 y)))
   genuine-test k (status h b c m) t = voters-test k m c h b t
 
   -- what is handed over is within the list, and was tested
@@ -178,8 +179,8 @@ module _ (n D : ℕ) (es : List Event) (faulty : ℕ) where
   module _ (heightOf parentOf : ℕ → ℕ) where
     block-test : (m : Message) → isOneBlock n D es faulty heightOf parentOf m ≡ true → OneBlock n D E faulty heightOf parentOf m
     unfolding isOneBlock
-    block-test (newView v h b c m a) t = eqb-eq (heightOf b) h t
-    block-test (propose v h b p m a) t = let q = and-true (eqb (heightOf b) h) (eqb (parentOf b) p) t in (eqb-eq (heightOf b) h (q .0), eqb-eq (parentOf b) p (q .1))
+    block-test (newView v h b c m a) t = eqb-true (heightOf b) h t
+    block-test (propose v h b p m a) t = let q = and-2 (eqb (heightOf b) h) (eqb (parentOf b) p) t in (eqb-true (heightOf b) h (q .0), eqb-true (parentOf b) p (q .1))
     block-test (vote v h b a) t = tt
     block-test (blame v a) t = tt
     block-test (blameSet v m) t = tt
@@ -204,15 +205,15 @@ module _ (n D : ℕ) (es : List Event) (faulty : ℕ) where
 
     pub names-checked : oneNamed n D es faulty heightOf parentOf ≡ true → OneName n D E faulty heightOf parentOf
     unfolding oneNamed
-    names-checked t k j m (inl h) = block-test m (hands-test k j m fine h (λ d. and-true (taken n D es faulty k fine) _ (every-true (length es) _ t k d) .0))
-    names-checked t k j m (inr o) = block-test m (offers-test k j m o (λ d. and-true (taken n D es faulty k fine) _ (every-true (length es) _ t k d) .1))
+    names-checked t k j m (inl h) = block-test m (hands-test k j m fine h (λ d. and-2 (taken n D es faulty k fine) _ (every-true (length es) _ t k d) .0))
+    names-checked t k j m (inr o) = block-test m (offers-test k j m o (λ d. and-2 (taken n D es faulty k fine) _ (every-true (length es) _ t k d) .1))
 
   -- ---- proper buffers
 
   bytes-test : (bs : List ℕ) → all (λ b. ltb b 256) bs ≡ true → Bytes bs
   unfolding all
   bytes-test [] t = no-bytes
-  bytes-test (b ∷ bs) t = let q = and-true (ltb b 256) (all (λ b. ltb b 256) bs) t in one (ltb-lt b 256 (q .0)) (bytes-test bs (q .1))
+  bytes-test (b ∷ bs) t = let q = and-2 (ltb b 256) (all (λ b. ltb b 256) bs) t in one (ltb-true b 256 (q .0)) (bytes-test bs (q .1))
 
   lent-test : (e : Event) → givenTo e (λ j bs. all (λ b. ltb b 256) bs) true ≡ true → offeredAs e (λ j b. ltb b (256 ^ 32)) ≡ true → IsLent n D E faulty e
   unfolding givenTo offeredAs
@@ -220,13 +221,13 @@ module _ (n D : ℕ) (es : List Event) (faulty : ℕ) where
   lent-test commonTick t u = tt
   lent-test (tickOf j) t u = tt
   lent-test (given j bs) t u = bytes-test bs t
-  lent-test (offeredTo j b) t u = ltb-lt b (256 ^ 32) u
+  lent-test (offeredTo j b) t u = ltb-true b (256 ^ 32) u
 
   pub lent-checked : allLent n D es faulty ≡ true → ProperBuffers n D E faulty
   unfolding allLent
   lent-checked t k =
       elim (decLt k (length es)) [
-        | yes d ↦ (let q = and-true _ _ (every-true (length es) _ t k d) in lent-test (E k) (q .0) (q .1))
+        | yes d ↦ (let q = and-2 _ _ (every-true (length es) _ t k d) in lent-test (E k) (q .0) (q .1))
         | no d ↦ subst (IsLent n D E faulty) (sym (listed-idle k (omega arith))) tt
       ]
 
@@ -238,13 +239,13 @@ module _ (n D : ℕ) (es : List Event) (faulty : ℕ) where
   given-test commonTick j bs t = no-bool (sym t)
   given-test (tickOf i) j bs t = no-bool (sym t)
   given-test (given i cs) j bs t =
-      let q = and-true (eqb i j) (sameList cs bs) t in ap₂ (λ (x : ℕ) (ys : List ℕ). given x ys) (eqb-eq i j (q .0)) (sameList-eq cs bs (q .1))
+      let q = and-2 (eqb i j) (sameList cs bs) t in ap₂ (λ (x : ℕ) (ys : List ℕ). given x ys) (eqb-true i j (q .0)) (sameList-eq cs bs (q .1))
   given-test (offeredTo i b) j bs t = no-bool (sym t)
 
   sends-brought : (i j k : ℕ) (m : Message) → Sends n D E faulty i j k m → (e : Effect) × Says n D E i k e × (brought i j e ≡ some m)
   unfolding brought
   sends-brought i j k m (inl (s, ne)) =
-      (toAll m, s, by-bool (eqb i j) (λ q. absurd (ne (eqb-eq i j q))) (λ q. rw (q, brought)))
+      (toAll m, s, by-bool (eqb i j) (λ q. absurd (ne (eqb-true i j q))) (λ q. rw (q, brought)))
   sends-brought i j k m (inr s) = (toOne j m, s, rw (eq-eqb j j refl, brought))
 
   message-test : (i j k : ℕ) (m : Message) (l : ℕ) → comesInTime n D es faulty i j k m ≡ true → l < length es → ticks i (E l) ≡ 1
@@ -253,7 +254,7 @@ module _ (n D : ℕ) (es : List Event) (faulty : ℕ) where
   message-test i j k m l t d tick now =
       implies-true (eqb (ticks i (E l)) 1 && eqb (clock n D E i l) (clock n D E i (suc k) + D))
       (every-true (length es) (λ l. implies (eqb (ticks i (E l)) 1 && eqb (clock n D E i l) (clock n D E i (suc k) + D)) (comes n D es faulty j k m l)) t l d)
-      (true-and (eqb (ticks i (E l)) 1) (eqb (clock n D E i l) (clock n D E i (suc k) + D)) (eq-eqb (ticks i (E l)) 1 tick) (eq-eqb (clock n D E i l) (clock n D E i (suc k) + D) now))
+      (both (eq-eqb (ticks i (E l)) 1 tick) (eq-eqb (clock n D E i l) (clock n D E i (suc k) + D) now))
 
   tick-here : (i l : ℕ) → ticks i (E l) ≡ 1 → l < length es
   tick-here i l t =
@@ -267,12 +268,12 @@ module _ (n D : ℕ) (es : List Event) (faulty : ℕ) where
   time-checked t i j hi hj k m s l tick now =
       let (e, q, b) = sends-brought i j k m s in
       let t1 = every-true n _ (every-true n _ t i (hi .0)) j (hj .0) in
-      let t2 = implies-true (isSound n D es faulty i && isSound n D es faulty j) t1 (true-and (isSound n D es faulty i) (isSound n D es faulty j) (sound-test i hi) (sound-test j hj)) in
+      let t2 = implies-true (isSound n D es faulty i && isSound n D es faulty j) t1 (both (sound-test i hi) (sound-test j hj)) in
       let t3 = all-true (saidInTime n D es faulty i j k) (out n D E i k) (every-true (length es) (λ x. all (saidInTime n D es faulty i j x) (out n D E i x)) t2 k (says-here i k e q)) e q in
       let t4 = message-test i j k m l (ifSome-true (brought i j e) (comesInTime n D es faulty i j k) m t3 b) (tick-here i l tick) tick now in
       let (h, hl, g) = some-true l (λ h. ltb k h && givenTo (E h) (λ x bs. eqb x j && sameList bs (write m)) false) t4 in
-      let g2 = and-true (ltb k h) (givenTo (E h) (λ x bs. eqb x j && sameList bs (write m)) false) g in
-      (h, ltb-lt k h (g2 .0), hl, given-test (E h) j (write m) (g2 .1))
+      let g2 = and-2 (ltb k h) (givenTo (E h) (λ x bs. eqb x j && sameList bs (write m)) false) g in
+      (h, ltb-true k h (g2 .0), hl, given-test (E h) j (write m) (g2 .1))
 
   -- ---- common ticks
 

@@ -8,13 +8,13 @@ use mathlib.Core.Logic.{_⊎_, inl, inr}
 use mathlib.Core.Option.{some}
 use lib.Dec.{eqb}
 use lib.ListN.{length}
+use borrow.Author.Tests.{eqb-true, eq-eqb}
 use Rattle.rules.specs.Sizes.{Settings}
 use Rattle.rules.specs.Messages.{Message, read, Effect, committed}
 use Rattle.rules.specs.Words.{State}
 use Rattle.rules.specs.Inputs.{saying, withClock, withLog, blamesOf, blameFull, offered, entersNow}
 use Rattle.rules.specs.Refusals.{done, running, step, offer}
-use Rattle.rules.proofs.Tests.{eqb-eq, by-bool}
-use Rattle.rules.proofs.Truths.{eq-eqb}
+use Rattle.rules.proofs.Tests.{by-bool}
 use Rattle.rules.proofs.Searches.{All}
 use Rattle.rules.proofs.Moves.{Outside, counted, logAfter, news, Moves, here, step-moves, offer-moves, tick-moves}
 use Rattle.rules.proofs.Kept.{Kept, kept-refl, tick-settled}
@@ -64,11 +64,11 @@ event-moves i commonTick s c = λ r. tick-moves (Brings i commonTick s) s r .1
 event-moves i (tickOf j) s c = absurd c
 event-moves i (given j bs) s c =
     by-bool (eqb i j)
-    (λ q. rw (q, happens) (λ r. (step bs s .out, refl, step-moves (Brings i (given j bs) s) bs s (λ m e. (eqb-eq i j q, e)) r)))
+    (λ q. rw (q, happens) (λ r. (step bs s .out, refl, step-moves (Brings i (given j bs) s) bs s (λ m e. (eqb-true i j q, e)) r)))
     (λ q. rw (q, happens) (λ r. ([], refl, here)))
 event-moves i (offeredTo j b) s c =
     by-bool (eqb i j)
-    (λ q. rw (q, happens) (λ r. (offer b s .out, refl, offer-moves (Brings i (offeredTo j b) s) b s (λ m e. (eqb-eq i j q, refl, e)) r)))
+    (λ q. rw (q, happens) (λ r. (offer b s .out, refl, offer-moves (Brings i (offeredTo j b) s) b s (λ m e. (eqb-true i j q, refl, e)) r)))
     (λ q. rw (q, happens) (λ r. ([], refl, here)))
 
 -- ---- the state from which the moves go

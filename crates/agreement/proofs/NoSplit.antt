@@ -9,13 +9,13 @@ use mathlib.Core.List.{List, [], List·Memᴰ, List·Memᴰ·not-nil}
 use mathlib.Core.Logic.{_⊎_, inl, inr}
 use mathlib.Core.Option.{none, some}
 use lib.Dec.{ltb, eqb}
+use borrow.Author.Tests.{lt-ltb, ltb-true}
 use Rattle.rules.specs.Sizes.{bit}
 use Rattle.rules.specs.Messages.{Message, vote, write, Effect, toAll}
 use Rattle.rules.specs.Words.{full, split, clock as late, Phase, inView, waiting, stopped, Tally, State, fresh}
 use Rattle.rules.specs.Inputs.{saying, offered}
 use Rattle.rules.specs.Refusals.{done, running}
 use Rattle.rules.proofs.Tests.{by-bool, no-bool}
-use Rattle.rules.proofs.Truths.{lt-ltb, ltb-lt}
 use Rattle.rules.proofs.Moves.{carried}
 use Rattle.rules.proofs.Proper.{Parented}
 use Rattle.rules.proofs.Splits.{Split, dueCommits, step-split, offer-split, tick-split}
@@ -48,7 +48,7 @@ unfoldable next : ℕ → (ℕ → ℕ) → ℕ → ℕ
 next k clock j = elim (ltb j k) [ true ↦ clock (suc j) | false ↦ clock k + 1 ]
 
 not-lt : (a b : ℕ) → b ≤ a → ltb a b ≡ false
-not-lt a b l = by-bool (ltb a b) (λ q. let h = ltb-lt a b q in absurd (omega arith)) (λ q. q)
+not-lt a b l = by-bool (ltb a b) (λ q. let h = ltb-true a b q in absurd (omega arith)) (λ q. q)
 
 cut-before : (k : ℕ) (event : ℕ → Event) (j : ℕ) → j < k → cut k event j ≡ event j
 unfolding cut

@@ -4,6 +4,7 @@ use mathlib.Core.Path.{_≡_, refl}
 use mathlib.Core.Bool.{true, false, _&&_}
 use mathlib.Core.List.{[]}
 use lib.Dec.{ltb, eqb}
+use borrow.Author.Tests.{lt-ltb}
 use Rattle.rules.specs.Limits.{leastStations, mostStations, leastDelay, mostDelay}
 use Rattle.rules.specs.Lists.{within}
 use Rattle.rules.specs.Sizes.{goodSettings}
@@ -12,7 +13,7 @@ use Rattle.rules.specs.Words.{State}
 use Rattle.rules.specs.Inputs.{saying}
 use Rattle.rules.specs.Refusals.{Outcome, done, step, offer, tick}
 use Rattle.rules.proofs.Tests.{by-bool, and-left}
-use Rattle.rules.proofs.Truths.{lt-ltb, true-and}
+use Rattle.rules.proofs.Truths.{both}
 use Rattle.kept.specs.Parts.{WellFormed}
 use Rattle.kept.specs.Said.{Sendable}
 use Rattle.kept.proofs.WellFormed.{fresh-formed}
@@ -24,7 +25,7 @@ pub settings-alike : (n D i : ℕ) → goodSettings (settingsOf n D 0) ≡ true 
 unfolding goodSettings
 settings-alike n D i g l =
     let a = eqb (n % 2) 1 && within leastStations mostStations n && within leastDelay mostDelay D in
-    true-and a (ltb i n) (and-left a (ltb 0 n) g) (lt-ltb i n l)
+    both (and-left a (ltb 0 n) g) (lt-ltb i n l)
 
 nothing-kept : {s : State} → WellFormed s → Kept s (done (saying s []))
 unfolding done saying

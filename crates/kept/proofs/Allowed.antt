@@ -14,7 +14,7 @@ use Rattle.rules.specs.Sizes.{Settings, goodSettings, leader, only, quorum}
 use Rattle.rules.specs.Messages.{viewAllowed, blockAllowed, maskAllowed, certificateAllowed}
 use Rattle.rules.specs.WellFormed.{isName, isMask}
 use Rattle.rules.proofs.Tests.{by-bool}
-use Rattle.kept.proofs.Truths.{and-2, and-4, both}
+use Rattle.rules.proofs.Truths.{and-2, and-4, both}
 
 pub within-le : (a b x : ℕ) → within a b x ≡ true → (a ≤ x) × (x ≤ b)
 unfolding within

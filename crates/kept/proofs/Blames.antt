@@ -17,7 +17,7 @@ use Rattle.rules.specs.WellFormed.{isMask, clocksInOrder, lockGood, statementGo
 use Rattle.rules.proofs.Tests.{no-bool}
 use Rattle.rules.proofs.Masks.{joined-lt}
 use Rattle.kept.specs.Parts.{Formed}
-use Rattle.kept.proofs.Truths.{and-3}
+use Rattle.rules.proofs.Truths.{and-3}
 use Rattle.kept.proofs.Lists.{all-set, all-getD}
 use Rattle.kept.proofs.Allowed.{mask-lt, lt-mask, none-lt, view-within}
 

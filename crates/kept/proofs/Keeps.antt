@@ -13,7 +13,7 @@ use Rattle.rules.specs.Inputs.{Work, saying, _▸_, withPhase, withTables, with
 use Rattle.rules.proofs.Tests.{by-bool, by-option}
 use Rattle.kept.specs.Parts.{Formed}
 use Rattle.kept.specs.Said.{Each, Sendable, Sayable}
-use Rattle.kept.proofs.Truths.{and-2, both}
+use Rattle.rules.proofs.Truths.{and-2, both}
 use Rattle.kept.proofs.Lists.{each-append, first-mem}
 use Rattle.kept.proofs.Allowed.{sizes, only-lt, mask-parts, mask-made}
 use Rattle.kept.proofs.Sendable.{named, sendable, vote-parts, blame-parts, blameSet-parts, status-parts}

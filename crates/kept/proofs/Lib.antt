@@ -1,4 +1,3 @@
-pub mod Truths
 pub mod Lists
 pub mod WellFormed
 pub mod Allowed

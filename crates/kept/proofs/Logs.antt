@@ -17,7 +17,7 @@ use Rattle.rules.specs.WellFormed.{linked}
 use Rattle.rules.proofs.Tests.{by-bool, by-option, no-some, eqb-self}
 use Rattle.kept.specs.Parts.{Formed}
 use Rattle.kept.specs.Said.{Each}
-use Rattle.kept.proofs.Truths.{and-2, and-3, both}
+use Rattle.rules.proofs.Truths.{and-2, and-3, both}
 use Rattle.kept.proofs.Lists.{any-mem, any-find, first-mem, keep-length, keep-fewer, keep-fewer-by}
 use Rattle.kept.proofs.Allowed.{genesis-zero}
 use Rattle.kept.proofs.Tables.{isAbove}

@@ -15,7 +15,7 @@ use Rattle.rules.specs.Inputs.{leads, extendable, above, offered}
 use Rattle.rules.proofs.Offers.{offer-made}
 use Rattle.kept.specs.Parts.{Formed}
 use Rattle.kept.specs.Said.{Sendable}
-use Rattle.kept.proofs.Truths.{and-2}
+use Rattle.rules.proofs.Truths.{and-2}
 use Rattle.kept.proofs.Allowed.{sizes, block-made, mask-made}
 use Rattle.kept.proofs.Sendable.{sendable}
 use Rattle.kept.proofs.Tallies.{voters-mask}

@@ -11,7 +11,7 @@ use Rattle.rules.specs.Words.{Cause, Tally, Phase, inView, waiting, stopped, St
 use Rattle.rules.specs.Inputs.{withPhase, withClock, entering}
 use Rattle.rules.specs.WellFormed.{clocksInOrder, lockGood, statementGood}
 use Rattle.kept.specs.Parts.{Formed}
-use Rattle.kept.proofs.Truths.{and-3}
+use Rattle.rules.proofs.Truths.{and-3}
 use Rattle.kept.proofs.Lists.{all-weaken}
 use Rattle.kept.proofs.Allowed.{le-within, within-le, within-view}
 use Rattle.kept.proofs.Tallies.{Certificate, lock-made}

@@ -13,7 +13,7 @@ use Rattle.rules.specs.WellFormed.{clocksInOrder, lockGood, statementGood, link
 use Rattle.rules.proofs.Tests.{by-bool, no-bool}
 use Rattle.kept.specs.Parts.{Formed}
 use Rattle.kept.specs.Said.{Each, Sayable}
-use Rattle.kept.proofs.Truths.{and-2}
+use Rattle.rules.proofs.Truths.{and-2}
 use Rattle.kept.proofs.Lists.{mem-each, any-find, keep-mem, sorted-mem}
 use Rattle.kept.proofs.Allowed.{height-le}
 use Rattle.kept.proofs.Tables.{isAbove}

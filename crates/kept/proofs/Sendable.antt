@@ -16,7 +16,7 @@ use Rattle.rules.proofs.Bytes.{Bytes, one, pow-pos}
 use Rattle.rules.proofs.Written.{write-eq, writes-cons}
 use Rattle.rules.proofs.ReadBack.{write-read}
 use Rattle.kept.specs.Said.{Each, Sendable}
-use Rattle.kept.proofs.Truths.{and-2, and-3, and-5, and-6}
+use Rattle.rules.proofs.Truths.{and-2, and-3, and-5, and-6}
 use Rattle.kept.proofs.Allowed.{Sizes, leader-lt, mask-small, view-within, height-le, mask-parts, certificate-mask, certificate-view}
 
 -- the names in a message are of 32 bytes

@@ -15,7 +15,7 @@ use Rattle.rules.specs.WellFormed.{isName, statementGood, tallyGood, talliesThe
 use Rattle.rules.proofs.Tests.{by-bool, by-option, no-bool}
 use Rattle.kept.specs.Parts.{Formed}
 use Rattle.kept.specs.Said.{Sendable}
-use Rattle.kept.proofs.Truths.{and-4}
+use Rattle.rules.proofs.Truths.{and-4}
 use Rattle.kept.proofs.Lists.{all-mem}
 use Rattle.kept.proofs.Allowed.{Sizes, sizes, view-within, view-name, name-lt, lt-name, mask-parts, certificate-mask}
 use Rattle.kept.proofs.Sendable.{named, sendable, newView-parts, propose-parts}

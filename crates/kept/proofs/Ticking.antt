@@ -3,7 +3,7 @@ use mathlib.Core.Path.{_≡_, refl, sym, ap, _∙_}
 use mathlib.Core.Logic.{_⊎_, inl, inr}
 use Prim.Native.Nat.{ℕ, suc, _+_, _-_, _*_, _≤_, _<_}
 use native.Mathlib.Omega.{arith}
-use mathlib.Core.Bool.{true, false, _&&_}
+use mathlib.Core.Bool.{true, false, _&&_, and-false}
 use mathlib.Core.List.{List, [], _∷_, append-nil}
 use mathlib.Core.Option.{none, some, map-eq-some-iff, Option·some-injective}
 use lib.Dec.{ltb}
@@ -17,7 +17,6 @@ use Rattle.rules.specs.Inputs.{Work, saying, _▸_, withPhase, withClock, withT
 use Rattle.rules.specs.Refusals.{running}
 use Rattle.rules.proofs.Tests.{by-bool, by-option, no-bool}
 use Rattle.kept.specs.Parts.{WellFormed}
-use Rattle.kept.proofs.Truths.{and-false}
 use Rattle.kept.proofs.Phases.{clock-formed}
 use Rattle.kept.proofs.Logs.{linked-length, proposes-length, commits-linked}
 use Rattle.kept.proofs.Reports.{due-stored}

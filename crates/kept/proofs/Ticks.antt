@@ -18,7 +18,7 @@ use Rattle.rules.proofs.Tests.{by-bool, by-option, no-bool}
 use Rattle.rules.proofs.Statements.{pair-some, mem-order}
 use Rattle.kept.specs.Parts.{Formed}
 use Rattle.kept.specs.Said.{Each, Sendable, Sayable}
-use Rattle.kept.proofs.Truths.{and-2, both}
+use Rattle.rules.proofs.Truths.{and-2, both}
 use Rattle.kept.proofs.Lists.{mem-each, keep-mem}
 use Rattle.kept.proofs.Allowed.{sizes, leader-lt, only-lt, view-within}
 use Rattle.kept.proofs.Sendable.{sendable}

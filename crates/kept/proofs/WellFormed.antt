@@ -7,17 +7,16 @@ use mathlib.Core.Bool.{Bool, true, _&&_}
 use mathlib.Core.List.{List, [], _∷_}
 use lib.Dec.{leb}
 use lib.ListN.{length, replicate}
-use borrow.Author.Tests.{lt-ltb}
+use borrow.Author.Tests.{lt-ltb, leb-true, le-leb}
 use Rattle.rules.specs.Limits.{mostStatements, mostTallies, lastView}
 use Rattle.rules.specs.Lists.{all, distinct}
 use Rattle.rules.specs.Sizes.{Settings, goodSettings}
 use Rattle.rules.specs.Messages.{viewAllowed}
 use Rattle.rules.specs.Words.{sameStatement, sameBlock, State, fresh}
 use Rattle.rules.specs.WellFormed.{isMask, clocksInOrder, lockGood, statementGood, tallyGood, talliesThere, blamesGood, linked, wellFormed}
-use Rattle.rules.proofs.Tests.{leb-le, le-leb}
 use Rattle.kept.specs.Parts.{WellFormed}
 use Rattle.kept.specs.Said.{Each}
-use Rattle.kept.proofs.Truths.{and-2, both}
+use Rattle.rules.proofs.Truths.{and-2, both}
 
 -- a test and more
 every : Bool → List Bool → Bool
@@ -57,8 +56,8 @@ parts s e =
                 };
             blames = rest .1 .1 .1 .1 .1 .0;
           };
-      fewStatements = leb-le _ _ (h .1 .1 .1 .1 .0);
-      fewTallies = leb-le _ _ (h .1 .1 .1 .1 .1 .0);
+      fewStatements = leb-true _ _ (h .1 .1 .1 .1 .0);
+      fewTallies = leb-true _ _ (h .1 .1 .1 .1 .1 .0);
     }
 
 pub whole : {s : State} → WellFormed s → wellFormed s ≡ true

@@ -18,7 +18,7 @@ use Rattle.rules.proofs.Tests.{no-bool, and-left}
 use Rattle.fields.specs.Records.{Fit}
 use Rattle.kept.specs.Parts.{WellFormed, Formed}
 use Rattle.kept.proofs.WellFormed.{parts}
-use Rattle.kept.proofs.Truths.{and-3}
+use Rattle.rules.proofs.Truths.{and-3}
 use Rattle.kept.proofs.Tables.{isAbove}
 use Rattle.kept.proofs.Lists.{all-mem, any-find}
 use Rattle.kept.proofs.Allowed.{Sizes, mask-lt, mask-small}

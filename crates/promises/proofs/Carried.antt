@@ -16,8 +16,8 @@ use Rattle.rules.specs.Inputs.{saying}
 use Rattle.rules.specs.Refusals.{Outcome, done, step, offer, tick, result}
 use Rattle.rules.specs.WellFormed.{wellFormed}
 use Rattle.rules.proofs.Bytes.{length-unbe, be-unbe}
-use Rattle.rules.proofs.Tests.{by-bool, le-leb}
-use borrow.Author.Tests.{eq-eqb}
+use Rattle.rules.proofs.Tests.{by-bool}
+use borrow.Author.Tests.{eq-eqb, le-leb}
 use Rattle.kept.proofs.Outs.{step-room, offer-room, tick-room}
 use Rattle.kept.proofs.WellFormed.{whole}
 use Rattle.agreement.specs.Schedule.{Event, idle, commonTick, tickOf, given, offeredTo, happens, settingsOf, at, out, IsLent}

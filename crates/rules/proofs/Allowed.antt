@@ -9,12 +9,13 @@ use mathlib.Core.List.{List, [], _∷_, _++_}
 use mathlib.Core.Option.{some}
 use lib.ListN.{length}
 use lib.Dec.{leb, ltb, eqb}
+use borrow.Author.Tests.{eqb-true, le-leb, leb-true, eq-eqb, lt-ltb, ltb-true}
 use Rattle.rules.specs.Limits.{mostStations, firstView, lastView, lastHeight}
 use Rattle.rules.specs.Lists.{unbe, iff, within}
 use Rattle.rules.specs.Sizes.{Settings, leader, quorum}
 use Rattle.rules.specs.Messages.{Message, newView, propose, vote, blame, blameSet, status, field, width, table, rowOf, tagsOf, kind, values, writes, InWidth, Fitting, read, viewAllowed, blockAllowed, maskAllowed, certificateAllowed, allowed}
-use Rattle.rules.proofs.Tests.{eqb-eq, le-leb, leb-le, by-bool}
-use Rattle.rules.proofs.Truths.{eq-eqb, lt-ltb, ltb-lt, and-true, true-and, iff-eq}
+use Rattle.rules.proofs.Tests.{by-bool}
+use Rattle.rules.proofs.Truths.{and-2, both, iff-eq}
 use Rattle.rules.proofs.Searches.{All}
 use Rattle.rules.proofs.Bytes.{Bytes, none as no-bytes, one, pow-pos}
 use Rattle.rules.proofs.Written.{writes-cons, write-eq}
@@ -24,45 +25,45 @@ use Rattle.rules.proofs.ReadBack.{write-read}
 
 pub view-range : (v : ℕ) → viewAllowed v ≡ true → (firstView ≤ v) × (v ≤ lastView)
 unfolding viewAllowed within
-view-range v e = let a = and-true (leb firstView v) (leb v lastView) e in (leb-le firstView v (a .0), leb-le v lastView (a .1))
+view-range v e = let a = and-2 (leb firstView v) (leb v lastView) e in (leb-true firstView v (a .0), leb-true v lastView (a .1))
 
 pub range-view : (v : ℕ) → firstView ≤ v → v ≤ lastView → viewAllowed v ≡ true
 unfolding viewAllowed within
-range-view v a b = true-and (leb firstView v) (leb v lastView) (le-leb firstView v a) (le-leb v lastView b)
+range-view v a b = both (le-leb firstView v a) (le-leb v lastView b)
 
 pub block-height : (h b : ℕ) → blockAllowed h b ≡ true → h ≤ lastHeight
 unfolding blockAllowed
-block-height h b e = leb-le h lastHeight (and-true (leb h lastHeight) _ e .0)
+block-height h b e = leb-true h lastHeight (and-2 (leb h lastHeight) _ e .0)
 
 -- "height 0 exactly when the name is all zero"
 pub block-zero : (h b : ℕ) → blockAllowed h b ≡ true → eqb h 0 ≡ eqb b 0
 unfolding blockAllowed
-block-zero h b e = iff-eq (eqb h 0) (eqb b 0) (and-true (leb h lastHeight) _ e .1)
+block-zero h b e = iff-eq (eqb h 0) (eqb b 0) (and-2 (leb h lastHeight) _ e .1)
 
 pub above-block : (h b : ℕ) → h + 1 ≤ lastHeight → eqb b 0 ≡ false → blockAllowed (h + 1) b ≡ true
 unfolding blockAllowed iff
 above-block h b l e =
-    by-bool (eqb (h + 1) 0) (λ q. let z = eqb-eq (h + 1) 0 q in absurd (omega arith))
+    by-bool (eqb (h + 1) 0) (λ q. let z = eqb-true (h + 1) 0 q in absurd (omega arith))
     (λ q. rw (le-leb (h + 1) lastHeight l, q, e))
 
 pub mask-facts : (g : Settings) (m : ℕ) → maskAllowed g m ≡ true → (m < 2 ^ g .n) × (quorum g m ≡ true)
 unfolding maskAllowed
-mask-facts g m e = let a = and-true (ltb m (2 ^ g .n)) (quorum g m) e in (ltb-lt m (2 ^ g .n) (a .0), a .1)
+mask-facts g m e = let a = and-2 (ltb m (2 ^ g .n)) (quorum g m) e in (ltb-true m (2 ^ g .n) (a .0), a .1)
 
 pub facts-mask : (g : Settings) (m : ℕ) → m < 2 ^ g .n → quorum g m ≡ true → maskAllowed g m ≡ true
 unfolding maskAllowed
-facts-mask g m a b = true-and (ltb m (2 ^ g .n)) (quorum g m) (lt-ltb m (2 ^ g .n) a) b
+facts-mask g m a b = both (lt-ltb m (2 ^ g .n) a) b
 
 -- a certificate is genesis in view 0 with no voters, or of a later view with a quorum
 pub certificate-zero : (g : Settings) (h c m : ℕ) → certificateAllowed g h c m ≡ true → c ≡ 0 → (h ≡ 0) × (m ≡ 0)
 unfolding certificateAllowed
 certificate-zero g h c m e z =
-    let a = and-true (eqb h 0) (eqb m 0) (rw (eq-eqb c 0 z, certificateAllowed) at e) in (eqb-eq h 0 (a .0), eqb-eq m 0 (a .1))
+    let a = and-2 (eqb h 0) (eqb m 0) (rw (eq-eqb c 0 z, certificateAllowed) at e) in (eqb-true h 0 (a .0), eqb-true m 0 (a .1))
 
 pub certificate-later : (g : Settings) (h c m : ℕ) → certificateAllowed g h c m ≡ true → eqb c 0 ≡ false → (c ≤ lastView) × (maskAllowed g m ≡ true)
 unfolding certificateAllowed
 certificate-later g h c m e z =
-    let a = and-true (leb c lastView) (maskAllowed g m) (rw (z, certificateAllowed) at e) in (leb-le c lastView (a .0), a .1)
+    let a = and-2 (leb c lastView) (maskAllowed g m) (rw (z, certificateAllowed) at e) in (leb-true c lastView (a .0), a .1)
 
 pub genesis-certificate : (g : Settings) → certificateAllowed g 0 0 0 ≡ true
 unfolding certificateAllowed
@@ -71,7 +72,7 @@ genesis-certificate g = refl
 pub later-certificate : (g : Settings) (h c m : ℕ) → firstView ≤ c → c ≤ lastView → maskAllowed g m ≡ true → certificateAllowed g h c m ≡ true
 unfolding certificateAllowed
 later-certificate g h c m a b e =
-    by-bool (eqb c 0) (λ q. let z = eqb-eq c 0 q in absurd (omega arith)) (λ q. rw (q, certificateAllowed) (true-and (leb c lastView) (maskAllowed g m) (le-leb c lastView b) e))
+    by-bool (eqb c 0) (λ q. let z = eqb-true c 0 q in absurd (omega arith)) (λ q. rw (q, certificateAllowed) (both (le-leb c lastView b) e))
 
 -- ---- allowed, as facts
 
@@ -87,25 +88,25 @@ Rights g (status h b c m) = (blockAllowed h b ≡ true) × (certificateAllowed g
 pub allowed-rights : (g : Settings) (m : Message) → allowed g m ≡ true → Rights g m
 unfolding allowed
 allowed-rights g (newView v h b c m a) e =
-    let p = and-true _ (eqb a (leader g v)) e in
-    let q = and-true _ (certificateAllowed g h c m) (p .0) in
-    let r = and-true _ (ltb c v) (q .0) in
-    let s = and-true (viewAllowed v) (blockAllowed h b) (r .0) in
-    (s .0, s .1, ltb-lt c v (r .1), q .1, eqb-eq a (leader g v) (p .1))
+    let p = and-2 _ (eqb a (leader g v)) e in
+    let q = and-2 _ (certificateAllowed g h c m) (p .0) in
+    let r = and-2 _ (ltb c v) (q .0) in
+    let s = and-2 (viewAllowed v) (blockAllowed h b) (r .0) in
+    (s .0, s .1, ltb-true c v (r .1), q .1, eqb-true a (leader g v) (p .1))
 allowed-rights g (propose v h b p m a) e =
-    let i = and-true _ (eqb a (leader g v)) e in
-    let j = and-true _ (maskAllowed g m) (i .0) in
-    let k = and-true _ (blockAllowed (h - 1) p) (j .0) in
-    let l = and-true _ (blockAllowed h b) (k .0) in
-    let o = and-true (viewAllowed v) (leb 1 h) (l .0) in
-    (o .0, leb-le 1 h (o .1), l .1, k .1, j .1, eqb-eq a (leader g v) (i .1))
+    let i = and-2 _ (eqb a (leader g v)) e in
+    let j = and-2 _ (maskAllowed g m) (i .0) in
+    let k = and-2 _ (blockAllowed (h - 1) p) (j .0) in
+    let l = and-2 _ (blockAllowed h b) (k .0) in
+    let o = and-2 (viewAllowed v) (leb 1 h) (l .0) in
+    (o .0, leb-true 1 h (o .1), l .1, k .1, j .1, eqb-true a (leader g v) (i .1))
 allowed-rights g (vote v h b a) e =
-    let p = and-true _ (ltb a (g .n)) e in
-    let q = and-true (viewAllowed v) (blockAllowed h b) (p .0) in
-    (q .0, q .1, ltb-lt a (g .n) (p .1))
-allowed-rights g (blame v a) e = let p = and-true (viewAllowed v) (ltb a (g .n)) e in (p .0, ltb-lt a (g .n) (p .1))
-allowed-rights g (blameSet v m) e = and-true (viewAllowed v) (maskAllowed g m) e
-allowed-rights g (status h b c m) e = and-true (blockAllowed h b) (certificateAllowed g h c m) e
+    let p = and-2 _ (ltb a (g .n)) e in
+    let q = and-2 (viewAllowed v) (blockAllowed h b) (p .0) in
+    (q .0, q .1, ltb-true a (g .n) (p .1))
+allowed-rights g (blame v a) e = let p = and-2 (viewAllowed v) (ltb a (g .n)) e in (p .0, ltb-true a (g .n) (p .1))
+allowed-rights g (blameSet v m) e = and-2 (viewAllowed v) (maskAllowed g m) e
+allowed-rights g (status h b c m) e = and-2 (blockAllowed h b) (certificateAllowed g h c m) e
 
 pub rights-allowed : (g : Settings) (m : Message) → Rights g m → allowed g m ≡ true
 unfolding allowed
@@ -143,7 +144,7 @@ small-leader g v a b = let h = mod-lt v {m = g .n} a in omega arith
 certificate-small : (g : Settings) (h c m : ℕ) → g .n ≤ mostStations → certificateAllowed g h c m ≡ true → (c ≤ lastView) × (m < 65536)
 certificate-small g h c m l e =
     by-bool (eqb c 0)
-    (λ q. let z = eqb-eq c 0 q in let r = certificate-zero g h c m e z in let s = r .1 in (omega arith, omega arith))
+    (λ q. let z = eqb-true c 0 q in let r = certificate-zero g h c m e z in let s = r .1 in (omega arith, omega arith))
     (λ q. let r = certificate-later g h c m e q in (r .0, small-mask g m l (mask-facts g m (r .1) .0)))
 
 pub allowed-fitting : (g : Settings) (m : Message) → 1 ≤ g .n → g .n ≤ mostStations → allowed g m ≡ true → Named m → Fitting m

@@ -9,11 +9,12 @@ use mathlib.Core.Logic.{_⊎_, inl, inr}
 use mathlib.Core.Option.{none, some, Option·some-injective, map-eq-some-iff}
 use lib.Dec.{eqb}
 use lib.ListN.{length}
+use borrow.Author.Tests.{eqb-true, leb-true, le-leb, eq-eqb, not-true}
 use Rattle.rules.specs.Messages.{Message, Effect, toAll, toOne, committed}
 use Rattle.rules.specs.Words.{Statement, State}
 use Rattle.rules.specs.Inputs.{saying, _▸_, isIn, belowLock, votedFor, ballot, isDue, due, chain, merge, commit, commits, reports, report, current, inOrder, votingAll}
-use Rattle.rules.proofs.Tests.{eqb-eq, leb-le, le-leb, by-bool, by-option, no-some, no-bool}
-use Rattle.rules.proofs.Truths.{eq-eqb, and-true, not-true}
+use Rattle.rules.proofs.Tests.{by-bool, by-option, no-some, no-bool}
+use Rattle.rules.proofs.Truths.{and-2}
 use Rattle.rules.proofs.Searches.{All, all-append, by-mem, mem-keep, keep-mem, mem-sorted, sorted-mem}
 use Rattle.rules.proofs.Moves.{Outside, arrived, Move, joins, stores, passes, casts, clashes, accuses, fills, complains, entersFull, entersPair, enters, Moves, here, more, voting-low, voting-high}
 use Rattle.rules.proofs.Held.{report-all}
@@ -40,7 +41,7 @@ merge-some (b ∷ bs) (c ∷ l) k e =
     (λ q.
     let (j, g, h) = map-eq-some-iff (c ∷_) (merge bs l) .0 (rw (q, merge) at e) in
     let (p, r, o) = merge-some bs l j g in
-    let bc = eqb-eq b c q in
+    let bc = eqb-true b c q in
     subst (λ (x : List ℕ). IsPrefix (b ∷ bs) x × IsPrefix (c ∷ l) x × ((x ≡ c ∷ l) ⊎ (x ≡ b ∷ bs))) h
     (subst (λ (x : ℕ). IsPrefix (x ∷ bs) (c ∷ j)) (sym bc) (begins-cons c bs j p), begins-cons c l j r, either j bc o))
     (λ q. no-some (rw (q, merge) at e))
@@ -148,10 +149,10 @@ pub due-facts : (s : State) (x : Statement) → List·Memᴰ x (due s) → Due s
 unfolding due isDue
 due-facts s x m =
     let (i, d) = mem-keep (isDue s) (s .statements) x (mem-sorted (λ (y : Statement). y .height) _ x m) in
-    let a = and-true (not (x .isNewView) && isIn (x .view) s) _ d in
-    let b = and-true (not (x .isNewView)) (isIn (x .view) s) (a .0) in
+    let a = and-2 (not (x .isNewView) && isIn (x .view) s) _ d in
+    let b = and-2 (not (x .isNewView)) (isIn (x .view) s) (a .0) in
     by-option (x .voted) (λ q. no-bool (sym (rw q at (a .1))))
-    (λ c q. let l = leb-le (2 * s .settings .D + 1) (s .clock - c) (rw q at (a .1)) in (i, not-true (x .isNewView) (b .0), b .1, (c, q, omega arith)))
+    (λ c q. let l = leb-true (2 * s .settings .D + 1) (s .clock - c) (rw q at (a .1)) in (i, not-true (x .isNewView) (b .0), b .1, (c, q, omega arith)))
 
 pub facts-due : (s : State) (x : Statement) → Due s x → List·Memᴰ x (due s)
 unfolding due isDue

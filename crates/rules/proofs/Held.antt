@@ -7,6 +7,7 @@ use mathlib.Core.List.{List, [], _∷_, List·Memᴰ}
 use mathlib.Core.Option.{none, some}
 use lib.Dec.{eqb}
 use lib.ListN.{length}
+use borrow.Author.Tests.{eqb-true}
 use Rattle.rules.specs.Limits.{firstView, lastView}
 use Rattle.rules.specs.Lists.{first, any, keep}
 use Rattle.rules.specs.Sizes.{Settings, leader, only, bit, quorum}
@@ -14,8 +15,8 @@ use Rattle.rules.specs.Messages.{Message, newView, propose, vote, blame,
 use Rattle.rules.specs.Words.{Statement, message, sameStatement, conflict, Tally, ownBlock, joinCertificate, voters, State}
 use Rattle.rules.specs.Inputs.{saying, _▸_, withPhase, withTables, withBlames, withLog, entering, isIn, quit, belowLock, votedFor, ballot, voting, certificateJoined, stored, statement, tallied, blamesOf, blamed, blameFull, blaming, handled, reports, report, current, inOrder, votingAll}
 use Rattle.rules.specs.Refusals.{hasRoom, ifRoom, running, step}
-use Rattle.rules.proofs.Tests.{eqb-eq, by-bool, by-option, no-bool}
-use Rattle.rules.proofs.Truths.{and-true}
+use Rattle.rules.proofs.Tests.{by-bool, by-option, no-bool}
+use Rattle.rules.proofs.Truths.{and-2}
 use Rattle.rules.proofs.Searches.{All, all-append, all-map, to-all, mem-keep, first-mem}
 use Rattle.rules.proofs.Statements.{like, same-refl, In, mem-in, in-cong, in-append, in-last, in-noted, pair-some, mem-order}
 use Rattle.rules.proofs.Tallies.{only-bit, same-block, voters-joined}
@@ -99,7 +100,7 @@ tallied-held : (v h b a : ℕ) (s : State) → firstView ≤ v
 unfolding tallied saying withTables joinCertificate
 tallied-held v h b a s l =
     let t : Tally = record { view = v; height = h; name = b; mask = only a } in
-    by-bool (eqb v 0) (λ e. let z = eqb-eq v 0 e in absurd (omega arith))
+    by-bool (eqb v 0) (λ e. let z = eqb-true v 0 e in absurd (omega arith))
     (λ e. rw (e, joinCertificate) (voters-joined (block v h b) t (s .tallies) a (same-block (block v h b) t refl refl refl) (only-bit a)))
 
 handled-held : (m : Message) (s : State) → allowed (s .settings) m ≡ true → length (s .blames) ≡ suc lastView → Held (s .settings) (handled m s .now) m
@@ -175,7 +176,7 @@ move-said s t o (clashes x y g f c) l w = (
   (stored-held (s .settings) t x (in-last (s .statements) x), tt),
 )
 move-said s t o (accuses v m a f) l w = tt
-move-said s t o (fills v m a f) l w = (and-true (isIn v (blamed v m s)) (blameFull v (blamed v m s)) f .1, tt)
+move-said s t o (fills v m a f) l w = (and-2 (isIn v (blamed v m s)) (blameFull v (blamed v m s)) f .1, tt)
 move-said s t o (complains f) l w = (tt, tt)
 move-said s t o (entersFull e c) l w = all-append (HeldSaid (s .settings) t) (report s) _ (report-all (HeldSaid (s .settings) t) s (λ i m. tt)) (c, tt)
 move-said s t o (entersPair p e c f) l w =

@@ -11,6 +11,7 @@ use lib.Dec.{eqb, ltb}
 use lib.Bits.{or-comm}
 use lib.ListN.{length, getD, set, length-set}
 use lib.Seq.{getD-set-same}
+use borrow.Author.Tests.{eqb-true, eq-eqb, lt-ltb, ltb-true}
 use Rattle.rules.specs.Limits.{lastView, lastClock}
 use Rattle.rules.specs.Lists.{first}
 use Rattle.rules.specs.Sizes.{Settings, only, bit, joined, quorum}
@@ -18,8 +19,8 @@ use Rattle.rules.specs.Messages.{Effect}
 use Rattle.rules.specs.Words.{Statement, sameStatement, Tally, ownBlock, certificate, join, joinCertificate, voters, Phase, inView, waiting, stopped, State}
 use Rattle.rules.specs.Inputs.{Work, saying, _▸_, withPhase, withClock, withTables, withBlames, withLog, entering, isIn, quit, belowLock, votedFor, stored, blamesOf, blamed, blameFull, due, commits, logging, complain, lead, entersNow, entered, current, pair, inOrder, votingAll, arrive, enter, ticked}
 use Rattle.rules.specs.Refusals.{hasRoom, ifRoom, running, tick}
-use Rattle.rules.proofs.Tests.{eqb-eq, by-bool, by-option, no-bool}
-use Rattle.rules.proofs.Truths.{eq-eqb, lt-ltb, ltb-lt, and-true, true-and}
+use Rattle.rules.proofs.Tests.{by-bool, by-option, no-bool}
+use Rattle.rules.proofs.Truths.{and-2, both}
 use Rattle.rules.proofs.Searches.{first-kept, first-any}
 use Rattle.rules.proofs.Masks.{quorum-joined}
 use Rattle.rules.proofs.Statements.{in-cong, in-append, in-noted, first-other, In}
@@ -48,7 +49,7 @@ unfolding isIn
 in-true v s e = go (s .phase) refl
   where
     go : (p : Phase) → s .phase ≡ p → (s .phase ≡ inView) × (v ≡ s .view)
-    go inView q = (q, eqb-eq v (s .view) (rw (q, isIn) at e))
+    go inView q = (q, eqb-true v (s .view) (rw (q, isIn) at e))
     go (waiting c) q = no-bool (sym (rw (q, isIn) at e))
     go (stopped c) q = no-bool (sym (rw (q, isIn) at e))
 
@@ -66,7 +67,7 @@ enters-at s e = go (s .phase) refl
   where
     go : (p : Phase) → s .phase ≡ p → (q : ℕ) × (s .phase ≡ waiting q) × (s .view < lastView) × (s .clock ≡ q + s .settings .D + 1)
     go inView r = no-bool (sym (rw (r, entersNow) at e))
-    go (waiting q) r = let a = and-true (ltb (s .view) lastView) _ (rw (r, entersNow) at e) in (q, r, ltb-lt (s .view) lastView (a .0), eqb-eq (s .clock) _ (a .1))
+    go (waiting q) r = let a = and-2 (ltb (s .view) lastView) _ (rw (r, entersNow) at e) in (q, r, ltb-true (s .view) lastView (a .0), eqb-true (s .clock) _ (a .1))
     go (stopped c) r = no-bool (sym (rw (r, entersNow) at e))
 
 -- ---- blame masks
@@ -214,7 +215,7 @@ module _ {R : Outside} where
   move-kept s t o (casts x g f c l) = kept-trans (stored-kept x s) (voted-kept x (stored x s))
   move-kept s t o (clashes x y g f c) = phase-kept (waiting (s .clock)) (stored-kept x s) (λ q p e. in-waits (x .view) s q f p)
   move-kept s t o (accuses v m a f) = blamed-kept v m s
-  move-kept s t o (fills v m a f) = phase-kept (waiting (s .clock)) (blamed-kept v m s) (λ q p e. in-waits v s q (and-true (isIn v s) _ f .0) p)
+  move-kept s t o (fills v m a f) = phase-kept (waiting (s .clock)) (blamed-kept v m s) (λ q p e. in-waits v s q (and-2 (isIn v s) _ f .0) p)
   move-kept s t o (complains f) = kept-refl s
   move-kept s t o (entersFull e c) = phase-kept (waiting (s .clock)) (arrived-kept s) (λ q p e. absurd (omega arith))
   move-kept s t o (entersPair p e c f) = phase-kept (waiting (s .clock)) (arrived-kept s) (λ q p e. absurd (omega arith))
@@ -330,4 +331,4 @@ tick-settled s =
 pub settled-waits : (s : State) (q : ℕ) → entersNow s ≡ false → s .phase ≡ waiting q → s .view < lastView → ¬ (s .clock ≡ q + s .settings .D + 1)
 unfolding entersNow
 settled-waits s q e p l c =
-    no-bool (sym (true-and _ _ (lt-ltb (s .view) lastView l) (eq-eqb (s .clock) (q + s .settings .D + 1) c)) ∙ (rw (p, entersNow) at e))
+    no-bool (sym (both (lt-ltb (s .view) lastView l) (eq-eqb (s .clock) (q + s .settings .D + 1) c)) ∙ (rw (p, entersNow) at e))

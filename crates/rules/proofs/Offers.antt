@@ -5,11 +5,12 @@ use mathlib.Core.Bool.{true, false, not, _&&_}
 use mathlib.Core.List.{List, [], _∷_, List·Memᴰ, List·Memᴰ·head, List·Memᴰ·tail}
 use mathlib.Core.Option.{some, Option·some-injective}
 use lib.Dec.{ltb, eqb}
+use borrow.Author.Tests.{eqb-true, not-true}
 use Rattle.rules.specs.Messages.{Message}
 use Rattle.rules.specs.Words.{Statement, State}
 use Rattle.rules.specs.Inputs.{leads, isOpened, isUsed, top, extendable, above, offered}
-use Rattle.rules.proofs.Tests.{eqb-eq, by-bool, by-option, no-some}
-use Rattle.rules.proofs.Truths.{and-true, not-true}
+use Rattle.rules.proofs.Tests.{by-bool, by-option, no-some}
+use Rattle.rules.proofs.Truths.{and-2}
 
 -- the greatest-height statement of a view is stored and of that view
 pub top-mem : (v : ℕ) (xs : List Statement) (x : Statement) → top v xs ≡ some x → List·Memᴰ x xs × (x .view ≡ v)
@@ -19,7 +20,7 @@ top-mem v (y ∷ ys) x e =
     by-bool (eqb (y .view) v)
     (λ q.
     let this : some y ≡ some x → List·Memᴰ x (y ∷ ys) × (x .view ≡ v) =
-    λ f. let k = Option·some-injective y x f in (List·Memᴰ·head (sym k), rw (← k) (eqb-eq (y .view) v q)) in
+    λ f. let k = Option·some-injective y x f in (List·Memᴰ·head (sym k), rw (← k) (eqb-true (y .view) v q)) in
     by-option (top v ys) (λ r. this (rw (q, r, top) at e)) λ z r.
     by-bool (ltb (y .height) (z .height))
     (λ k. let h = top-mem v ys x (r ∙ (rw (q, r, k, top) at e)) in (List·Memᴰ·tail (h .0), h .1)) (λ k. this (rw (q, r, k, top) at e)))
@@ -31,9 +32,9 @@ unfolding offered
 offer-made b s m e =
     by-bool (leads s && isOpened s && not (eqb b 0) && not (isUsed b s))
     (λ c.
-    let c1 = and-true (leads s && isOpened s && not (eqb b 0)) (not (isUsed b s)) c in
-    let c2 = and-true (leads s && isOpened s) (not (eqb b 0)) (c1 .0) in
-    let c3 = and-true (leads s) (isOpened s) (c2 .0) in
+    let c1 = and-2 (leads s && isOpened s && not (eqb b 0)) (not (isUsed b s)) c in
+    let c2 = and-2 (leads s && isOpened s) (not (eqb b 0)) (c1 .0) in
+    let c3 = and-2 (leads s) (isOpened s) (c2 .0) in
     by-option (top (s .view) (s .statements)) (λ t. no-some (rw (c, t, offered) at e)) λ x t.
     let (i, v) = top-mem (s .view) (s .statements) x t in
     by-bool (extendable x s)

@@ -9,14 +9,15 @@ use mathlib.Core.List.{List, [], _∷_, _++_}
 use mathlib.Core.Logic.{_⊎_, inl, inr}
 use mathlib.Core.Option.{Option, none, some, Option·map, map-eq-some-iff}
 use lib.Dec.{eqb}
+use borrow.Author.Tests.{eqb-true}
 use Rattle.rules.specs.Limits.{firstView, lastView}
 use Rattle.rules.specs.Lists.{first, any, keep, alter}
 use Rattle.rules.specs.Sizes.{Settings, joined, quorum}
 use Rattle.rules.specs.Messages.{vote, blameSet, Effect, toAll}
 use Rattle.rules.specs.Words.{Statement, message, sameStatement, conflict, Tally, inView, waiting, State, fresh}
 use Rattle.rules.specs.Inputs.{Work, saying, _▸_, withPhase, withClock, withTables, withBlames, withLog, entering, isIn, belowLock, noted, votedFor, ballot, voting, stored, blamesOf, blamed, blameFull, entersNow, report, current, pair, inOrder, votingAll}
-use Rattle.rules.proofs.Tests.{eqb-eq, by-bool, no-some, no-bool}
-use Rattle.rules.proofs.Truths.{and-true, and-false}
+use Rattle.rules.proofs.Tests.{by-bool, no-some, no-bool}
+use Rattle.rules.proofs.Truths.{and-2, and-rest}
 use Rattle.rules.proofs.Searches.{first-any, first-append, All, all-split, mem-keep}
 use Rattle.rules.proofs.Statements.{same-like, same-self, same-sym, same-cong, conflict-sym, conflict-view, In, in-keep, in-order, in-noted, first-noted, first-other, Clean, clean-append, clean-view, pair-some}
 use Rattle.rules.proofs.Tallies.{no-quorum}
@@ -24,7 +25,7 @@ use Rattle.rules.proofs.Moves.{Outside, arrived, fillsNow, Move, joins,
 use Rattle.rules.proofs.Kept.{no-phase, waiting-clock, in-true, true-in, enters-at, blamed-cases, moves-fixed}
 
 pair-view : (v : ℕ) (xs : List Statement) (p : Statement × Statement) → pair (keep (λ y. eqb (y .view) v) xs) ≡ some p → p .0 .view ≡ v
-pair-view v xs p f = eqb-eq (p .0 .view) v (mem-keep (λ (y : Statement). eqb (y .view) v) xs (p .0) (pair-some _ p f .1) .1)
+pair-view v xs p f = eqb-true (p .0 .view) v (mem-keep (λ (y : Statement). eqb (y .view) v) xs (p .0) (pair-some _ p f .1) .1)
 
 -- ---- what a search finds after votes: what it found, or that with the clock noted
 
@@ -79,7 +80,7 @@ module _ (S : ℕ → Effect → Type 0) where
           found = λ x. inl refl;
           voted = λ x k a.
               by-bool (sameStatement x y)
-              (λ q. no-bool (sym (and-true (y .isNewView) _ l .0) ∙ ap (λ (w : Statement). w .isNewView) (same-like x y q) ∙ k))
+              (λ q. no-bool (sym (and-2 (y .isNewView) _ l .0) ∙ ap (λ (w : Statement). w .isNewView) (same-like x y q) ∙ k))
               (λ q. no-bool (sym (rw (q, any) at a)));
         },
       ))
@@ -229,7 +230,7 @@ module _ (S : ℕ → Effect → Type 0) where
       go : (blamesOf (s .view) (blamed v m s) ≡ blamesOf (s .view) s) ⊎ ((v ≡ s .view) × (blamesOf (s .view) (blamed v m s) ≡ joined (blamesOf v s) m))
           → blameFull (s .view) (blamed v m s) ≡ false
       go (inl e) = rw (e, blamed-settings v m s) (i .calm p)
-      go (inr e) = subst (λ (w : ℕ). blameFull w (blamed v m s) ≡ false) (e .0) (and-false (isIn v (blamed v m s)) (blamed-in v m s p (e .0)) f)
+      go (inr e) = subst (λ (w : ℕ). blameFull w (blamed v m s) ≡ false) (e .0) (and-rest (isIn v (blamed v m s)) (blamed-in v m s p (e .0)) f)
 
   -- L5: a quit, told, and the wait of D ticks lead into the next view
   past-on : (s : State) → Orderly s → entersNow s ≡ true → Past (s .settings) (s .view + 1) (s .clock)
@@ -274,7 +275,7 @@ module _ (S : ℕ → Effect → Type 0) where
       record {
         clean = λ p. clean-append (s .view) (s .statements) x (i .clean p) (λ v. c);
         calm = i .calm;
-        votes = λ p. votes-append s x i p (λ v. and-true (x .isNewView) _ l .0);
+        votes = λ p. votes-append s x i p (λ v. and-2 (x .isNewView) _ l .0);
         quits = i .quits;
         past = i .past;
         order = i .order;
@@ -295,7 +296,7 @@ module _ (S : ℕ → Effect → Type 0) where
   move-orderly s t o (accuses v m a f) h i =
       record { clean = i .clean; calm = λ p. calm-blamed s v m i p f; votes = i .votes; quits = i .quits; past = i .past; order = i .order }
   move-orderly s t o (fills v m a f) h i =
-      let b = and-true (isIn v (blamed v m s)) (blameFull v (blamed v m s)) f in
+      let b = and-2 (isIn v (blamed v m s)) (blameFull v (blamed v m s)) f in
       quitting (blamed v m s) (i .past) (i .order)
       (full (blamesOf v (blamed v m s)) (b .1)
       (subst (λ (w : ℕ). S (s .clock) (toAll (blameSet w (blamesOf v (blamed v m s))))) (in-true v (blamed v m s) (b .0) .1) (h .0)))

@@ -8,9 +8,10 @@ use mathlib.Core.Option.{Option, none, some, Option·map, map-eq-some-iff, Optio
 use lib.ListN.{length, take, drop, getD, length-append, take-append-drop}
 use lib.Seq.{length-take-le}
 use lib.Dec.{leb, eqb}
+use borrow.Author.Tests.{eqb-true, leb-true}
 use Rattle.rules.specs.Lists.{be, unbe}
 use Rattle.rules.specs.Messages.{Message, newView, propose, vote, blame, blameSet, status, field, width, Row, rowOf, tagsOf, kind, values, writes, write, after, readField, reads, body, read}
-use Rattle.rules.proofs.Tests.{eqb-eq, leb-le, by-bool, by-option, no-some}
+use Rattle.rules.proofs.Tests.{by-bool, by-option, no-some}
 use Rattle.rules.proofs.Bytes.{Bytes, none as no-bytes, one, length-unbe, unbe-be}
 use Rattle.rules.proofs.Written.{reads-cons, writes-cons, write-eq, read-eq}
 
@@ -20,7 +21,7 @@ after-inv [] bs r e = Option·some-injective bs r e
 after-inv (p ∷ ps) [] r e = no-some e
 after-inv (p ∷ ps) (b ∷ bs) r e =
     by-bool (eqb p b)
-    (λ q. ap₂ (λ (x : ℕ) (l : List ℕ). x ∷ l) (sym (eqb-eq p b q)) (after-inv ps bs r (rw (q, after) at e)))
+    (λ q. ap₂ (λ (x : ℕ) (l : List ℕ). x ∷ l) (sym (eqb-true p b q)) (after-inv ps bs r (rw (q, after) at e)))
     (λ q. no-some (rw (q, after) at e))
 
 bytes-tail : (s : List ℕ) {r : List ℕ} → Bytes (s ++ r) → Bytes s × Bytes r
@@ -52,7 +53,7 @@ readField-inv t bs go x hb e =
       be (take w r),
       drop w r,
       bytes-tail (take w r) {r = drop w r} (rw take-append-drop br) .1,
-      b ∙ value-inv t r (leb-le w (length r) k) br,
+      b ∙ value-inv t r (leb-true w (length r) k) br,
       rw (q, readField, k) at e,
     ))
     (λ k. no-some (rw (q, readField, k) at e))

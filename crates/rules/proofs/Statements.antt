@@ -8,11 +8,12 @@ use mathlib.Core.List.{List, [], _∷_, _++_, List·Memᴰ, List·Memᴰ·head, 
 use mathlib.Core.Logic.{_⊎_, inl, inr}
 use mathlib.Core.Option.{Option, none, some, Option·map, Option·some-injective}
 use lib.Dec.{eqb, leb}
+use borrow.Author.Tests.{eqb-true, le-leb, eq-eqb, not-true}
 use Rattle.rules.specs.Lists.{iff, first, any, keep, alter, distinct}
 use Rattle.rules.specs.Words.{Statement, sameStatement, conflict, State}
 use Rattle.rules.specs.Inputs.{noted, pair, current, inOrder}
-use Rattle.rules.proofs.Tests.{eqb-eq, le-leb, by-bool, by-option, no-some, no-bool}
-use Rattle.rules.proofs.Truths.{eq-eqb, eqb-sym, and-true, or-true, not-true, iff-eq, iff-refl, iff-sym}
+use Rattle.rules.proofs.Tests.{by-bool, by-option, no-some, no-bool}
+use Rattle.rules.proofs.Truths.{eqb-sym, and-2, or-2, iff-eq, iff-refl, iff-sym}
 use Rattle.rules.proofs.Searches.{by-mem, any-append, any-alter, any-sorted, any-mem, first-any, mem-keep, mem-sorted, first-mem}
 
 -- ---- the same statement
@@ -25,17 +26,17 @@ like x m c =
 pub same-like : (x y : Statement) → sameStatement x y ≡ true → y ≡ like x (y .mask) (y .voted)
 unfolding sameStatement
 same-like x y e =
-    let a1 = and-true _ (eqb (x .author) (y .author)) e in
-    let a2 = and-true _ (eqb (x .link) (y .link)) (a1 .0) in
-    let a3 = and-true _ (eqb (x .name) (y .name)) (a2 .0) in
-    let a4 = and-true _ (eqb (x .height) (y .height)) (a3 .0) in
-    let a5 = and-true (iff (x .isNewView) (y .isNewView)) (eqb (x .view) (y .view)) (a4 .0) in
+    let a1 = and-2 _ (eqb (x .author) (y .author)) e in
+    let a2 = and-2 _ (eqb (x .link) (y .link)) (a1 .0) in
+    let a3 = and-2 _ (eqb (x .name) (y .name)) (a2 .0) in
+    let a4 = and-2 _ (eqb (x .height) (y .height)) (a3 .0) in
+    let a5 = and-2 (iff (x .isNewView) (y .isNewView)) (eqb (x .view) (y .view)) (a4 .0) in
     let k = iff-eq (x .isNewView) (y .isNewView) (a5 .0) in
-    let v = eqb-eq (x .view) (y .view) (a5 .1) in
-    let h = eqb-eq (x .height) (y .height) (a4 .1) in
-    let n = eqb-eq (x .name) (y .name) (a3 .1) in
-    let l = eqb-eq (x .link) (y .link) (a2 .1) in
-    let a = eqb-eq (x .author) (y .author) (a1 .1) in
+    let v = eqb-true (x .view) (y .view) (a5 .1) in
+    let h = eqb-true (x .height) (y .height) (a4 .1) in
+    let n = eqb-true (x .name) (y .name) (a3 .1) in
+    let l = eqb-true (x .link) (y .link) (a2 .1) in
+    let a = eqb-true (x .author) (y .author) (a1 .1) in
     sym (λ i. record { isNewView = k i; view = v i; height = h i; name = n i; link = l i; mask = y .mask; author = a i; voted = y .voted })
 
 pub same-refl : (x : Statement) (m : ℕ) (c : Option ℕ) → sameStatement x (like x m c) ≡ true
@@ -82,7 +83,7 @@ conflict-sym x y =
 pub conflict-view : (x y : Statement) → conflict x y ≡ true → x .view ≡ y .view
 unfolding conflict
 conflict-view x y e =
-    eqb-eq (x .view) (y .view) (and-true (not (sameStatement x y)) (eqb (x .view) (y .view)) (and-true (not (sameStatement x y) && eqb (x .view) (y .view)) _ e .0) .1)
+    eqb-true (x .view) (y .view) (and-2 (not (sameStatement x y)) (eqb (x .view) (y .view)) (and-2 (not (sameStatement x y) && eqb (x .view) (y .view)) _ e .0) .1)
 
 pub same-no-conflict : (x y : Statement) → sameStatement x y ≡ true → conflict x y ≡ false
 unfolding conflict
@@ -94,7 +95,7 @@ pub no-conflict-propose : (x w : Statement) → conflict x w ≡ false → w .vi
 unfolding conflict
 no-conflict-propose x w c v kx kw h =
     by-bool (sameStatement x w) (λ s. ap (λ (y : Statement). y .name) (same-like x w s)) λ s.
-    by-bool (eqb (x .name) (w .name)) (λ e. sym (eqb-eq (x .name) (w .name) e)) λ e.
+    by-bool (eqb (x .name) (w .name)) (λ e. sym (eqb-true (x .name) (w .name) e)) λ e.
     no-bool (rw (s, eq-eqb (x .view) (w .view) (sym v), kx, kw, eq-eqb (x .height) (w .height) (sym h), e) at c)
 
 -- a new-view that doesn't conflict with a propose of its view is below it
@@ -219,7 +220,7 @@ same-view : (x y : Statement) → sameStatement x y ≡ true → y .view ≡ x .
 same-view x y e = ap (λ (w : Statement). w .view) (same-like x y e)
 
 pub clean-append : (v : ℕ) (xs : List Statement) (w : Statement) → Clean v xs → (w .view ≡ v → first (conflict w) xs ≡ none) → Clean v (xs ++ w ∷ [])
-clean-append v xs w c n x y a b h = go (or-true _ _ (rw any-append at a)) (or-true _ _ (rw any-append at b))
+clean-append v xs w c n x y a b h = go (or-2 _ _ (rw any-append at a)) (or-2 _ _ (rw any-append at b))
   where
     go : In xs x ⊎ (sameStatement x w ≡ true) → In xs y ⊎ (sameStatement y w ≡ true) → conflict x y ≡ false
     go (inl p) (inl q) = c x y p q h
@@ -240,13 +241,13 @@ in-order p xs = any-sorted p place xs
 
 pub mem-order : (s : State) (x : Statement) → List·Memᴰ x (inOrder (current s)) → List·Memᴰ x (s .statements) × (x .view ≡ s .view)
 unfolding inOrder current
-mem-order s x m = let r = mem-keep (λ (y : Statement). eqb (y .view) (s .view)) (s .statements) x (mem-sorted place _ x m) in (r .0, eqb-eq (x .view) (s .view) (r .1))
+mem-order s x m = let r = mem-keep (λ (y : Statement). eqb (y .view) (s .view)) (s .statements) x (mem-sorted place _ x m) in (r .0, eqb-true (x .view) (s .view) (r .1))
 
 -- where no statement is stored twice, a stored one is what a search for it finds
 pub once-first : (xs : List Statement) (z : Statement) → distinct sameStatement xs ≡ true → List·Memᴰ z xs → first (sameStatement z) xs ≡ some z
 unfolding first distinct
 once-first (x ∷ xs) z o m =
-    let (n, d) = and-true (not (any (sameStatement x) xs)) (distinct sameStatement xs) o in
+    let (n, d) = and-2 (not (any (sameStatement x) xs)) (distinct sameStatement xs) o in
     by-mem m (λ e. rw e (rw (same-self x, first) refl))
     (λ t.
     by-bool (sameStatement z x) (λ q. no-bool (sym (any-mem (sameStatement x) xs z t (same-sym x z ∙ q)) ∙ not-true (any (sameStatement x) xs) n))

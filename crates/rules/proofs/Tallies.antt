@@ -10,11 +10,12 @@ use mathlib.Core.List.{List, [], _∷_, List·Memᴰ, List·Memᴰ·head, List·
 use mathlib.Core.Logic.{_⊎_, inl, inr}
 use lib.Dec.{eqb, ltb}
 use lib.Count.{onesIn}
+use borrow.Author.Tests.{eqb-true, eq-eqb, lt-ltb, ltb-true, not-true}
 use Rattle.rules.specs.Limits.{maskBits}
 use Rattle.rules.specs.Sizes.{Settings, faults, only, bit, joined, count, quorum}
 use Rattle.rules.specs.Words.{Tally, sameBlock, grown, join, joinCertificate, voters, certified, below, higher, genesis, highest}
-use Rattle.rules.proofs.Tests.{eqb-eq, by-bool, no-bool}
-use Rattle.rules.proofs.Truths.{eq-eqb, lt-ltb, ltb-lt, and-true, true-and, or-true, or-right, or-false, not-true}
+use Rattle.rules.proofs.Tests.{by-bool, no-bool}
+use Rattle.rules.proofs.Truths.{and-2, both, or-2, or-right, or-not}
 use Rattle.rules.proofs.Masks.{joined-bit, joined-left, joined-right, count-joined, count-more, count-none, bit-below, quorum-count}
 
 -- ---- masks of one station, and of all sound ones
@@ -94,9 +95,9 @@ no-quorum g = by-bool (quorum g 0) (λ q. let h = quorum-count g 0 q in let z = 
 pub block-eq : (q t : Tally) → sameBlock q t ≡ true → (q .view ≡ t .view) × (q .height ≡ t .height) × (q .name ≡ t .name)
 unfolding sameBlock
 block-eq q t e =
-    let a = and-true (eqb (q .view) (t .view) && eqb (q .height) (t .height)) _ e in
-    let b = and-true (eqb (q .view) (t .view)) _ (a .0) in
-    (eqb-eq _ _ (b .0), eqb-eq _ _ (b .1), eqb-eq _ _ (a .1))
+    let a = and-2 (eqb (q .view) (t .view) && eqb (q .height) (t .height)) _ e in
+    let b = and-2 (eqb (q .view) (t .view)) _ (a .0) in
+    (eqb-true _ _ (b .0), eqb-true _ _ (b .1), eqb-true _ _ (a .1))
 
 pub same-block : (q t : Tally) → q .view ≡ t .view → q .height ≡ t .height → q .name ≡ t .name → sameBlock q t ≡ true
 unfolding sameBlock
@@ -180,7 +181,7 @@ not-below t u e =
         | no f ↦ (
             let v : t .view ≡ u .view = omega arith in
             elim (decLt (t .height) (u .height)) [
-              | yes g ↦ no-bool (sym (or-right (ltb (t .view) (u .view)) (true-and _ _ (eq-eqb (t .view) (u .view) v) (lt-ltb (t .height) (u .height) g))) ∙ e)
+              | yes g ↦ no-bool (sym (or-right (ltb (t .view) (u .view)) (both (eq-eqb (t .view) (u .view) v) (lt-ltb (t .height) (u .height) g))) ∙ e)
               | no g ↦ inr (v, omega arith)
             ])
       ]
@@ -188,27 +189,27 @@ not-below t u e =
 
 below-true : (t u : Tally) → below t u ≡ true → Above u t
 unfolding below
-below-true t u e = go (or-true (ltb (t .view) (u .view)) _ e)
+below-true t u e = go (or-2 (ltb (t .view) (u .view)) _ e)
   where
     go : (ltb (t .view) (u .view) ≡ true) ⊎ ((eqb (t .view) (u .view) && ltb (t .height) (u .height)) ≡ true) → Above u t
-    go (inl p) = inl (ltb-lt (t .view) (u .view) p)
+    go (inl p) = inl (ltb-true (t .view) (u .view) p)
     go (inr p) =
-        let a = and-true (eqb (t .view) (u .view)) _ p in
-        let v = eqb-eq (t .view) (u .view) (a .0) in
-        let h = ltb-lt (t .height) (u .height) (a .1) in
+        let a = and-2 (eqb (t .view) (u .view)) _ p in
+        let v = eqb-true (t .view) (u .view) (a .0) in
+        let h = ltb-true (t .height) (u .height) (a .1) in
         inr (sym v, omega arith)
 
 higher-true : (t b : Tally) → higher t b ≡ true → Above t b
 unfolding higher
-higher-true t b e = go (or-true (below b t) _ e)
+higher-true t b e = go (or-2 (below b t) _ e)
   where
     go : (below b t ≡ true) ⊎ ((not (below t b) && ltb (t .name) (b .name)) ≡ true) → Above t b
     go (inl p) = below-true b t p
-    go (inr p) = not-below t b (not-true (below t b) (and-true (not (below t b)) _ p .0))
+    go (inr p) = not-below t b (not-true (below t b) (and-2 (not (below t b)) _ p .0))
 
 higher-false : (t b : Tally) → higher t b ≡ false → Above b t
 unfolding higher
-higher-false t b e = not-below b t (or-false (below b t) _ e)
+higher-false t b e = not-below b t (or-not (below b t) _ e)
 
 -- ---- the highest certificate
 
@@ -233,7 +234,7 @@ highest-above g v q (t ∷ ts) l c =
     (λ e.
     let ih = highest-above g v q ts l (rw (e, voters) at c) in
     by-bool (takes g v t ts)
-    (λ k. rw (k, highest) (at-least-trans _ _ _ _ _ _ (higher-true t b (and-true (ltb (t .view) v && certified g t) _ k .1)) ih))
+    (λ k. rw (k, highest) (at-least-trans _ _ _ _ _ _ (higher-true t b (and-2 (ltb (t .view) v && certified g t) _ k .1)) ih))
     (λ k. rw (k, highest) ih))
 
 -- it is genesis in view 0, or a certified tally of an earlier view
@@ -244,9 +245,9 @@ highest-tally g v [] = inl refl
 highest-tally g v (t ∷ ts) =
     by-bool (takes g v t ts)
     (λ k.
-    let a = and-true (ltb (t .view) v && certified g t) _ k in
-    let b = and-true (ltb (t .view) v) _ (a .0) in
-    rw (k, highest) (inr (List·Memᴰ·head refl, ltb-lt (t .view) v (b .0), b .1)))
+    let a = and-2 (ltb (t .view) v && certified g t) _ k in
+    let b = and-2 (ltb (t .view) v) _ (a .0) in
+    rw (k, highest) (inr (List·Memᴰ·head refl, ltb-true (t .view) v (b .0), b .1)))
     (λ k. rw (k, highest) (go (highest-tally g v ts)))
   where
     go : (highest g v ts ≡ genesis) ⊎ (List·Memᴰ (highest g v ts) ts × (highest g v ts .view < v) × (quorum g (highest g v ts .mask) ≡ true))

@@ -1,30 +1,14 @@
--- Tests and answers taken apart: a truth, a search's answer, a comparison. Assumes nothing.
-use mathlib.Core.Path.{_≡_, refl, sym, _∙_}
-use Prim.Native.Nat.{ℕ, _≤_, _<_}
+-- Tests and answers taken apart: a truth, a search's answer. Assumes nothing.
+use mathlib.Core.Path.{_≡_, refl, sym}
+use Prim.Native.Nat.{ℕ}
 use native.Mathlib.Omega.{arith}
-use mathlib.Core.Bool.{Bool, true, false, not, _&&_}
+use mathlib.Core.Bool.{Bool, true, false, _&&_}
 use mathlib.Core.Option.{Option, none, some}
-use lib.Dec.{T, leb, ltb, eqb, eqb-refl, eqb→eq, leb→le}
-use mir.Facts.{yes-leb}
-
-pub yes-true : (b : Bool) → T b → b ≡ true
-yes-true true t = refl
-yes-true false t = absurd t
-
-pub true-yes : (b : Bool) → b ≡ true → T b
-true-yes b e = rw e tt
-
-pub le-leb : (a b : ℕ) → a ≤ b → leb a b ≡ true
-le-leb a b h = yes-true (leb a b) (yes-leb h)
+use lib.Dec.{eqb}
+use borrow.Author.Tests.{eq-eqb}
 
 pub eqb-self : (a : ℕ) → eqb a a ≡ true
-eqb-self a = yes-true (eqb a a) (eqb-refl a)
-
-pub eqb-eq : (a b : ℕ) → eqb a b ≡ true → a ≡ b
-eqb-eq a b e = eqb→eq a b (true-yes (eqb a b) e)
-
-pub leb-le : (a b : ℕ) → leb a b ≡ true → a ≤ b
-leb-le a b e = leb→le a b (true-yes (leb a b) e)
+eqb-self a = eq-eqb a a refl
 
 -- a test goes one way or the other, and what follows may know which
 pub by-bool {ℓ} : {P : Type ℓ} (b : Bool) → (b ≡ true → P) → (b ≡ false → P) → P

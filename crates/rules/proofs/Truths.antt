@@ -1,52 +1,62 @@
--- More of tests: and, or, not, the order of numbers, each taken apart and put together. Assumes nothing.
+-- Tests that hold together, taken apart and put together. What one test of numbers says is borrow.Author.Tests'. Assumes nothing.
 use mathlib.Core.Path.{_≡_, refl, sym, _∙_}
-use Prim.Native.Nat.{ℕ, _<_}
-use mathlib.Core.Bool.{Bool, true, false, not, _&&_, _||_}
+use Prim.Native.Nat.{ℕ}
+use mathlib.Core.Bool.{Bool, true, false, _&&_, _||_}
 use mathlib.Core.Logic.{_⊎_, inl, inr}
-use lib.Dec.{ltb, eqb, ltb→lt, lt→ltb}
+use lib.Dec.{eqb}
+use borrow.Author.Tests.{eqb-true}
 use Rattle.rules.specs.Lists.{iff}
-use Rattle.rules.proofs.Tests.{yes-true, true-yes, eqb-self, eqb-eq, by-bool, no-bool}
-
-pub eq-eqb : (a b : ℕ) → a ≡ b → eqb a b ≡ true
-eq-eqb a b e = rw e (eqb-self b)
+use Rattle.rules.proofs.Tests.{by-bool, no-bool}
 
 pub eqb-sym : (a b : ℕ) → eqb a b ≡ eqb b a
 eqb-sym a b =
-    by-bool (eqb a b) (λ q. rw (eqb-eq a b q))
-    (λ q. by-bool (eqb b a) (λ r. rw (eqb-eq b a r)) (λ r. q ∙ sym r))
+    by-bool (eqb a b) (λ q. rw (eqb-true a b q))
+    (λ q. by-bool (eqb b a) (λ r. rw (eqb-true b a r)) (λ r. q ∙ sym r))
 
-pub ltb-lt : (a b : ℕ) → ltb a b ≡ true → a < b
-ltb-lt a b e = ltb→lt a b (true-yes (ltb a b) e)
+-- ---- and
 
-pub lt-ltb : (a b : ℕ) → a < b → ltb a b ≡ true
-lt-ltb a b h = yes-true (ltb a b) (lt→ltb a b h)
+pub and-2 : (a b : Bool) → (a && b) ≡ true → (a ≡ true) × (b ≡ true)
+and-2 true b e = (refl, e)
+and-2 false b e = no-bool (sym e)
 
-pub and-true : (a b : Bool) → (a && b) ≡ true → (a ≡ true) × (b ≡ true)
-and-true true b e = (refl, e)
-and-true false b e = no-bool (sym e)
+pub and-3 : (a b c : Bool) → (a && b && c) ≡ true → (a ≡ true) × (b ≡ true) × (c ≡ true)
+and-3 a b c e = let p = and-2 (a && b) c e in let q = and-2 a b (p .0) in (q .0, q .1, p .1)
 
-pub true-and : (a b : Bool) → a ≡ true → b ≡ true → (a && b) ≡ true
-true-and a b p q = rw (p, q)
+pub and-4 : (a b c d : Bool) → (a && b && c && d) ≡ true → (a ≡ true) × (b ≡ true) × (c ≡ true) × (d ≡ true)
+and-4 a b c d e = let p = and-2 (a && b && c) d e in let q = and-3 a b c (p .0) in (q .0, q .1, q .2, p .1)
 
-pub and-false : (a : Bool) {b : Bool} → a ≡ true → (a && b) ≡ false → b ≡ false
-and-false true k l = l
-and-false false k l = no-bool (sym k)
+pub and-5 : (a b c d f : Bool) → (a && b && c && d && f) ≡ true → (a ≡ true) × (b ≡ true) × (c ≡ true) × (d ≡ true) × (f ≡ true)
+and-5 a b c d f e = let p = and-2 (a && b && c && d) f e in let q = and-4 a b c d (p .0) in (q .0, q .1, q .2, q .3, p .1)
 
-pub or-true : (a b : Bool) → (a || b) ≡ true → (a ≡ true) ⊎ (b ≡ true)
-or-true true b e = inl refl
-or-true false b e = inr e
+pub and-6 : (a b c d f g : Bool) → (a && b && c && d && f && g) ≡ true
+    → (a ≡ true) × (b ≡ true) × (c ≡ true) × (d ≡ true) × (f ≡ true) × (g ≡ true)
+and-6 a b c d f g e = let p = and-2 (a && b && c && d && f) g e in let q = and-5 a b c d f (p .0) in (q .0, q .1, q .2, q .3, q .4, p .1)
+
+pub both : {a b : Bool} → a ≡ true → b ≡ true → (a && b) ≡ true
+both p q = rw (p, q)
+
+pub and-rest : (a : Bool) {b : Bool} → a ≡ true → (a && b) ≡ false → b ≡ false
+and-rest true k l = l
+and-rest false k l = no-bool (sym k)
+
+-- ---- or
+
+pub or-2 : (a b : Bool) → (a || b) ≡ true → (a ≡ true) ⊎ (b ≡ true)
+or-2 true b e = inl refl
+or-2 false b e = inr e
+
+pub or-left : {a : Bool} (b : Bool) → a ≡ true → (a || b) ≡ true
+or-left b p = rw p
 
 pub or-right : (a : Bool) {b : Bool} → b ≡ true → (a || b) ≡ true
-or-right true e = refl
-or-right false e = e
+or-right true p = refl
+or-right false p = p
 
-pub or-false : (a b : Bool) → (a || b) ≡ false → a ≡ false
-or-false true b e = no-bool e
-or-false false b e = refl
+pub or-not : (a b : Bool) → (a || b) ≡ false → a ≡ false
+or-not true b e = no-bool e
+or-not false b e = refl
 
-pub not-true : (a : Bool) → not a ≡ true → a ≡ false
-not-true true e = no-bool (sym e)
-not-true false e = refl
+-- ---- iff
 
 pub iff-eq : (a b : Bool) → iff a b ≡ true → a ≡ b
 unfolding iff

@@ -8,7 +8,7 @@ use Rattle.rules.specs.Messages.{Message, newView, propose, vote, blame,
 use Rattle.rules.specs.Words.{Statement, message, certificate, below, inView, State}
 use Rattle.rules.specs.Inputs.{saying, _▸_, withPhase, withTables, withBlames, withLog, entering, belowLock, votedFor, ballot, stored, blamed, report, current, inOrder, votingAll}
 use Rattle.rules.proofs.Tests.{by-bool}
-use Rattle.rules.proofs.Truths.{and-false}
+use Rattle.rules.proofs.Truths.{and-rest}
 use Rattle.rules.proofs.Searches.{All, all-append, all-split, all-map, to-all}
 use Rattle.rules.proofs.Statements.{In, mem-in, in-last, in-noted, mem-order}
 use Rattle.rules.proofs.Moves.{Outside, arrived, Move, joins, stores, passes, casts, clashes, accuses, fills, complains, entersFull, entersPair, enters, Moves, here, more, voting-low, voting-high}
@@ -52,7 +52,7 @@ module _ (S : ℕ → Effect → Type 0) where
 
   not-low : (x : Statement) (s : State) → belowLock x s ≡ false → x .isNewView ≡ true → below (certificate x) (s .lock) ≡ false
   unfolding belowLock
-  not-low x s l k = and-false (x .isNewView) k l
+  not-low x s l k = and-rest (x .isNewView) k l
 
   votingAll-stands : (ys : List Statement) (s : State) → s .phase ≡ inView → All (λ x. In (s .statements) x × (x .view ≡ s .view)) ys
       → All (S (s .clock)) (votingAll ys s .out) → All (StandsSaid (votingAll ys s .now)) (votingAll ys s .out)

@@ -1,7 +1,7 @@
 -- An offer, in 01's order: not to be taken, or the propose above the top of the view. Assumes nothing.
 use Prim.Native.Nat.{ℕ, _+_, _*_, _^_, _<_, _≤_}
 use mathlib.Core.Path.{_≡_, refl, sym, ap, ap₂, _∙_}
-use mathlib.Core.Bool.{Bool, true, false, not, _&&_}
+use mathlib.Core.Bool.{Bool, true, false, not, _&&_, and-false}
 use mathlib.Core.List.{List}
 use mathlib.Core.Option.{none, some}
 use native.Mathlib.Omega.{arith}
@@ -22,7 +22,6 @@ use Rattle.fields.specs.Names.{nameOf}
 use Rattle.fields.specs.declared.Name.{Name}
 use Rattle.settings.specs.Made.{settingsOf}
 use Rattle.kept.specs.Said.{Sendable}
-use Rattle.kept.proofs.Truths.{and-false}
 use Rattle.kept.proofs.Facts.{sizes-of}
 use Rattle.kept.proofs.Outs.{offer-room}
 use Rattle.kept.proofs.Offers.{offered-sendable}

@@ -1,7 +1,7 @@
 -- What bars every call alike: where nothing does, the rules answer; else the buffers stay as they were. Assumes nothing.
 use Prim.Native.Nat.{ℕ, _*_, _^_, _≤_, _<_}
 use mathlib.Core.Path.{_≡_, refl, sym, ap, _∙_, subst}
-use mathlib.Core.Bool.{Bool, true, false, not, _&&_}
+use mathlib.Core.Bool.{Bool, true, false, not, _&&_, and-false}
 use mathlib.Core.List.{List}
 use mathlib.Core.Option.{none, some}
 use native.Mathlib.Omega.{arith}
@@ -17,7 +17,7 @@ use Rattle.rules.specs.WellFormed.{wellFormed}
 use Rattle.rules.proofs.Tests.{by-bool, and-left}
 use Rattle.fields.specs.Places.{Bytes}
 use Rattle.fields.specs.Records.{fields}
-use Rattle.kept.proofs.Truths.{and-2, both, and-false}
+use Rattle.rules.proofs.Truths.{and-2, both}
 use Rattle.store.specs.Layout.{headerFormat, storeLength}
 use Rattle.store.specs.Decode.{stateOf, hasForm, Form}
 use Rattle.store.specs.Meaning.{courseOf, headerOf}

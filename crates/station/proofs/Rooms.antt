@@ -4,12 +4,13 @@ use mathlib.Core.Path.{_≡_, refl, sym, ap, _∙_}
 use mathlib.Core.Bool.{Bool, true, false, _&&_}
 use mathlib.Core.List.{List}
 use native.Mathlib.Nat.{zero-add}
+use borrow.Author.Tests.{le-leb}
 use Rattle.rules.specs.Limits.{mostStatements, mostTallies}
 use Rattle.rules.specs.Words.{State, full, Tally}
 use Rattle.rules.specs.Inputs.{Work, saying, withPhase, withBlames, isIn, quit, blamed, blameFull, blaming, tallied}
 use Rattle.rules.specs.Refusals.{done, stopping, hasRoom, ifRoom, result}
-use Rattle.rules.proofs.Tests.{by-bool, le-leb}
-use Rattle.kept.proofs.Truths.{both}
+use Rattle.rules.proofs.Tests.{by-bool}
+use Rattle.rules.proofs.Truths.{both}
 use Rattle.store.specs.Decode.{stateOf, Left}
 use Rattle.acts.specs.Works.{Formed, Works}
 use Rattle.acts.proofs.Works.{formed-parts, works-none}

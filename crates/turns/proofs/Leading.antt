@@ -26,7 +26,7 @@ use Rattle.store.specs.declared.Tally.{Tally}
 use Rattle.store.proofs.Loaded.{loaded-view}
 use Rattle.kept.specs.Said.{Sendable}
 use Rattle.kept.specs.Parts as kept
-use Rattle.kept.proofs.Truths.{and-2, both}
+use Rattle.rules.proofs.Truths.{and-2, both}
 use Rattle.kept.proofs.Allowed.{view-within}
 use Rattle.kept.proofs.Facts.{sizes-of}
 use Rattle.kept.proofs.Sendable.{sendable}

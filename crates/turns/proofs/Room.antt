@@ -19,7 +19,7 @@ use Rattle.rules.proofs.Tests.{by-bool, by-option}
 use Rattle.search.specs.Lookups.{turn}
 use Rattle.kept.specs.Parts.{Formed}
 use Rattle.kept.specs.Said.{Each}
-use Rattle.kept.proofs.Truths.{and-2, and-3}
+use Rattle.rules.proofs.Truths.{and-2, and-3}
 use Rattle.kept.proofs.Lists.{mem-each, all-mem, keep-mem, sorted-mem}
 use Rattle.kept.proofs.Tallies.{join-any}
 use Rattle.kept.proofs.Ticks.{logging-keeps, complain-keeps, lead-keeps}
