@@ -15,6 +15,7 @@ use Rattle.rules.specs.Words.{Statement, message, sameStatement, Tally, ownBloc
 use Rattle.rules.specs.Inputs.{withTables, noted, votedFor}
 use Rattle.rules.specs.WellFormed.{statementGood, talliesThere}
 use Rattle.rules.proofs.Tests.{by-bool, no-bool}
+use Rattle.rules.proofs.Truths.{and-2}
 use Rattle.wire.specs.Meaning.{statementOf, Linked}
 use Rattle.wire.specs.declared.Statement as code
 use Rattle.store.specs.Layout.{statementTable, countOf}
@@ -26,7 +27,6 @@ use Rattle.store.proofs.Searches.{alter-found}
 use Rattle.search.specs.Lookups.{Certifies}
 use Rattle.search.proofs.Statements.{same-unvoted, certifies-allowed}
 use Rattle.kept.specs.Said.{Sendable}
-use Rattle.rules.proofs.Truths.{and-2}
 use Rattle.kept.proofs.Statements.{stored-sendable}
 use Rattle.kept.proofs.Facts.{sizes-of}
 use Rattle.acts.specs.Works.{Formed}

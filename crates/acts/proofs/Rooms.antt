@@ -11,16 +11,17 @@ use borrow.Author.Tests.{eqb-true, leb-true, ltb-true, ltb-false, ne-eqb, le-leb
 use Rattle.rules.specs.Limits.{mostStatements, mostTallies}
 use Rattle.rules.specs.Lists.{iff, any, alter}
 use Rattle.rules.specs.Sizes.{Settings, only}
+use Rattle.rules.specs.Messages.{newView}
 use Rattle.rules.specs.Words.{Statement, message, sameStatement, Tally, ownBlock, certificate, sameBlock, grown, join, joinCertificate, State}
 use Rattle.rules.specs.Inputs.{saying, withPhase, withTables, withBlames, isIn, quit, belowLock, noted, votedFor, voting, certificateJoined, stored, statement, tallied, blamed, blameFull, blaming}
 use Rattle.rules.specs.Refusals.{hasRoom}
 use Rattle.rules.specs.WellFormed.{talliesThere}
 use Rattle.rules.proofs.Tests.{by-bool, no-bool, eqb-self}
+use Rattle.rules.proofs.Truths.{and-2, and-6}
+use Rattle.rules.proofs.Allowed.{allowed-rights}
 use Rattle.kept.specs.Parts.{Formed, WellFormed}
 use Rattle.kept.specs.Said.{Sendable}
-use Rattle.rules.proofs.Truths.{and-2, and-6}
 use Rattle.kept.proofs.Lists.{all-mem, any-find, any-cong}
-use Rattle.kept.proofs.Sendable.{newView-parts}
 use Rattle.kept.proofs.Statements.{stated}
 
 -- ---- one tally
@@ -120,7 +121,7 @@ module _ (g : Settings) (x : Statement) (m : Sendable g (message x)) where
   own-differs =
       by-bool (x .isNewView)
       (λ k.
-      let l = newView-parts g (x .view) (x .height) (x .name) (x .link) (x .mask) (x .author) (rw (k, message) at (m .isAllowed)) .2 in
+      let l = allowed-rights g (newView (x .view) (x .height) (x .name) (x .link) (x .mask) (x .author)) (rw (k, message) at (m .isAllowed)) .2 in
       rw (k, certificate, ne-eqb (x .view) (x .link) (λ e. omega arith)))
       (λ k.
       let l = stated g x m .parent k .0 in

@@ -14,6 +14,7 @@ use Rattle.rules.specs.Sizes.{quorum}
 use Rattle.rules.specs.Words as words
 use Rattle.rules.specs.Words.{Tally, sameBlock, join, joinCertificate, State, inView, waiting, stopped}
 use Rattle.rules.specs.Inputs.{saying, withPhase, isIn, quit, blamesOf, blameFull}
+use Rattle.rules.proofs.Allowed.{view-within}
 use Rattle.fields.specs.Records.{fields}
 use Rattle.settings.specs.Made.{settingsOf}
 use Rattle.store.specs.Layout.{headerFormat, tallyTable, countOf}
@@ -29,7 +30,6 @@ use Rattle.store.proofs.Loaded.{loaded-settings, loaded-phase, loaded-view, loa
 use Rattle.store.proofs.Searches.{found-any, missing-any}
 use Rattle.store.proofs.Joining.{certificate-joins}
 use Rattle.store.proofs.Rows.{rows-at, rows-length}
-use Rattle.kept.proofs.Allowed.{view-within}
 use Rattle.kept.proofs.Facts.{clocks-of}
 use Rattle.acts.specs.Works.{Formed}
 use Rattle.acts.proofs.Works.{formed-parts}

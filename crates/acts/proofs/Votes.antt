@@ -11,6 +11,7 @@ use Rattle.rules.specs.Sizes.{only}
 use Rattle.rules.specs.Messages.{Effect, toAll}
 use Rattle.rules.specs.Words.{Statement, State}
 use Rattle.rules.specs.Inputs.{saying, belowLock, votedFor, ballot, voting}
+use Rattle.rules.proofs.Allowed.{only-lt, mask-small}
 use Rattle.fields.specs.Records.{fields}
 use Rattle.wire.specs.Meaning.{statementOf, messageOf}
 use Rattle.wire.specs.declared.Statement as code
@@ -22,7 +23,6 @@ use Rattle.store.specs.declared.Station.{Station}
 use Rattle.store.proofs.Loaded.{loaded-settings, loaded-lock}
 use Rattle.search.specs.Lookups.{ranksBelow}
 use Rattle.search.proofs.Statements.{lock-is}
-use Rattle.kept.proofs.Allowed.{only-lt, mask-small}
 use Rattle.kept.proofs.Facts.{sizes-of}
 use Rattle.acts.specs.Works.{Formed}
 use Rattle.acts.proofs.Works.{formed-parts}

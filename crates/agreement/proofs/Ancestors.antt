@@ -17,11 +17,11 @@ use Rattle.rules.specs.Inputs.{isBlock, due, chain}
 use Rattle.rules.proofs.Tests.{by-bool, by-option, no-bool}
 use Rattle.rules.proofs.Searches.{any-mem, first-any, first-mem, first-none}
 use Rattle.rules.proofs.Statements.{In, same-like, no-conflict-newView}
+use Rattle.rules.proofs.Allowed.{sizes}
 use Rattle.rules.proofs.Moves.{counted, logAfter}
 use Rattle.rules.proofs.Kept.{true-in, moves-fixed, moves-kept, VoteKept, moves-vote}
 use Rattle.rules.proofs.Held.{held-stored}
 use Rattle.rules.proofs.Commits.{commits-some, Due, facts-due}
-use Rattle.kept.proofs.Allowed.{sizes}
 use Rattle.agreement.specs.Schedule.{Event, commonTick, ticks, at, Says, lineage}
 use Rattle.agreement.proofs.Lineage.{up, propose-facts, chain-whole}
 use Rattle.agreement.proofs.Events.{begun, begun-same}

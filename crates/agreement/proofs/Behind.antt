@@ -12,11 +12,10 @@ use Rattle.rules.specs.Words.{Statement, message, sameStatement}
 use Rattle.rules.proofs.Tests.{by-option, no-bool}
 use Rattle.rules.proofs.Searches.{first-any, first-none, first-mem}
 use Rattle.rules.proofs.Statements.{In, same-like}
-use Rattle.rules.proofs.Allowed.{mask-facts, allowed-rights}
+use Rattle.rules.proofs.Allowed.{mask-parts, allowed-rights, certificate-cases}
 use Rattle.rules.proofs.Moves.{carried}
 use Rattle.rules.proofs.Kept.{moves-kept}
 use Rattle.rules.proofs.Votes.{Cast}
-use Rattle.kept.proofs.Allowed.{certificate-cases}
 use Rattle.agreement.specs.Schedule.{Says}
 use Rattle.agreement.proofs.Events.{Brings, begun}
 use Rattle.agreement.proofs.Group.{Group, st, ck, Ok, G, SaidAt, VotedBy, Sure, sure-run, cast-run}
@@ -38,7 +37,7 @@ module _ (X : Group) where
   -- behind a quorum whose voters are known to have voted
   quorum-vote : (c i v h b m : ℕ) → maskAllowed (G X i) m ≡ true → ((j : ℕ) → bit m j ≡ 1 → VotedBy X c v h b j) → SoundVote c v h b
   quorum-vote c i v h b m a f =
-      let (l, q) = mask-facts (G X i) m a in
+      let (l, q) = mask-parts (G X i) m a in
       let (j, ok, e) = names-sound X i m l q in
       let (k, t, s) = f j e ok in
       (j, k, ok, t, s)

@@ -17,6 +17,7 @@ use Rattle.rules.specs.Words.{Statement, message, sameStatement, Tally, State, 
 use Rattle.rules.specs.Inputs.{offered}
 use Rattle.rules.specs.Refusals.{Outcome, running, step}
 use Rattle.rules.proofs.Searches.{All, all-append, all-map, all-of, to-all}
+use Rattle.rules.proofs.Allowed.{sizes}
 use Rattle.rules.proofs.Moves.{carried, Moves}
 use Rattle.rules.proofs.Kept.{no-phase, moves-fixed, Kept, kept-refl, kept-trans, moves-kept, moves-late, settled-waits}
 use Rattle.rules.proofs.Orderly.{Orderly, fresh-orderly, moves-orderly, past-range}
@@ -24,7 +25,6 @@ use Rattle.rules.proofs.Held.{Held, held-kept, step-held, HeldSaid, moves-said}
 use Rattle.rules.proofs.Votes.{Cast, CastSaid, moves-cast}
 use Rattle.rules.proofs.Proper.{Right, Proper, Known, Parented, fresh-proper, proper-map, moves-proper}
 use Rattle.kept.specs.Parts.{WellFormed}
-use Rattle.kept.proofs.Allowed.{sizes}
 use Rattle.kept.proofs.Statements.{stored-said}
 use Rattle.kept.proofs.Calls.{sent-read}
 use Rattle.agreement.specs.Schedule.{Event, idle, commonTick, tickOf, given, offeredTo, happens, ticks, IsCommon, settingsOf, at, out, clock, Says, Sound, IsLent, Hands, Offers}

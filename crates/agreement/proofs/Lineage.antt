@@ -12,9 +12,8 @@ use Rattle.rules.specs.Words.{Statement, message}
 use Rattle.rules.specs.Inputs.{isBlock, chainTo, chain}
 use Rattle.rules.proofs.Tests.{by-option, no-some, no-bool}
 use Rattle.rules.proofs.Searches.{All, all-first, first-any, first-none}
-use Rattle.rules.proofs.Allowed.{allowed-rights}
+use Rattle.rules.proofs.Allowed.{allowed-rights, genesis-zero}
 use Rattle.rules.proofs.Proper.{Parented}
-use Rattle.kept.proofs.Allowed.{genesis-zero}
 use Rattle.kept.proofs.Logs.{block-parts}
 use Rattle.agreement.specs.Schedule.{Linked, lineage}
 

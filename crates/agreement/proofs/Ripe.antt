@@ -16,13 +16,13 @@ use Rattle.rules.proofs.Tests.{by-option, no-bool}
 use Rattle.rules.proofs.Searches.{first-none}
 use Rattle.rules.proofs.Statements.{In, in-cong}
 use Rattle.rules.proofs.Tallies.{Above}
+use Rattle.rules.proofs.Allowed.{sizes}
 use Rattle.rules.proofs.Moves.{Moves}
 use Rattle.rules.proofs.Kept.{by-phase, moves-kept}
 use Rattle.rules.proofs.Orderly.{Told, Past, past-told, Voted}
 use Rattle.rules.proofs.Held.{block, held-stored}
 use Rattle.rules.proofs.Votes.{Cast}
 use Rattle.rules.proofs.Locks.{HasAll, Locked, moves-locked}
-use Rattle.kept.proofs.Allowed.{sizes}
 use Rattle.agreement.specs.Schedule.{Event, at}
 use Rattle.agreement.proofs.Events.{Brings, begun, begun-same, begun-kept}
 use Rattle.agreement.proofs.Clock.{last-of}

@@ -16,10 +16,10 @@ use Rattle.rules.specs.Inputs.{withBlames, blamesOf, blamed}
 use Rattle.rules.specs.WellFormed.{isMask, clocksInOrder, lockGood, statementGood, blamesGood}
 use Rattle.rules.proofs.Tests.{no-bool}
 use Rattle.rules.proofs.Masks.{joined-lt}
-use Rattle.kept.specs.Parts.{Formed}
 use Rattle.rules.proofs.Truths.{and-3}
+use Rattle.rules.proofs.Allowed.{mask-lt, lt-mask, none-lt, view-within}
+use Rattle.kept.specs.Parts.{Formed}
 use Rattle.kept.proofs.Lists.{all-set, all-getD}
-use Rattle.kept.proofs.Allowed.{mask-lt, lt-mask, none-lt, view-within}
 
 module _ (g : Settings) where
   blames-parts : (m : ℕ) (ms : List ℕ) → blamesGood g (m ∷ ms) ≡ true → (m ≡ 0) × (length ms ≡ lastView) × (all (isMask g) ms ≡ true)

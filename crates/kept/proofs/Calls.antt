@@ -18,9 +18,9 @@ use Rattle.rules.specs.WellFormed.{wellFormed}
 use Rattle.rules.proofs.Tests.{by-bool, by-option}
 use Rattle.rules.proofs.Bytes.{Bytes}
 use Rattle.rules.proofs.Written.{read-write}
+use Rattle.rules.proofs.Truths.{and-2}
 use Rattle.kept.specs.Parts.{WellFormed}
 use Rattle.kept.specs.Said.{Each, Sendable, Sayable}
-use Rattle.rules.proofs.Truths.{and-2}
 use Rattle.kept.proofs.Lists.{each-mem}
 use Rattle.kept.proofs.WellFormed.{parts, whole}
 use Rattle.kept.proofs.Sendable.{read-sendable}

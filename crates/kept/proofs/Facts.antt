@@ -12,9 +12,9 @@ use Rattle.rules.specs.Words.{Statement, Tally, State}
 use Rattle.rules.specs.Inputs.{isBlock, chainTo, chain}
 use Rattle.rules.specs.WellFormed.{statementGood, tallyGood}
 use Rattle.rules.proofs.Tests.{by-option, no-some}
+use Rattle.rules.proofs.Allowed.{Sizes, sizes, view-within, height-le, leader-lt, mask-small, certificate-mask}
 use Rattle.kept.specs.Parts.{Formed, WellFormed}
 use Rattle.kept.proofs.Lists.{all-mem}
-use Rattle.kept.proofs.Allowed.{Sizes, sizes, view-within, height-le, leader-lt, mask-small, certificate-mask}
 use Rattle.kept.proofs.Tallies.{TallyGood, tally-parts, Certificate, lock-parts}
 use Rattle.kept.proofs.Statements.{Stated, voted-le, stored-stated}
 use Rattle.kept.proofs.Phases.{Clocks, clocks-parts}

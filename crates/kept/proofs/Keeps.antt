@@ -11,12 +11,12 @@ use Rattle.rules.specs.Messages.{Message, newView, propose, vote, blame, blameS
 use Rattle.rules.specs.Words.{Statement, message, sameStatement, conflict, Tally, State}
 use Rattle.rules.specs.Inputs.{Work, saying, _▸_, withPhase, withTables, withBlames, isIn, quit, belowLock, votedFor, ballot, voting, certificateJoined, stored, statement, tallied, blamesOf, blamed, blameFull, blaming, handled}
 use Rattle.rules.proofs.Tests.{by-bool, by-option}
+use Rattle.rules.proofs.Truths.{and-2, both}
+use Rattle.rules.proofs.Allowed.{sizes, only-lt, mask-parts, mask-made, allowed-rights}
 use Rattle.kept.specs.Parts.{Formed}
 use Rattle.kept.specs.Said.{Each, Sendable, Sayable}
-use Rattle.rules.proofs.Truths.{and-2, both}
 use Rattle.kept.proofs.Lists.{each-append, first-mem}
-use Rattle.kept.proofs.Allowed.{sizes, only-lt, mask-parts, mask-made}
-use Rattle.kept.proofs.Sendable.{named, sendable, vote-parts, blame-parts, blameSet-parts, status-parts}
+use Rattle.kept.proofs.Sendable.{named, sendable}
 use Rattle.kept.proofs.Tallies.{Joinable, joinable, tally-made}
 use Rattle.kept.proofs.Statements.{stated, stored-said}
 use Rattle.kept.proofs.Tables.{tallied-formed, certificateJoined-formed, stored-formed, votedFor-formed}
@@ -115,15 +115,15 @@ module _ {s : State} (f : Formed s) where
   handled-keeps (propose v h b p m a) e =
       statement-keeps f (record { isNewView = false; view = v; height = h; name = b; link = p; mask = m; author = a; voted = none }) e refl
   handled-keeps (vote v h b a) e =
-      let (i, j, k) = vote-parts (s .settings) v h b a (e .isAllowed) in
+      let (i, j, k) = allowed-rights (s .settings) (vote v h b a) (e .isAllowed) in
       let n = named (vote v h b a) (e .fits) in
       tallied-keeps f (record { view = v; height = h; name = b; mask = only a })
       (λ q. tally-made (record { view = i; block = j; name = n; mask = only-lt (s .settings) a k }))
   handled-keeps (blame v a) e =
-      let (i, j) = blame-parts (s .settings) v a (e .isAllowed) in blaming-keeps v (only a) i (only-lt (s .settings) a j)
+      let (i, j) = allowed-rights (s .settings) (blame v a) (e .isAllowed) in blaming-keeps v (only a) i (only-lt (s .settings) a j)
   handled-keeps (blameSet v m) e =
-      let (i, j) = blameSet-parts (s .settings) v m (e .isAllowed) in blaming-keeps v m i (mask-parts (s .settings) m j .0)
+      let (i, j) = allowed-rights (s .settings) (blameSet v m) (e .isAllowed) in blaming-keeps v m i (mask-parts (s .settings) m j .0)
   handled-keeps (status h b c m) e =
-      let (i, j) = status-parts (s .settings) h b c m (e .isAllowed) in
+      let (i, j) = allowed-rights (s .settings) (status h b c m) (e .isAllowed) in
       tallied-keeps f (record { view = c; height = h; name = b; mask = m })
       (joinable (s .settings) (record { view = c; height = h; name = b; mask = m }) i (named (status h b c m) (e .fits)) j)

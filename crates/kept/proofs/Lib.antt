@@ -1,6 +1,5 @@
 pub mod Lists
 pub mod WellFormed
-pub mod Allowed
 pub mod Sendable
 pub mod Tallies
 pub mod Statements

@@ -11,8 +11,8 @@ use lib.ListN.{length, getD, set}
 use borrow.Author.Tests.{not-true}
 use Rattle.rules.specs.Lists.{first, any, all, keep, alter, distinct, insert, sorted}
 use Rattle.rules.proofs.Tests.{by-bool, no-bool, no-some}
-use Rattle.kept.specs.Said.{Each}
 use Rattle.rules.proofs.Truths.{and-2, both}
+use Rattle.kept.specs.Said.{Each}
 
 -- ---- a claim of each element, or of every member
 

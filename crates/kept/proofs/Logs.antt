@@ -15,11 +15,11 @@ use Rattle.rules.specs.Words.{Statement, State}
 use Rattle.rules.specs.Inputs.{isBlock, chainTo, chain, merge, commit, commits}
 use Rattle.rules.specs.WellFormed.{linked}
 use Rattle.rules.proofs.Tests.{by-bool, by-option, no-some, eqb-self}
+use Rattle.rules.proofs.Truths.{and-2, and-3, both}
+use Rattle.rules.proofs.Allowed.{genesis-zero}
 use Rattle.kept.specs.Parts.{Formed}
 use Rattle.kept.specs.Said.{Each}
-use Rattle.rules.proofs.Truths.{and-2, and-3, both}
 use Rattle.kept.proofs.Lists.{any-mem, any-find, first-mem, keep-length, keep-fewer, keep-fewer-by}
-use Rattle.kept.proofs.Allowed.{genesis-zero}
 use Rattle.kept.proofs.Tables.{isAbove}
 use Rattle.kept.proofs.Statements.{stored-stated}
 

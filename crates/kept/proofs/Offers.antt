@@ -12,11 +12,11 @@ use Rattle.rules.specs.Sizes.{leader, quorum}
 use Rattle.rules.specs.Messages.{Message, propose, allowed}
 use Rattle.rules.specs.Words.{Statement, ownBlock, voters, State}
 use Rattle.rules.specs.Inputs.{leads, extendable, above, offered}
+use Rattle.rules.proofs.Truths.{and-2}
+use Rattle.rules.proofs.Allowed.{sizes, block-made, mask-made}
 use Rattle.rules.proofs.Offers.{offer-made}
 use Rattle.kept.specs.Parts.{Formed}
 use Rattle.kept.specs.Said.{Sendable}
-use Rattle.rules.proofs.Truths.{and-2}
-use Rattle.kept.proofs.Allowed.{sizes, block-made, mask-made}
 use Rattle.kept.proofs.Sendable.{sendable}
 use Rattle.kept.proofs.Tallies.{voters-mask}
 use Rattle.kept.proofs.Statements.{stored-stated}

@@ -11,11 +11,11 @@ use Rattle.rules.specs.Words.{Statement, State}
 use Rattle.rules.specs.Inputs.{isDue, due, isBlock, reports, withLog}
 use Rattle.rules.specs.WellFormed.{clocksInOrder, lockGood, statementGood, linked}
 use Rattle.rules.proofs.Tests.{by-bool, no-bool}
+use Rattle.rules.proofs.Truths.{and-2}
+use Rattle.rules.proofs.Allowed.{height-le}
 use Rattle.kept.specs.Parts.{Formed}
 use Rattle.kept.specs.Said.{Each, Sayable}
-use Rattle.rules.proofs.Truths.{and-2}
 use Rattle.kept.proofs.Lists.{mem-each, any-find, keep-mem, sorted-mem}
-use Rattle.kept.proofs.Allowed.{height-le}
 use Rattle.kept.proofs.Tables.{isAbove}
 use Rattle.kept.proofs.Statements.{stored-stated}
 use Rattle.kept.proofs.Logs.{block-parts, linked-cons}

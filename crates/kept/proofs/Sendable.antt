@@ -6,18 +6,15 @@ use native.Mathlib.Omega.{arith}
 use mathlib.Core.Bool.{true}
 use mathlib.Core.List.{List, [], _∷_, _++_}
 use mathlib.Core.Option.{none, some}
-use lib.Dec.{leb, ltb, eqb}
 use lib.ListN.{length}
-use borrow.Author.Tests.{ltb-true, leb-true, eqb-true}
 use Rattle.rules.specs.Lists.{unbe}
-use Rattle.rules.specs.Sizes.{Settings, leader}
-use Rattle.rules.specs.Messages.{Message, newView, propose, vote, blame, blameSet, status, InWidth, Fitting, field, width, rowOf, tagsOf, kind, values, writes, write, read, viewAllowed, blockAllowed, maskAllowed, certificateAllowed, allowed}
+use Rattle.rules.specs.Sizes.{Settings}
+use Rattle.rules.specs.Messages.{Message, newView, propose, vote, blame, blameSet, status, InWidth, Fitting, field, width, rowOf, tagsOf, kind, values, writes, write, read, allowed}
 use Rattle.rules.proofs.Bytes.{Bytes, one, pow-pos}
 use Rattle.rules.proofs.Written.{write-eq, writes-cons}
 use Rattle.rules.proofs.ReadBack.{write-read}
+use Rattle.rules.proofs.Allowed.{Sizes, leader-lt, mask-small, view-within, height-le, mask-parts, certificate-mask, certificate-view, allowed-rights}
 use Rattle.kept.specs.Said.{Each, Sendable}
-use Rattle.rules.proofs.Truths.{and-2, and-3, and-5, and-6}
-use Rattle.kept.proofs.Allowed.{Sizes, leader-lt, mask-small, view-within, height-le, mask-parts, certificate-mask, certificate-view}
 
 -- the names in a message are of 32 bytes
 abbrev pub Named : Message → Type 0
@@ -28,73 +25,40 @@ Named (blame v a) = Unit
 Named (blameSet v m) = Unit
 Named (status h b c m) = b < 256 ^ 32
 
--- ---- what allowed says of each kind
-
-module _ (g : Settings) where
-  pub newView-parts : (v h b c m a : ℕ) → allowed g (newView v h b c m a) ≡ true
-      → (viewAllowed v ≡ true) × (blockAllowed h b ≡ true) × (c < v) × (certificateAllowed g h c m ≡ true) × (a ≡ leader g v)
-  unfolding allowed
-  newView-parts v h b c m a e =
-      let t = and-5 (viewAllowed v) (blockAllowed h b) (ltb c v) (certificateAllowed g h c m) (eqb a (leader g v)) e in
-      (t .0, t .1, ltb-true c v (t .2), t .3, eqb-true a (leader g v) (t .4))
-
-  pub propose-parts : (v h b p m a : ℕ) → allowed g (propose v h b p m a) ≡ true
-      → (viewAllowed v ≡ true) × (1 ≤ h) × (blockAllowed h b ≡ true) × (blockAllowed (h - 1) p ≡ true) × (maskAllowed g m ≡ true) × (a ≡ leader g v)
-  unfolding allowed
-  propose-parts v h b p m a e =
-      let t = and-6 (viewAllowed v) (leb 1 h) (blockAllowed h b) (blockAllowed (h - 1) p) (maskAllowed g m) (eqb a (leader g v)) e in
-      (t .0, leb-true 1 h (t .1), t .2, t .3, t .4, eqb-true a (leader g v) (t .5))
-
-  pub vote-parts : (v h b a : ℕ) → allowed g (vote v h b a) ≡ true → (viewAllowed v ≡ true) × (blockAllowed h b ≡ true) × (a < g .n)
-  unfolding allowed
-  vote-parts v h b a e = let t = and-3 (viewAllowed v) (blockAllowed h b) (ltb a (g .n)) e in (t .0, t .1, ltb-true a (g .n) (t .2))
-
-  pub blame-parts : (v a : ℕ) → allowed g (blame v a) ≡ true → (viewAllowed v ≡ true) × (a < g .n)
-  unfolding allowed
-  blame-parts v a e = let t = and-2 (viewAllowed v) (ltb a (g .n)) e in (t .0, ltb-true a (g .n) (t .1))
-
-  pub blameSet-parts : (v m : ℕ) → allowed g (blameSet v m) ≡ true → (viewAllowed v ≡ true) × (maskAllowed g m ≡ true)
-  unfolding allowed
-  blameSet-parts v m e = and-2 (viewAllowed v) (maskAllowed g m) e
-
-  pub status-parts : (h b c m : ℕ) → allowed g (status h b c m) ≡ true → (blockAllowed h b ≡ true) × (certificateAllowed g h c m ≡ true)
-  unfolding allowed
-  status-parts h b c m e = and-2 (blockAllowed h b) (certificateAllowed g h c m) e
-
 -- ---- allowed and named, so fitting
 
 fitting : {g : Settings} → Sizes g → (m : Message) → allowed g m ≡ true → Named m → Fitting m
 unfolding tagsOf rowOf kind values width
 fitting {g} s (newView v h b c m a) e n =
-    let (i, j, k, l, o) = newView-parts g v h b c m a e in
+    let (i, j, k, l, o) = allowed-rights g (newView v h b c m a) e in
     let w = view-within v i in
     let x = height-le h b j in
     let y = mask-small s (certificate-mask g m h c l) in
     let z = leader-lt v s in
     (omega arith, (omega arith, (n, (omega arith, (omega arith, (omega arith, tt))))))
 fitting {g} s (propose v h b p m a) e n =
-    let (i, j, k, l, o, q) = propose-parts g v h b p m a e in
+    let (i, j, k, l, o, q) = allowed-rights g (propose v h b p m a) e in
     let w = view-within v i in
     let x = height-le h b k in
     let y = mask-small s (mask-parts g m o .0) in
     let z = leader-lt v s in
     (omega arith, (omega arith, (n .0, (n .1, (omega arith, (omega arith, tt))))))
 fitting {g} s (vote v h b a) e n =
-    let (i, j, k) = vote-parts g v h b a e in
+    let (i, j, k) = allowed-rights g (vote v h b a) e in
     let w = view-within v i in
     let x = height-le h b j in
     (omega arith, (omega arith, (n, (omega arith, tt))))
 fitting {g} s (blame v a) e n =
-    let (i, j) = blame-parts g v a e in
+    let (i, j) = allowed-rights g (blame v a) e in
     let w = view-within v i in
     (omega arith, (omega arith, tt))
 fitting {g} s (blameSet v m) e n =
-    let (i, j) = blameSet-parts g v m e in
+    let (i, j) = allowed-rights g (blameSet v m) e in
     let w = view-within v i in
     let y = mask-small s (mask-parts g m j .0) in
     (omega arith, (omega arith, tt))
 fitting {g} s (status h b c m) e n =
-    let (i, j) = status-parts g h b c m e in
+    let (i, j) = allowed-rights g (status h b c m) e in
     let w = certificate-view g m h c j in
     let x = height-le h b i in
     let y = mask-small s (certificate-mask g m h c j) in

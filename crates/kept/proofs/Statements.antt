@@ -13,12 +13,12 @@ use Rattle.rules.specs.Words.{Statement, message, sameStatement, Tally, ownBloc
 use Rattle.rules.specs.Inputs.{noted}
 use Rattle.rules.specs.WellFormed.{isName, statementGood, tallyGood, talliesThere}
 use Rattle.rules.proofs.Tests.{by-bool, by-option, no-bool}
+use Rattle.rules.proofs.Truths.{and-4}
+use Rattle.rules.proofs.Allowed.{Sizes, sizes, view-within, view-name, name-lt, lt-name, mask-parts, certificate-mask, allowed-rights}
 use Rattle.kept.specs.Parts.{Formed}
 use Rattle.kept.specs.Said.{Sendable}
-use Rattle.rules.proofs.Truths.{and-4}
 use Rattle.kept.proofs.Lists.{all-mem}
-use Rattle.kept.proofs.Allowed.{Sizes, sizes, view-within, view-name, name-lt, lt-name, mask-parts, certificate-mask}
-use Rattle.kept.proofs.Sendable.{named, sendable, newView-parts, propose-parts}
+use Rattle.kept.proofs.Sendable.{named, sendable}
 use Rattle.kept.proofs.Tallies.{Joinable, joinable, tally-made}
 
 pub record Stated (g : Settings) (x : Statement) : Type 0 where
@@ -36,7 +36,7 @@ module _ (g : Settings) (x : Statement) (e : Sendable g (message x)) where
   newView-stated : x .isNewView ≡ true → Stated g x
   unfolding message certificate
   newView-stated k =
-      let (v, b, c, d, a) = newView-parts g (x .view) (x .height) (x .name) (x .link) (x .mask) (x .author) (rw (k, message) at (e .isAllowed)) in
+      let (v, b, c, d, a) = allowed-rights g (newView (x .view) (x .height) (x .name) (x .link) (x .mask) (x .author)) (rw (k, message) at (e .isAllowed)) in
       let n = named (newView (x .view) (x .height) (x .name) (x .link) (x .mask) (x .author)) (rw (k, message) at (e .fits)) in
       let w = view-within (x .view) v in
       record {
@@ -53,7 +53,7 @@ module _ (g : Settings) (x : Statement) (e : Sendable g (message x)) where
   propose-stated : x .isNewView ≡ false → Stated g x
   unfolding message certificate
   propose-stated k =
-      let (v, h, b, c, m, a) = propose-parts g (x .view) (x .height) (x .name) (x .link) (x .mask) (x .author) (rw (k, message) at (e .isAllowed)) in
+      let (v, h, b, c, m, a) = allowed-rights g (propose (x .view) (x .height) (x .name) (x .link) (x .mask) (x .author)) (rw (k, message) at (e .isAllowed)) in
       let n = named (propose (x .view) (x .height) (x .name) (x .link) (x .mask) (x .author)) (rw (k, message) at (e .fits)) in
       record {
         view = v;

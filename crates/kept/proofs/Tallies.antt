@@ -15,7 +15,7 @@ use Rattle.rules.specs.WellFormed.{isName, isMask, lockGood, tallyGood}
 use Rattle.rules.proofs.Tests.{by-bool, no-bool, eqb-self}
 use Rattle.rules.proofs.Masks.{joined-lt}
 use Rattle.rules.proofs.Truths.{and-2, and-3, and-4, both, eqb-sym}
-use Rattle.kept.proofs.Allowed.{view-within, name-lt, lt-name, mask-lt, lt-mask, none-lt, mask-parts, mask-made, certificate-cases, certificate-made, within-view}
+use Rattle.rules.proofs.Allowed.{view-within, name-lt, lt-name, mask-lt, lt-mask, none-lt, mask-parts, mask-made, certificate-cases, certificate-made, within-view}
 
 -- ---- one tally
 

@@ -15,12 +15,12 @@ use Rattle.rules.specs.Words.{Statement, message, highest, Phase, inView, waiti
 use Rattle.rules.specs.Inputs.{Work, saying, _▸_, withClock, withLog, isIn, blamesOf, blameFull, leads, due, commits, logging, overdue, complain, leadsNow, ownNewView, lead, entersNow, nextLock, report, entering, entered, current, pair, inOrder, votingAll, arrive, enter, ticked}
 use Rattle.rules.specs.WellFormed.{linked}
 use Rattle.rules.proofs.Tests.{by-bool, by-option, no-bool}
+use Rattle.rules.proofs.Truths.{and-2, both}
 use Rattle.rules.proofs.Statements.{pair-some, mem-order}
+use Rattle.rules.proofs.Allowed.{sizes, leader-lt, only-lt, view-within}
 use Rattle.kept.specs.Parts.{Formed}
 use Rattle.kept.specs.Said.{Each, Sendable, Sayable}
-use Rattle.rules.proofs.Truths.{and-2, both}
 use Rattle.kept.proofs.Lists.{mem-each, keep-mem}
-use Rattle.kept.proofs.Allowed.{sizes, leader-lt, only-lt, view-within}
 use Rattle.kept.proofs.Sendable.{sendable}
 use Rattle.kept.proofs.Tallies.{Certificate, highest-good}
 use Rattle.kept.proofs.Statements.{stored-said}

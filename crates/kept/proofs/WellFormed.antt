@@ -14,9 +14,9 @@ use Rattle.rules.specs.Sizes.{Settings, goodSettings}
 use Rattle.rules.specs.Messages.{viewAllowed}
 use Rattle.rules.specs.Words.{sameStatement, sameBlock, State, fresh}
 use Rattle.rules.specs.WellFormed.{isMask, clocksInOrder, lockGood, statementGood, tallyGood, talliesThere, blamesGood, linked, wellFormed}
+use Rattle.rules.proofs.Truths.{and-2, both}
 use Rattle.kept.specs.Parts.{WellFormed}
 use Rattle.kept.specs.Said.{Each}
-use Rattle.rules.proofs.Truths.{and-2, both}
 
 -- a test and more
 every : Bool → List Bool → Bool

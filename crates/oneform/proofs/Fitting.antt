@@ -15,13 +15,13 @@ use Rattle.rules.specs.Words.{Statement, Tally, Phase, inView, waiting, stopped
 use Rattle.rules.specs.Inputs.{isBlock}
 use Rattle.rules.specs.WellFormed.{isMask, blamesGood, linked, wellFormed}
 use Rattle.rules.proofs.Tests.{no-bool, and-left}
+use Rattle.rules.proofs.Truths.{and-3}
+use Rattle.rules.proofs.Allowed.{Sizes, mask-lt, mask-small}
 use Rattle.fields.specs.Records.{Fit}
 use Rattle.kept.specs.Parts.{WellFormed, Formed}
 use Rattle.kept.proofs.WellFormed.{parts}
-use Rattle.rules.proofs.Truths.{and-3}
 use Rattle.kept.proofs.Tables.{isAbove}
 use Rattle.kept.proofs.Lists.{all-mem, any-find}
-use Rattle.kept.proofs.Allowed.{Sizes, mask-lt, mask-small}
 use Rattle.kept.proofs.Logs.{block-parts, linked-cons}
 use Rattle.kept.proofs.Facts.{sizes-of, clocks-of, view-of, lock-of, statement-of, statement-limits, vote-clock, tally-of, tally-limits, lock-limits, log-length}
 use Rattle.store.specs.Layout.{headerFormat, statementFormat, tallyFormat, maskFormat, nameFormat}

@@ -20,7 +20,7 @@ use Rattle.rules.proofs.Truths.{and-2}
 use Rattle.rules.proofs.Searches.{All, all-append, all-map, to-all, mem-keep, first-mem}
 use Rattle.rules.proofs.Statements.{like, same-refl, In, mem-in, in-cong, in-append, in-last, in-noted, pair-some, mem-order}
 use Rattle.rules.proofs.Tallies.{only-bit, same-block, voters-joined}
-use Rattle.rules.proofs.Allowed.{view-range, mask-facts, allowed-rights}
+use Rattle.rules.proofs.Allowed.{view-within, mask-parts, allowed-rights}
 use Rattle.rules.proofs.Moves.{Outside, arrived, fillsNow, Move, joins, stores, passes, casts, clashes, accuses, fills, complains, entersFull, entersPair, enters, Moves, here, more, voting-low, voting-high}
 use Rattle.rules.proofs.Kept.{blamed-here, quorum-right, moves-fixed, Kept, move-kept, moves-kept, voted-kept, votingAll-kept}
 
@@ -107,12 +107,12 @@ handled-held : (m : Message) (s : State) → allowed (s .settings) m ≡ true �
 unfolding handled
 handled-held (newView v h b c m a) s w l = statement-held (read-as true v h b c m a) s
 handled-held (propose v h b p m a) s w l = statement-held (read-as false v h b p m a) s
-handled-held (vote v h b a) s w l = tallied-held v h b a s (view-range v (allowed-rights (s .settings) (vote v h b a) w .0) .0)
+handled-held (vote v h b a) s w l = tallied-held v h b a s (view-within v (allowed-rights (s .settings) (vote v h b a) w .0) .0)
 handled-held (blame v a) s w l = tt
 handled-held (blameSet v m) s w l =
     let r = allowed-rights (s .settings) (blameSet v m) w in
-    let k = view-range v (r .0) .1 in
-    blaming-held (s .settings) v m s (omega arith) (mask-facts (s .settings) m (r .1) .1)
+    let k = view-within v (r .0) .1 in
+    blaming-held (s .settings) v m s (omega arith) (mask-parts (s .settings) m (r .1) .1)
 handled-held (status h b c m) s w l = tt
 
 pub step-held : (bs : List ℕ) (m : Message) (s : State) → running s ≡ true → read bs ≡ some m → allowed (s .settings) m ≡ true

@@ -15,9 +15,9 @@ use Rattle.rules.specs.Words.{State}
 use Rattle.rules.specs.Refusals.{Outcome, refused, running}
 use Rattle.rules.specs.WellFormed.{wellFormed}
 use Rattle.rules.proofs.Tests.{by-bool, and-left}
+use Rattle.rules.proofs.Truths.{and-2, both}
 use Rattle.fields.specs.Places.{Bytes}
 use Rattle.fields.specs.Records.{fields}
-use Rattle.rules.proofs.Truths.{and-2, both}
 use Rattle.store.specs.Layout.{headerFormat, storeLength}
 use Rattle.store.specs.Decode.{stateOf, hasForm, Form}
 use Rattle.store.specs.Meaning.{courseOf, headerOf}

@@ -17,16 +17,16 @@ use Rattle.rules.specs.Words.{State}
 use Rattle.rules.specs.Inputs.{statement, tallied, blaming, handled}
 use Rattle.rules.specs.Refusals.{refused, ifRoom, running, step}
 use Rattle.rules.proofs.Bytes as rules
+use Rattle.rules.proofs.Allowed.{only-lt, mask-parts, allowed-rights}
 use Rattle.fields.specs.Places.{Bytes}
 use Rattle.fields.specs.Records.{fields}
 use Rattle.fields.specs.Names.{nameOf}
 use Rattle.fields.specs.declared.Name.{Name}
 use Rattle.settings.specs.Made.{settingsOf}
 use Rattle.kept.specs.Said.{Sendable}
-use Rattle.kept.proofs.Allowed.{only-lt, mask-parts}
 use Rattle.kept.proofs.Facts.{sizes-of}
 use Rattle.kept.proofs.Outs.{step-room}
-use Rattle.kept.proofs.Sendable.{read-sendable, vote-parts, blame-parts, blameSet-parts}
+use Rattle.kept.proofs.Sendable.{read-sendable}
 use Rattle.wire.specs.Meaning.{statementOf, messageOf, readOf}
 use Rattle.wire.specs.declared.Statement as code
 use Rattle.wire.specs.declared.Message.{Message}
@@ -112,17 +112,17 @@ module _ {b : List ℕ} (f : Formed b) {m : Message} (d : Sendable (stateOf b .s
 
   pub vote-author : {v h a : ℕ} {n : Name} → m ≡ Vote v h n a → a < mostStations
   unfolding messageOf
-  vote-author {v} {h} {a} {n} e = omega (arith, vote-parts (stateOf b .settings) v h (nameOf n) a (allowed-as e) .2, sizes-of (formed-parts f .formed) .most)
+  vote-author {v} {h} {a} {n} e = omega (arith, allowed-rights (stateOf b .settings) (messages.vote v h (nameOf n) a) (allowed-as e) .2, sizes-of (formed-parts f .formed) .most)
 
   pub blame-author : {v a : ℕ} → m ≡ Blame v a → (viewAllowed v ≡ true) × (a < mostStations) × (only a < 2 ^ stateOf b .settings .n)
   unfolding messageOf
   blame-author {v} {a} e =
-      let t = blame-parts (stateOf b .settings) v a (allowed-as e) in
+      let t = allowed-rights (stateOf b .settings) (messages.blame v a) (allowed-as e) in
       (t .0, omega (arith, t .1, sizes-of (formed-parts f .formed) .most), only-lt (stateOf b .settings) a (t .1))
 
   pub set-mask : {v k : ℕ} → m ≡ BlameSet v k → (viewAllowed v ≡ true) × (k < 2 ^ stateOf b .settings .n)
   unfolding messageOf
-  set-mask {v} {k} e = let t = blameSet-parts (stateOf b .settings) v k (allowed-as e) in (t .0, mask-parts (stateOf b .settings) k (t .1) .0)
+  set-mask {v} {k} e = let t = allowed-rights (stateOf b .settings) (messages.blameSet v k) (allowed-as e) in (t .0, mask-parts (stateOf b .settings) k (t .1) .0)
 
 -- ---- the call
 

@@ -11,6 +11,7 @@ use Rattle.rules.specs.Messages.{Effect, toOne, status, effect, outgoing}
 use Rattle.rules.specs.Words.{Tally, highest, State}
 use Rattle.rules.specs.Inputs.{saying, entering, nextLock, report, entered}
 use Rattle.rules.proofs.Tests.{by-bool}
+use Rattle.rules.proofs.Allowed.{leader-lt}
 use Rattle.wire.specs.Wrote.{Says}
 use Rattle.wire.proofs.Writing.{says-none, says-one}
 use Rattle.fields.specs.Names.{nameOf}
@@ -22,7 +23,6 @@ use Rattle.store.specs.Meaning.{tallyOf, headerOf}
 use Rattle.store.specs.declared.Station.{Station}
 use Rattle.store.specs.declared.Tally as code
 use Rattle.store.proofs.Loaded.{loaded-settings, loaded-view}
-use Rattle.kept.proofs.Allowed.{leader-lt}
 use Rattle.kept.proofs.Facts.{sizes-of}
 use Rattle.kept.proofs.Lengths.{size, weight, length-effect, bytes-cons, bytes-none}
 use Rattle.acts.specs.Works.{Formed, Works}

@@ -13,6 +13,8 @@ use Rattle.rules.specs.Words as words
 use Rattle.rules.specs.Words.{message, highest, State}
 use Rattle.rules.specs.Inputs.{Work, saying, statement, handled, leads, leadsNow, ownNewView, lead}
 use Rattle.rules.specs.Refusals.{hasRoom}
+use Rattle.rules.proofs.Truths.{and-2, both}
+use Rattle.rules.proofs.Allowed.{view-within}
 use Rattle.fields.specs.Names.{nameOf}
 use Rattle.fields.specs.Records.{fields}
 use Rattle.fields.specs.declared.Name.{Name}
@@ -26,8 +28,6 @@ use Rattle.store.specs.declared.Tally.{Tally}
 use Rattle.store.proofs.Loaded.{loaded-view}
 use Rattle.kept.specs.Said.{Sendable}
 use Rattle.kept.specs.Parts as kept
-use Rattle.rules.proofs.Truths.{and-2, both}
-use Rattle.kept.proofs.Allowed.{view-within}
 use Rattle.kept.proofs.Facts.{sizes-of}
 use Rattle.kept.proofs.Sendable.{sendable}
 use Rattle.kept.proofs.Tallies.{highest-good}

@@ -16,6 +16,7 @@ use Rattle.rules.specs.Words as words
 use Rattle.rules.specs.Words.{State, inView, waiting, stopped}
 use Rattle.rules.specs.Inputs.{isIn, leads, blamesOf, votes, overdue, leadsNow, entersNow}
 use Rattle.rules.proofs.Tests.{by-bool}
+use Rattle.rules.proofs.Allowed.{view-within}
 use Rattle.fields.specs.Records.{fields}
 use Rattle.settings.specs.Made.{settingsOf}
 use Rattle.store.specs.Layout.{headerFormat}
@@ -26,7 +27,6 @@ use Rattle.store.specs.declared.Phase.{Phase}
 use Rattle.store.specs.declared.Phase.the-variants.{InView, Waiting, Stopped}
 use Rattle.store.proofs.Loaded.{loaded-settings, loaded-phase, loaded-view, loaded-entry, loaded-clock}
 use Rattle.kept.proofs.Lists.{keep-length}
-use Rattle.kept.proofs.Allowed.{view-within}
 use Rattle.kept.proofs.Facts.{sizes-of, clocks-of}
 use Rattle.acts.specs.Works.{Formed}
 use Rattle.acts.proofs.Works.{formed-parts}

@@ -16,10 +16,10 @@ use Rattle.rules.specs.Inputs.{Work, saying, _▸_, withPhase, withTables, with
 use Rattle.rules.specs.Refusals.{hasRoom}
 use Rattle.rules.specs.WellFormed.{talliesThere, linked}
 use Rattle.rules.proofs.Tests.{by-bool, by-option}
+use Rattle.rules.proofs.Truths.{and-2, and-3}
 use Rattle.search.specs.Lookups.{turn}
 use Rattle.kept.specs.Parts.{Formed}
 use Rattle.kept.specs.Said.{Each}
-use Rattle.rules.proofs.Truths.{and-2, and-3}
 use Rattle.kept.proofs.Lists.{mem-each, all-mem, keep-mem, sorted-mem}
 use Rattle.kept.proofs.Tallies.{join-any}
 use Rattle.kept.proofs.Ticks.{logging-keeps, complain-keeps, lead-keeps}

@@ -1,7 +1,7 @@
 -- `acts::blame_full` meets its contract. Assumes nothing.
+use Rattle.rules.proofs.Allowed.{view-within}
 use Rattle.acts.proofs.Stores.{blame-quorum}
 use Rattle.store.proofs.Forms.{form-long}
-use Rattle.kept.proofs.Allowed.{view-within}
 use Rattle.rules.specs.Sizes.{quorum}
 use Rattle.settings.specs.Made.{settingsOf}
 use native.Mathlib.Omega.{arith}

@@ -1,9 +1,9 @@
 -- `acts::blaming` meets its contract. Assumes nothing.
+use Rattle.rules.proofs.Allowed.{view-within}
 use Rattle.store.specs.Decode.{stateOf}
 use Rattle.acts.proofs.Blames.{goes-on-outside, goes-on-with-few, quits-with-set}
 use Rattle.acts.proofs.Works.{formed-parts, left-formed}
 use Rattle.kept.proofs.Blames.{blamed-formed}
-use Rattle.kept.proofs.Allowed.{view-within}
 use borrow.Author.Tests.{not-true, not-false}
 use mathlib.Core.Path.{sym, _∙_}
 use borrow.Author.Needs.{needs}

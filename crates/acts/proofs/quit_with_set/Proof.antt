@@ -1,7 +1,7 @@
 -- `acts::quit_with_set` meets its contract. Assumes nothing.
+use Rattle.rules.proofs.Allowed.{view-within}
 use Rattle.acts.proofs.Works.{set-bytes, works-quit}
 use Rattle.acts.proofs.Stores.{blame-place}
-use Rattle.kept.proofs.Allowed.{view-within}
 use Rattle.store.proofs.Forms.{form-long}
 use Rattle.store.specs.Decode.{stateOf}
 use Rattle.wire.proofs.Writing.{says-one}

@@ -1,4 +1,5 @@
 -- `turns::complain` meets its contract: the blame is said, then joined. Assumes nothing.
+use Rattle.rules.proofs.Allowed.{only-lt}
 use Rattle.wire.specs.Meaning.{messageOf}
 use Rattle.turns.proofs.Parts.{works-still, complain-calm, blame-bytes, complained}
 use Rattle.turns.proofs.Moments.{view-of-loaded}
@@ -7,7 +8,6 @@ use borrow.Author.Tests.{not-true, not-false}
 use native.Mathlib.Omega.{arith}
 use mathlib.Core.Path.{sym, ap, _∙_}
 use Rattle.acts.proofs.Votes.{loaded-own, own-small, only-small}
-use Rattle.kept.proofs.Allowed.{only-lt}
 use Rattle.kept.proofs.Facts.{sizes-of}
 use Rattle.acts.proofs.Works.{formed-parts}
 use Rattle.store.specs.Decode.{stateOf}
