@@ -7,8 +7,8 @@ use lib.ListN.{length}
 use Rattle.rules.specs.Messages.{Effect, toAll, blameSet, vote, effect, outgoing}
 use Rattle.rules.specs.Words.{Statement, message, State}
 use Rattle.rules.specs.Inputs.{Work, saying, _▸_, quit}
-use Rattle.wire.specs.Wrote.{Says}
-use Rattle.wire.proofs.Writing.{says-none, says-both, says-one, says-length, says-outgoing}
+use Rattle.outgoing.specs.Wrote.{Says}
+use Rattle.outgoing.proofs.Writing.{says-none, says-both, says-one, says-length, says-outgoing}
 use Rattle.store.specs.Layout.{statementTable, tallyTable, countOf}
 use Rattle.store.specs.Decode.{statementAt, tallyAt, statements, tallies, stateFrom, stateOf, Left}
 use Rattle.store.proofs.Rows.{rows-length}

@@ -6,7 +6,7 @@ use mathlib.Core.List.{List}
 use Rattle.rules.specs.Messages.{outgoing}
 use Rattle.rules.specs.Inputs.{Work}
 use Rattle.rules.specs.WellFormed.{wellFormed}
-use Rattle.wire.specs.Wrote.{Says}
+use Rattle.outgoing.specs.Wrote.{Says}
 use Rattle.store.specs.Decode.{stateOf, Form, Left}
 
 -- a store that has the form and holds a well-formed state

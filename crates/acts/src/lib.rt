@@ -10,7 +10,7 @@ ghost use Rattle.rules.specs.Words.{message as said, join, joinCertificate};
 ghost use Rattle.rules.specs.Inputs as inputs;
 ghost use Rattle.rules.specs.Refusals.{hasRoom};
 ghost use Rattle.wire.specs.Meaning.{statementOf, messageOf, Writable, Linked};
-ghost use Rattle.wire.specs.Wrote.{Says};
+ghost use Rattle.outgoing.specs.Wrote.{Says};
 ghost use Rattle.store.specs.Layout.{tallyTable, countOf};
 ghost use Rattle.store.specs.Decode.{stateOf, tallies, Form, Left};
 ghost use Rattle.store.specs.Meaning.{tallyOf};
@@ -53,8 +53,8 @@ fn send_both(out: &mut [u8], at: usize, first: Message, second: Message) -> usiz
     requires { ⌜ (Writable first) × (Writable second) × (at + length (outgoing (toAll (messageOf first) ∷ toAll (messageOf second) ∷ [])) ≤ length (now out)) ⌝ }
     ensures { λ r. ⌜ Says (now (out .entry)) at (outgoing (toAll (messageOf first) ∷ toAll (messageOf second) ∷ [])) (now (out .exit)) r ⌝ }
 {
-    let next = wire::to_all(out, at, first);
-    wire::to_all(out, next, second)
+    let next = outgoing::to_all(out, at, first);
+    outgoing::to_all(out, next, second)
 }
 
 // Whether the blame mask of a view is full.
@@ -75,7 +75,7 @@ pub fn quit_with_set(store: &mut [u8], out: &mut [u8], at: usize, view: u32) -> 
 {
     let held = store::blame_at(store, view as usize - 1);
     quit(store);
-    wire::to_all(out, at, Message::BlameSet { view, mask: held })
+    outgoing::to_all(out, at, Message::BlameSet { view, mask: held })
 }
 
 // A mask joins the blames of a view; at f+1, while the station is in that view, it sends the set and quits.

@@ -14,7 +14,7 @@ use Rattle.fields.specs.Names.{nameOf}
 use Rattle.fields.specs.Places.{Bytes, number}
 use Rattle.fields.proofs.Laws.{number-lt, number-split}
 use Rattle.fields.proofs.Differ.{digit-high, digit-low}
-use Rattle.wire.proofs.Tests.{same-iff}
+use Rattle.allowed.proofs.Tests.{same-iff}
 use Rattle.wire.specs.Meaning.{statementOf}
 use Rattle.wire.specs.declared.Statement.{Statement}
 use Rattle.store.specs.Layout.{statementTable, tallyTable, placeOf}

@@ -5,8 +5,8 @@ ghost use Rattle.rules.specs.WellFormed.{blamesGood};
 ghost use Rattle.settings.specs.Made.{settingsOf};
 ghost use Rattle.store.specs.Layout.{storeLength};
 ghost use Rattle.store.specs.Decode.{blames};
+use allowed::clauses;
 use settings::Settings;
-use wire::clauses;
 
 // Whether every blame mask is of these stations.
 pub fn all_good(store: &[u8], settings: Settings) -> bool

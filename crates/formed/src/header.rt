@@ -7,11 +7,11 @@ ghost use Rattle.rules.specs.WellFormed.{clocksInOrder, lockGood};
 ghost use Rattle.settings.specs.Made.{settingsOf};
 ghost use Rattle.store.specs.Meaning.{courseOf};
 ghost use Rattle.formed.specs.Lent.{alone, phaseInOrder};
+use allowed::clauses;
 use settings::Made;
 use settings::Settings;
 use store::Phase;
 use store::Station;
-use wire::clauses;
 
 // Whether the settings are in range.
 fn settings_good(settings: Settings) -> bool

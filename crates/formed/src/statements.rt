@@ -33,7 +33,7 @@ fn statement_good(store: &[u8], station: Station, i: usize) -> bool
     let settings = station.settings;
     let statement = store::statement_at(store, i);
     let vote = store::voted_at(store, i);
-    wire::statement_allowed(settings, statement) & vote_in_order(vote, station.clock)
+    allowed::statement_allowed(settings, statement) & vote_in_order(vote, station.clock)
 }
 
 // Whether every statement is good.

@@ -12,10 +12,10 @@ ghost use Rattle.formed.specs.Lent.{Counts, bare, Certifies, AllCertify}
 use super::TALLIES;
 use super::TALLY_SIZE;
 use super::records::begins;
+use allowed::clauses;
 use settings::Settings;
 use store::Tally;
 use wire::Statement;
-use wire::clauses;
 
 // Whether a tally is of a view and a block that are allowed, with a mask of these stations.
 fn tally_good(settings: Settings, tally: Tally) -> bool

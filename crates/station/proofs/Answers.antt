@@ -9,8 +9,8 @@ use Rattle.rules.specs.Messages.{outgoing}
 use Rattle.rules.specs.Words.{State, full, stopped}
 use Rattle.rules.specs.Inputs.{withPhase}
 use Rattle.rules.specs.Refusals.{Outcome, refused, stopping, result}
-use Rattle.wire.specs.Wrote.{wrote}
-use Rattle.wire.proofs.Writing.{wrote-prefix}
+use Rattle.outgoing.specs.Wrote.{wrote}
+use Rattle.outgoing.proofs.Writing.{wrote-prefix}
 use Rattle.store.specs.Decode.{stateOf, Form, Left}
 use Rattle.store.proofs.OneForm.{left-bytes}
 use Rattle.calls.specs.Calls.{answered, Gives}

@@ -28,7 +28,7 @@ use Rattle.kept.proofs.Offers.{offered-sendable}
 use Rattle.wire.specs.Meaning.{statementOf, messageOf}
 use Rattle.wire.specs.declared.Statement as code
 use Rattle.wire.specs.declared.Message.the-variants.{Stated}
-use Rattle.wire.proofs.Tests.{propose-said}
+use Rattle.wire.proofs.Statements.{propose-said}
 use Rattle.wire.proofs.Reading.{be-number}
 use Rattle.store.specs.Layout.{headerFormat, statementTable, countOf}
 use Rattle.store.specs.Decode.{statementAt, statements, tallies, stateFrom, stateOf}

@@ -9,7 +9,7 @@ use Rattle.rules.specs.Limits.{leastOut}
 use Rattle.rules.specs.Messages.{outgoing}
 use Rattle.rules.specs.Refusals.{Outcome, running, result}
 use Rattle.rules.specs.WellFormed.{wellFormed}
-use Rattle.wire.specs.Wrote.{wrote}
+use Rattle.outgoing.specs.Wrote.{wrote}
 use Rattle.store.specs.Layout.{storeLength}
 use Rattle.store.specs.Decode.{stateOf, hasForm, Left}
 

@@ -61,7 +61,7 @@ pub extern "C" fn station_step(store: &mut [u8], message: &[u8], out: &mut [u8])
         return refuse(4);
     };
     let station = Station::load(store);
-    if !wire::allowed(station.settings, m) {
+    if !allowed::message_allowed(station.settings, m) {
         return refuse(5);
     }
     handled(store, out, m)

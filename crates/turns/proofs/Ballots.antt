@@ -14,7 +14,7 @@ use Rattle.rules.specs.Inputs.{Work, saying, _▸_, withTables, belowLock, note
 use Rattle.rules.proofs.Tests.{by-bool}
 use Rattle.wire.specs.Meaning.{statementOf}
 use Rattle.wire.specs.declared.Statement as code
-use Rattle.wire.proofs.Writing.{says-length}
+use Rattle.outgoing.proofs.Writing.{says-length}
 use Rattle.store.specs.Layout.{statementTable, countOf}
 use Rattle.store.specs.Decode.{rows, statementAt, statements, stateFrom, stateOf}
 use Rattle.store.proofs.Rows.{rows-length, rows-at, rows-from}

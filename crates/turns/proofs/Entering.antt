@@ -12,8 +12,8 @@ use Rattle.rules.specs.Words.{Tally, highest, State}
 use Rattle.rules.specs.Inputs.{saying, entering, nextLock, report, entered}
 use Rattle.rules.proofs.Tests.{by-bool}
 use Rattle.rules.proofs.Allowed.{leader-lt}
-use Rattle.wire.specs.Wrote.{Says}
-use Rattle.wire.proofs.Writing.{says-none, says-one}
+use Rattle.outgoing.specs.Wrote.{Says}
+use Rattle.outgoing.proofs.Writing.{says-none, says-one}
 use Rattle.fields.specs.Names.{nameOf}
 use Rattle.fields.specs.Records.{fields}
 use Rattle.settings.specs.Made.{settingsOf}

@@ -12,9 +12,9 @@ use Rattle.rules.specs.Words.{Statement, State}
 use Rattle.rules.specs.Inputs.{saying, withClock, withLog, reports, logging}
 use Rattle.fields.specs.Names.{nameOf}
 use Rattle.wire.specs.Meaning.{statementOf}
-use Rattle.wire.specs.Wrote.{Says}
+use Rattle.outgoing.specs.Wrote.{Says}
 use Rattle.wire.specs.declared.Statement as code
-use Rattle.wire.proofs.Writing.{says-none, says-one, says-outgoing}
+use Rattle.outgoing.proofs.Writing.{says-none, says-one, says-outgoing}
 use Rattle.store.specs.Layout.{statementTable, logTable, countOf}
 use Rattle.store.specs.Decode.{rows, statementAt, nameAt, statements, names, stateFrom, stateOf, Form, Left}
 use Rattle.store.specs.Changes.{appending}

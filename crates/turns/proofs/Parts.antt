@@ -8,8 +8,8 @@ use Rattle.rules.specs.Sizes.{only}
 use Rattle.rules.specs.Messages.{Effect, toAll, blame, effect}
 use Rattle.rules.specs.Words.{State}
 use Rattle.rules.specs.Inputs.{Work, saying, _▸_, blaming, overdue, complain}
-use Rattle.wire.proofs.Writing.{says-outgoing, says-one}
-use Rattle.wire.specs.Wrote.{Says}
+use Rattle.outgoing.proofs.Writing.{says-outgoing, says-one}
+use Rattle.outgoing.specs.Wrote.{Says}
 use Rattle.store.specs.Decode.{stateOf, Form, Left}
 use Rattle.kept.proofs.Lengths.{size, weight, length-effect}
 use Rattle.acts.specs.Works.{Works}

@@ -67,7 +67,7 @@ pub fn complain(store: &mut [u8], out: &mut [u8], at: usize) -> usize
         view: station.view,
         author: own as u8,
     };
-    let next = wire::to_all(out, at, blame);
+    let next = outgoing::to_all(out, at, blame);
     acts::blaming(store, out, next, station.view, settings::only(own) as u16)
 }
 
@@ -193,7 +193,7 @@ fn entered(store: &mut [u8], out: &mut [u8], at: usize) -> usize
         cert: lock.view,
         mask: lock.mask,
     };
-    wire::to_one(out, at, to as u8, status)
+    outgoing::to_one(out, at, to as u8, status)
 }
 
 // The log grows by the names of the statements whose places stand in a table, each reported.
@@ -208,7 +208,7 @@ pub fn logging(store: &mut [u8], out: &mut [u8], at: usize, gained: &[u8], len: 
         let x = store::statement_at(store, gained[k] as usize);
         let name = x.name;
         store::append_name(store, name);
-        next = wire::committed(out, next, (k + 1) as u32, name);
+        next = outgoing::committed(out, next, (k + 1) as u32, name);
         k += 1;
     }
     next

@@ -4,7 +4,7 @@ use Rattle.acts.proofs.Works.{set-bytes, works-quit}
 use Rattle.acts.proofs.Stores.{blame-place}
 use Rattle.store.proofs.Forms.{form-long}
 use Rattle.store.specs.Decode.{stateOf}
-use Rattle.wire.proofs.Writing.{says-one}
+use Rattle.outgoing.proofs.Writing.{says-one}
 use Rattle.wire.specs.Meaning.{messageOf}
 use Rattle.rules.specs.Inputs.{blamesOf}
 use Rattle.rules.specs.Messages.{toAll, blameSet}

@@ -1,6 +1,6 @@
 -- `acts::send_both` meets its contract. Assumes nothing.
 use Rattle.acts.proofs.Works.{two-lengths, says-two}
-use Rattle.wire.proofs.Writing.{says-length}
+use Rattle.outgoing.proofs.Writing.{says-length}
 use Rattle.wire.specs.Meaning.{messageOf}
 use Rattle.rules.specs.Messages.{toAll}
 use native.Mathlib.Omega.{arith}

@@ -53,8 +53,8 @@ load-requires c κs =
     let a = c .before .before .before .before .before .before .before .before .before .before .before .before .args in
     step-long (a .message .now) (a .store .now) (a .out .now) (c .before .before .before .before .before .before .before .before .before .before .before .slice-known .given) (c .before .before .before .before .before .before .barred .ensures) (c .before .before .before .before .before .if1 .left)
 
-allowed-requires : tie.Need-allowed-requires
-allowed-requires c κs = search needs
+message-allowed-requires : tie.Need-message-allowed-requires
+message-allowed-requires c κs = search needs
 
 refuse-requires-3 : tie.Need-refuse-requires-3
 refuse-requires-3 c κs = search needs
@@ -68,7 +68,7 @@ same-length-6 c = search needs
 returns-3 : tie.Need-returns-3
 returns-3 c =
     let a = c .before .before .before .before .before .before .before .before .before .before .before .before .before .before .before .before .args in
-    forbidden-step (a .message .now) (a .store .now) (a .out .now) (c .before .before .before .before .before .before .before .before .before .before .before .before .before .before .before .slice-known .given) (c .before .before .before .before .before .before .before .before .before .before .barred .ensures) (c .before .before .before .before .before .before .before .before .before .if1 .left) (c .before .before .before .before .before .before .before .before .read-message .ensures) (c .before .before .before .before .before .before .m .given .1) (c .before .before .before .load .result) (c .before .before .before .load .ensures) (c .before .before .allowed .ensures) (c .before .if2 .taken) (c .refuse3 .ensures)
+    forbidden-step (a .message .now) (a .store .now) (a .out .now) (c .before .before .before .before .before .before .before .before .before .before .before .before .before .before .before .slice-known .given) (c .before .before .before .before .before .before .before .before .before .before .barred .ensures) (c .before .before .before .before .before .before .before .before .before .if1 .left) (c .before .before .before .before .before .before .before .before .read-message .ensures) (c .before .before .before .before .before .before .m .given .1) (c .before .before .before .load .result) (c .before .before .before .load .ensures) (c .before .before .message-allowed .ensures) (c .before .if2 .taken) (c .refuse3 .ensures)
 
 handled-requires : tie.Need-handled-requires
 handled-requires c κs =
@@ -76,7 +76,7 @@ handled-requires c κs =
     let k = c .before .before .before .before .before .before .before .before .before .before .before .before .before .before .before .before .slice-known .given in
     let e = c .before .before .before .before .before .before .before .before .before .before .before .barred .ensures in
     let z = c .before .before .before .before .before .before .before .before .before .before .if1 .left in
-    (step-formed (a .message .now) (a .store .now) (a .out .now) k e z, read-may (a .message .now) (a .store .now) (a .out .now) k e z (c .before .before .before .before .before .before .before .before .before .read-message .ensures) (c .before .before .before .before .before .before .before .m .given .1) (c .before .before .before .before .load .result) (c .before .before .before .before .load .ensures) (c .before .before .before .allowed .ensures) (c .before .before .if2 .left) (c .before .before .before .before .before .before .before .before .before .before .before .before .before .before .before .shared-slice-known .given), step-out (a .message .now) (a .store .now) (a .out .now) k e z)
+    (step-formed (a .message .now) (a .store .now) (a .out .now) k e z, read-may (a .message .now) (a .store .now) (a .out .now) k e z (c .before .before .before .before .before .before .before .before .before .read-message .ensures) (c .before .before .before .before .before .before .before .m .given .1) (c .before .before .before .before .load .result) (c .before .before .before .before .load .ensures) (c .before .before .before .message-allowed .ensures) (c .before .before .if2 .left) (c .before .before .before .before .before .before .before .before .before .before .before .before .before .before .before .shared-slice-known .given), step-out (a .message .now) (a .store .now) (a .out .now) k e z)
 
 same-length-7 : tie.Need-same-length-7
 same-length-7 c = search needs
@@ -87,7 +87,7 @@ same-length-8 c = search needs
 returns-4 : tie.Need-returns-4
 returns-4 c =
     let a = c .before .before .before .before .before .before .before .before .before .before .before .before .before .before .before .before .before .before .before .before .before .before .args in
-    handled-step (a .message .now) (a .store .now) (a .out .now) (c .before .before .before .before .before .before .before .before .before .before .before .before .before .before .before .before .before .before .before .before .before .slice-known .given) (c .before .before .before .before .before .before .before .before .before .before .before .before .before .before .before .before .barred .ensures) (c .before .before .before .before .before .before .before .before .before .before .before .before .before .before .before .if1 .left) (c .before .before .before .before .before .before .before .before .before .before .before .before .before .before .read-message .ensures) (c .before .before .before .before .before .before .before .before .before .before .before .before .m .given .1) (c .before .before .before .before .before .before .before .before .before .load .result) (c .before .before .before .before .before .before .before .before .before .load .ensures) (c .before .before .before .before .before .before .before .before .allowed .ensures) (c .before .before .before .before .before .before .before .if2 .left) (c .before .before .before .before .handled .ensures)
+    handled-step (a .message .now) (a .store .now) (a .out .now) (c .before .before .before .before .before .before .before .before .before .before .before .before .before .before .before .before .before .before .before .before .before .slice-known .given) (c .before .before .before .before .before .before .before .before .before .before .before .before .before .before .before .before .barred .ensures) (c .before .before .before .before .before .before .before .before .before .before .before .before .before .before .before .if1 .left) (c .before .before .before .before .before .before .before .before .before .before .before .before .before .before .read-message .ensures) (c .before .before .before .before .before .before .before .before .before .before .before .before .m .given .1) (c .before .before .before .before .before .before .before .before .before .load .result) (c .before .before .before .before .before .before .before .before .before .load .ensures) (c .before .before .before .before .before .before .before .before .message-allowed .ensures) (c .before .before .before .before .before .before .before .if2 .left) (c .before .before .before .before .handled .ensures)
 
 pub station-step-spec : {M : Type 1} → statement M
 station-step-spec =
@@ -106,7 +106,7 @@ station-step-spec =
     same-length-4
     returns-2
     load-requires
-    allowed-requires
+    message-allowed-requires
     refuse-requires-3
     same-length-5
     same-length-6

@@ -12,7 +12,7 @@ use Rattle.kept.proofs.Facts.{sizes-of}
 use Rattle.acts.proofs.Works.{formed-parts}
 use Rattle.store.specs.Decode.{stateOf}
 use Rattle.rules.specs.Sizes.{only}
-use Rattle.wire.proofs.Writing.{says-length}
+use Rattle.outgoing.proofs.Writing.{says-length}
 use Rattle.store.proofs.Loaded.{loaded-view}
 use borrow.Author.Needs.{needs}
 use Rattle.turns.proofs.complain.Statement.{statement}

@@ -4,7 +4,7 @@ use Rattle.turns.proofs.Entering.{report-ends}
 use Rattle.turns.proofs.Parts.{works-still, works-then}
 use Rattle.acts.proofs.Works.{works-is}
 use Rattle.rules.specs.Inputs.{arrive}
-use Rattle.wire.proofs.Writing.{says-length}
+use Rattle.outgoing.proofs.Writing.{says-length}
 use borrow.Author.Tests.{not-true, not-false}
 use native.Mathlib.Omega.{arith}
 use mathlib.Core.Path.{sym, _∙_}

@@ -6,7 +6,7 @@ use Rattle.store.proofs.Forms.{form-long, form-statements}
 use native.Mathlib.Omega.{arith}
 use Prim.Native.Nat.{_+_, _-_, _≤_}
 use mathlib.Core.Path.{sym, _∙_}
-use Rattle.wire.proofs.Writing.{says-length}
+use Rattle.outgoing.proofs.Writing.{says-length}
 use Rattle.turns.proofs.logging.Statement.{statement}
 use Rattle.turns.proofs.logging.Tie as tie
 
