@@ -12,10 +12,11 @@ use Rattle.rules.specs.Words.{Statement, message, sameStatement, conflict, Tall
 use Rattle.rules.specs.Inputs.{Work, saying, _▸_, withPhase, withTables, withBlames, isIn, quit, belowLock, votedFor, ballot, voting, certificateJoined, stored, statement, tallied, blamesOf, blamed, blameFull, blaming, handled}
 use Rattle.rules.proofs.Tests.{by-bool, by-option}
 use Rattle.rules.proofs.Truths.{and-2, both}
+use Rattle.rules.proofs.Searches.{first-mem}
 use Rattle.rules.proofs.Allowed.{sizes, only-lt, mask-parts, mask-made, allowed-rights}
 use Rattle.kept.specs.Parts.{Formed}
 use Rattle.kept.specs.Said.{Each, Sendable, Sayable}
-use Rattle.kept.proofs.Lists.{each-append, first-mem}
+use Rattle.kept.proofs.Lists.{each-append}
 use Rattle.kept.proofs.Sendable.{named, sendable}
 use Rattle.kept.proofs.Tallies.{Joinable, joinable, tally-made}
 use Rattle.kept.proofs.Statements.{stated, stored-said}
@@ -77,7 +78,7 @@ module _ {s : State} (f : Formed s) (x : Statement) (m : Sendable (s .settings) 
       (λ i.
       by-option (first (conflict x) (s .statements)) (λ o. rw (q, i, o, statement) (onward s refl (voting-keeps t x m)))
       (λ y o.
-      let g = stored-said f y (first-mem (conflict x) (s .statements) o .0) in
+      let g = stored-said f y (first-mem (conflict x) (s .statements) y o) in
       rw (q, i, o, statement) (onward s refl (quit-keeps t (toAll (message y) ∷ toAll (message x) ∷ []) (g, (m, tt))))))
       (λ i. rw (q, i, statement) (record { settings = refl; formed = t; said = tt })))
 

@@ -3,15 +3,14 @@ use mathlib.Core.Path.{_≡_, refl, sym, ap, _∙_}
 use Prim.Native.Nat.{ℕ, zero, suc, _≤_, _<_}
 use native.Mathlib.Omega.{arith}
 use mathlib.Core.Bool.{Bool, true, false, not, _&&_}
-use mathlib.Core.List.{List, [], _∷_, _++_, List·Memᴰ as Mem, List·Memᴰ·head as here, List·Memᴰ·tail as there, List·Memᴰ·not-nil as not-nil, List·Memᴰ·cases-cons as cases-cons}
-use mathlib.Core.Logic.{inl, inr}
-use mathlib.Core.Option.{some, Option·some-injective}
+use mathlib.Core.List.{List, [], _∷_, _++_, List·Memᴰ as Mem, List·Memᴰ·head as here, List·Memᴰ·tail as there, List·Memᴰ·not-nil as not-nil}
 use lib.Dec.{leb}
 use lib.ListN.{length, getD, set}
 use borrow.Author.Tests.{not-true}
-use Rattle.rules.specs.Lists.{first, any, all, keep, alter, distinct, insert, sorted}
-use Rattle.rules.proofs.Tests.{by-bool, no-bool, no-some}
+use Rattle.rules.specs.Lists.{any, all, keep, alter, distinct, insert, sorted}
+use Rattle.rules.proofs.Tests.{by-bool, no-bool}
 use Rattle.rules.proofs.Truths.{and-2, both}
+use Rattle.rules.proofs.Searches.{any-alter}
 use Rattle.kept.specs.Said.{Each}
 
 -- ---- a claim of each element, or of every member
@@ -69,11 +68,6 @@ module _ {A : Type 0} (p : A → Bool) where
 
   -- ---- any, first
 
-  pub any-mem : {x : A} {xs : List A} → Mem x xs → p x ≡ true → any p xs ≡ true
-  unfolding any
-  any-mem {xs = y ∷ ys} (here e) k = rw (ap p (sym e) ∙ k, any)
-  any-mem {xs = y ∷ ys} (there m) k = by-bool (p y) (λ q. rw (q, any)) (λ q. rw (q, any) (any-mem m k))
-
   -- the one that any found
   pub any-find : (xs : List A) → any p xs ≡ true → (x : A) × Mem x xs × (p x ≡ true)
   unfolding any
@@ -86,13 +80,6 @@ module _ {A : Type 0} (p : A → Bool) where
   any-append [] ys h = no-bool (sym h)
   any-append (x ∷ xs) ys h = by-bool (p x) (λ q. rw (q, any)) (λ q. rw (q, any) (any-append xs ys (rw (q, any) at h)))
 
-  pub any-alter : (q : A → Bool) (f : A → A) → ((x : A) → p (f x) ≡ p x) → (xs : List A) → any p (alter q f xs) ≡ any p xs
-  unfolding any alter
-  any-alter q f k [] = refl
-  any-alter q f k (x ∷ xs) =
-      by-bool (q x) (λ e. rw (e, alter, any, k x))
-      (λ e. by-bool (p x) (λ r. rw (e, alter, r, any)) (λ r. rw (e, alter, r, any) (any-alter q f k xs)))
-
   pub any-last : (xs : List A) (y : A) → any p xs ≡ false → p y ≡ false → any p (xs ++ y ∷ []) ≡ false
   unfolding any
   any-last [] y h k = rw (k, any)
@@ -103,22 +90,7 @@ module _ {A : Type 0} (p : A → Bool) where
   any-cong q f [] = refl
   any-cong q f (x ∷ xs) = by-bool (q x) (λ e. rw (e, any, f x ∙ e)) (λ e. rw (e, any, f x ∙ e) (any-cong q f xs))
 
-  pub first-mem : (xs : List A) {x : A} → first p xs ≡ some x → Mem x xs × (p x ≡ true)
-  unfolding first
-  first-mem [] e = no-some e
-  first-mem (y ∷ ys) {x} e =
-      by-bool (p y) (λ q. let i = Option·some-injective y x (rw (q, first) at e) in (here (sym i), rw (← i) q))
-      (λ q. let t = first-mem ys (rw (q, first) at e) in (there (t .0), t .1))
-
   -- ---- keep
-
-  pub keep-mem : {x : A} (xs : List A) → Mem x (keep p xs) → Mem x xs × (p x ≡ true)
-  unfolding keep
-  keep-mem [] m = absurd (not-nil m)
-  keep-mem {x} (y ∷ ys) m =
-      let later : Mem x (keep p ys) → Mem x (y ∷ ys) × (p x ≡ true) = λ n. let t = keep-mem ys n in (there (t .0), t .1) in
-      by-bool (p y) (λ q. elim (cases-cons (rw (q, keep) at m)) [ inl e ↦ (here e, ap p e ∙ q) | inr n ↦ later n ])
-      (λ q. later (rw (q, keep) at m))
 
   pub keep-length : (xs : List A) → length (keep p xs) ≤ length xs
   unfolding keep
@@ -147,20 +119,6 @@ module _ {A : Type 0} (p q : A → Bool) (f : (x : A) → p x ≡ true → q x �
 -- ---- in order
 
 module _ {A : Type 0} (key : A → ℕ) where
-  insert-mem : {x : A} (y : A) (ys : List A) → Mem x (insert key y ys) → Mem x (y ∷ ys)
-  unfolding insert
-  insert-mem y [] m = m
-  insert-mem {x} y (z ∷ zs) m =
-      let later : Mem x (insert key y zs) → Mem x (y ∷ z ∷ zs) =
-      λ n. elim (cases-cons (insert-mem y zs n)) [ inl e ↦ here e | inr o ↦ there (there o) ] in
-      by-bool (leb (key y) (key z)) (λ q. rw (q, insert) at m)
-      (λ q. elim (cases-cons (rw (q, insert) at m)) [ inl e ↦ there (here e) | inr n ↦ later n ])
-
-  pub sorted-mem : {x : A} (xs : List A) → Mem x (sorted key xs) → Mem x xs
-  unfolding sorted
-  sorted-mem [] m = m
-  sorted-mem (y ∷ ys) m = elim (cases-cons (insert-mem y (sorted key ys) m)) [ inl e ↦ here e | inr n ↦ there (sorted-mem ys n) ]
-
   insert-length : (y : A) (ys : List A) → length (insert key y ys) ≡ suc (length ys)
   unfolding insert
   insert-length y [] = refl

@@ -1,25 +1,27 @@
 -- The log: a commit leaves it linked, every logged block is stored, and it is no longer than the proposes that are stored. Assumes nothing.
-use mathlib.Core.Path.{_≡_, refl, sym, ap, ap₂, _∙_}
-use mathlib.Core.Logic.{_⊎_, inl, inr}
+use mathlib.Core.Path.{_≡_, refl}
+use mathlib.Core.Logic.{inl, inr}
 use Prim.Native.Nat.{ℕ, zero, suc, _+_, _-_, _≤_, _<_}
 use native.Mathlib.Omega.{arith}
 use mathlib.Core.Bool.{Bool, true, false, not, _&&_}
-use mathlib.Core.List.{List, [], _∷_, _++_, append-nil, append-assoc, List·Memᴰ as Mem}
-use mathlib.Core.Option.{some, Option·some-injective, map-eq-some-iff}
+use mathlib.Core.List.{List, [], _∷_, List·Memᴰ as Mem}
+use mathlib.Core.Option.{some, Option·some-injective}
 use lib.Dec.{leb, eqb}
 use lib.ListN.{length}
 use borrow.Author.Tests.{eqb-true, leb-true, le-leb, lt-leb, not-true}
 use Rattle.rules.specs.Lists.{first, any, keep}
 use Rattle.rules.specs.Messages.{blockAllowed}
 use Rattle.rules.specs.Words.{Statement, State}
-use Rattle.rules.specs.Inputs.{isBlock, chainTo, chain, merge, commit, commits}
+use Rattle.rules.specs.Inputs.{isBlock, chainTo, chain, commits}
 use Rattle.rules.specs.WellFormed.{linked}
-use Rattle.rules.proofs.Tests.{by-bool, by-option, no-some, eqb-self}
+use Rattle.rules.proofs.Tests.{by-option, no-some, eqb-self}
 use Rattle.rules.proofs.Truths.{and-2, and-3, both}
+use Rattle.rules.proofs.Searches.{any-mem, first-any, first-mem}
 use Rattle.rules.proofs.Allowed.{genesis-zero}
+use Rattle.rules.proofs.Commits.{commits-some}
 use Rattle.kept.specs.Parts.{Formed}
 use Rattle.kept.specs.Said.{Each}
-use Rattle.kept.proofs.Lists.{any-mem, any-find, first-mem, keep-length, keep-fewer, keep-fewer-by}
+use Rattle.kept.proofs.Lists.{each-mem, any-find, keep-length, keep-fewer, keep-fewer-by}
 use Rattle.kept.proofs.Tables.{isAbove}
 use Rattle.kept.proofs.Statements.{stored-stated}
 
@@ -89,52 +91,6 @@ module _ (xs : List Statement) where
   pub proposes-length : length (proposes xs) ≤ length xs
   proposes-length = keep-length (λ x. not (x .isNewView)) xs
 
--- ---- a chain joins the log
-
--- the longer of both is one of the two
-merge-either : (bs l k : List ℕ) → merge bs l ≡ some k → (k ≡ bs) ⊎ (k ≡ l)
-unfolding merge
-merge-either [] l k e = inr (sym (Option·some-injective l k e))
-merge-either (b ∷ bs) [] k e = inl (sym (Option·some-injective (b ∷ bs) k e))
-merge-either (b ∷ bs) (c ∷ l) k e =
-    by-bool (eqb b c)
-    (λ q.
-    let (n, m, i) = map-eq-some-iff (c ∷_) (merge bs l) .0 (rw (q, merge) at e) in
-    let d = eqb-true b c q in
-    elim (merge-either bs l n m) [ inl h ↦ inl (sym i ∙ ap₂ _∷_ (sym d) h) | inr h ↦ inr (sym i ∙ ap (c ∷_) h) ])
-    (λ q. no-some (rw (q, merge) at e))
-
--- and it begins with the log
-merge-grows : (bs l k : List ℕ) → merge bs l ≡ some k → (new : List ℕ) × (k ≡ l ++ new)
-unfolding merge
-merge-grows [] l k e = ([], sym (Option·some-injective l k e) ∙ sym (append-nil l))
-merge-grows (b ∷ bs) [] k e = (b ∷ bs, sym (Option·some-injective (b ∷ bs) k e))
-merge-grows (b ∷ bs) (c ∷ l) k e =
-    by-bool (eqb b c)
-    (λ q.
-    let (n, m, i) = map-eq-some-iff (c ∷_) (merge bs l) .0 (rw (q, merge) at e) in
-    let g = merge-grows bs l n m in
-    (g .0, sym i ∙ ap (c ∷_) (g .1)))
-    (λ q. no-some (rw (q, merge) at e))
-
-module _ (xs : List Statement) where
-  commit-grows : (x : Statement) (l k : List ℕ) → commit xs x l ≡ some k → (new : List ℕ) × (k ≡ l ++ new)
-  unfolding commit
-  commit-grows x l k e =
-      by-option (chain xs x) (λ q. ([], sym (Option·some-injective l k (rw (q, commit) at e)) ∙ sym (append-nil l)))
-      (λ bs q. merge-grows bs l k (rw (q, commit) at e))
-
-  -- the log only grows
-  pub commits-grow : (ds : List Statement) (l k : List ℕ) → commits xs ds l ≡ some k → (new : List ℕ) × (k ≡ l ++ new)
-  unfolding commits
-  commits-grow [] l k e = ([], sym (Option·some-injective l k e) ∙ sym (append-nil l))
-  commits-grow (x ∷ ds) l k e =
-      by-option (commit xs x l) (λ q. no-some (rw (q, commits) at e))
-      (λ j q.
-      let g = commit-grows x l j q in
-      let h = commits-grow ds j k (rw (q, commits) at e) in
-      (g .0 ++ h .0, h .1 ∙ ap (_++ (h .0)) (g .1) ∙ append-assoc l (g .0) (h .0)))
-
 -- ---- chains and commits
 
 module _ {s : State} (f : Formed s) where
@@ -144,12 +100,13 @@ module _ {s : State} (f : Formed s) where
   chainTo-linked zero b above l a k e = rw (← Option·some-injective above l e) (rw (genesis-zero b a) at k)
   chainTo-linked (suc h) b above l a k e =
       by-option (first (isBlock (suc h) b) (s .statements)) (λ q. no-some (rw (q, chainTo) at e)) λ x q.
-      let (m, t) = first-mem (isBlock (suc h) b) (s .statements) q in
+      let m = first-mem (isBlock (suc h) b) (s .statements) x q in
+      let t = first-any (isBlock (suc h) b) (s .statements) x q .1 in
       let (n, o, _) = block-parts (suc h) b x t in
       let z : x .height - 1 ≡ h = omega arith in
       let p = stored-stated f x m .parent n in
       chainTo-linked h (x .link) (b ∷ above) l (rw z at (p .1))
-      (cons-linked (s .statements) h (x .link) b above (any-mem (isAbove (suc h) b (x .link)) m (both t (eqb-self (x .link)))) k) (rw (q, chainTo) at e)
+      (cons-linked (s .statements) h (x .link) b above (any-mem (isAbove (suc h) b (x .link)) (s .statements) x m (both t (eqb-self (x .link)))) k) (rw (q, chainTo) at e)
 
   -- a whole chain of a stored propose is linked to genesis
   pub chain-linked : (x : Statement) (l : List ℕ) → Mem x (s .statements) → x .isNewView ≡ false → chain (s .statements) x ≡ some l
@@ -160,20 +117,13 @@ module _ {s : State} (f : Formed s) where
       let z : suc (x .height - 1) ≡ x .height = omega arith in
       let o : isBlock (suc (x .height - 1)) (x .name) x ≡ true = rw z (block-self x n) in
       chainTo-linked (x .height - 1) (x .link) (x .name ∷ []) l p
-      (cons-linked (s .statements) (x .height - 1) (x .link) (x .name) [] (any-mem (isAbove (suc (x .height - 1)) (x .name) (x .link)) m (both o (eqb-self (x .link))))
+      (cons-linked (s .statements) (x .height - 1) (x .link) (x .name) [] (any-mem (isAbove (suc (x .height - 1)) (x .name) (x .link)) (s .statements) x m (both o (eqb-self (x .link))))
       (nil-linked (s .statements) (suc (x .height - 1)) (x .name))) e
-
-  commit-linked : (x : Statement) (l k : List ℕ) → Mem x (s .statements) → x .isNewView ≡ false → commit (s .statements) x l ≡ some k
-      → linked (s .statements) 0 0 l ≡ true → linked (s .statements) 0 0 k ≡ true
-  unfolding commit
-  commit-linked x l k m n e h =
-      by-option (chain (s .statements) x) (λ q. rw (← Option·some-injective l k (rw (q, commit) at e)) h)
-      (λ bs q. elim (merge-either bs l k (rw (q, commit) at e)) [ inl o ↦ rw o (chain-linked x bs m n q) | inr o ↦ rw o h ])
 
   pub commits-linked : (ds : List Statement) (l k : List ℕ) → Each (λ x. Mem x (s .statements) × (x .isNewView ≡ false)) ds
       → commits (s .statements) ds l ≡ some k → linked (s .statements) 0 0 l ≡ true → linked (s .statements) 0 0 k ≡ true
-  unfolding commits
-  commits-linked [] l k a e h = rw (← Option·some-injective l k e) h
-  commits-linked (x ∷ ds) l k a e h =
-      by-option (commit (s .statements) x l) (λ q. no-some (rw (q, commits) at e))
-      (λ j q. commits-linked ds j k (a .1) (rw (q, commits) at e) (commit-linked x l j (a .0 .0) (a .0 .1) q h))
+  commits-linked ds l k a e h =
+      elim (commits-some (s .statements) ds l k e .from) [
+        | inl o ↦ rw o h
+        | inr (x, i, c) ↦ (let (m, n) = each-mem (λ y. Mem y (s .statements) × (y .isNewView ≡ false)) a i in chain-linked x k m n c)
+      ]

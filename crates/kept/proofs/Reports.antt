@@ -1,35 +1,26 @@
 -- What a commit says and leaves: the due ones are stored proposes, each report is of a stored block, and the state stays formed. Assumes nothing.
-use mathlib.Core.Path.{_≡_, sym}
+use mathlib.Core.Path.{_≡_}
 use Prim.Native.Nat.{ℕ, zero, suc, _+_}
 use native.Mathlib.Omega.{arith}
 use mathlib.Core.Bool.{true, false}
 use mathlib.Core.List.{List, [], _∷_, List·Memᴰ as Mem}
 use lib.Dec.{eqb}
 use lib.ListN.{drop}
-use Rattle.rules.specs.Lists.{keep}
-use Rattle.rules.specs.Words.{Statement, State}
-use Rattle.rules.specs.Inputs.{isDue, due, isBlock, reports, withLog}
+use Rattle.rules.specs.Words.{State}
+use Rattle.rules.specs.Inputs.{due, isBlock, reports, withLog}
 use Rattle.rules.specs.WellFormed.{clocksInOrder, lockGood, statementGood, linked}
-use Rattle.rules.proofs.Tests.{by-bool, no-bool}
 use Rattle.rules.proofs.Truths.{and-2}
 use Rattle.rules.proofs.Allowed.{height-le}
+use Rattle.rules.proofs.Commits.{due-facts}
 use Rattle.kept.specs.Parts.{Formed}
 use Rattle.kept.specs.Said.{Each, Sayable}
-use Rattle.kept.proofs.Lists.{mem-each, any-find, keep-mem, sorted-mem}
+use Rattle.kept.proofs.Lists.{mem-each, any-find}
 use Rattle.kept.proofs.Tables.{isAbove}
 use Rattle.kept.proofs.Statements.{stored-stated}
 use Rattle.kept.proofs.Logs.{block-parts, linked-cons}
 
--- "every propose of this view voted for"
-due-propose : (s : State) (x : Statement) → isDue s x ≡ true → x .isNewView ≡ false
-unfolding isDue
-due-propose s x e = by-bool (x .isNewView) (λ q. no-bool (sym (rw (q, isDue) at e))) (λ q. q)
-
 pub due-stored : (s : State) → Each (λ x. Mem x (s .statements) × (x .isNewView ≡ false)) (due s)
-unfolding due
-due-stored s =
-    mem-each (λ x. Mem x (s .statements) × (x .isNewView ≡ false)) (due s)
-    (λ x m. let t = keep-mem (isDue s) (s .statements) (sorted-mem (λ x. x .height) (keep (isDue s) (s .statements)) m) in (t .0, due-propose s x (t .1)))
+due-stored s = mem-each (λ x. Mem x (s .statements) × (x .isNewView ≡ false)) (due s) (λ x m. let d = due-facts s x m in (d .0, d .1))
 
 module _ {s : State} (f : Formed s) where
   reports-said : (h parent : ℕ) (l : List ℕ) → linked (s .statements) h parent l ≡ true → Each (Sayable (s .settings)) (reports (suc h) l)

@@ -13,11 +13,12 @@ use Rattle.rules.specs.Inputs.{withTables, noted, votedFor, certificateJoined, 
 use Rattle.rules.specs.WellFormed.{clocksInOrder, lockGood, statementGood, talliesThere, linked}
 use Rattle.rules.proofs.Tests.{by-bool}
 use Rattle.rules.proofs.Truths.{and-2, both, or-2, or-left, or-right}
+use Rattle.rules.proofs.Searches.{any-alter}
 use Rattle.rules.proofs.Statements.{same-sym}
 use Rattle.rules.proofs.Allowed.{sizes, none-lt, only-lt}
 use Rattle.kept.specs.Parts.{Tables, Formed}
 use Rattle.kept.specs.Said.{Sendable}
-use Rattle.kept.proofs.Lists.{all-last, all-weaken, all-alter, any-append, any-alter, distinct-append, distinct-alter}
+use Rattle.kept.proofs.Lists.{all-last, all-weaken, all-alter, any-append, distinct-append, distinct-alter}
 use Rattle.kept.proofs.Tallies.{Joinable, block-self, join-good, join-any, join-there, join-distinct, certificate-good, certificate-any, certificate-there, certificate-distinct}
 use Rattle.kept.proofs.Statements.{stated, own-good, new-good, noted-good, noted-left, noted-right, noted-there}
 

@@ -3,19 +3,21 @@ use mathlib.Core.Path.{_≡_, refl, sym, _∙_}
 use mathlib.Core.Logic.{inl, inr}
 use Prim.Native.Nat.{ℕ, _^_, _≤_, _<_}
 use native.Mathlib.Omega.{arith}
-use mathlib.Core.Bool.{true, false, not, _&&_}
+use mathlib.Core.Bool.{true, false, not}
 use mathlib.Core.List.{List, [], _∷_}
 use lib.Dec.{ltb, eqb, lit≤}
-use borrow.Author.Tests.{not-true, eqb-true, eqb-false, ltb-true, lt-ltb}
+use borrow.Author.Tests.{not-true, eqb-false, ltb-true, lt-ltb}
 use Rattle.rules.specs.Lists.{any, all, distinct}
 use Rattle.rules.specs.Sizes.{Settings}
 use Rattle.rules.specs.Messages.{viewAllowed, blockAllowed, certificateAllowed}
-use Rattle.rules.specs.Words.{Tally, sameBlock, grown, join, joinCertificate, voters, certified, higher, highest, State}
+use Rattle.rules.specs.Words.{Tally, sameBlock, grown, join, joinCertificate, voters, highest, State}
 use Rattle.rules.specs.WellFormed.{isName, isMask, lockGood, tallyGood}
 use Rattle.rules.proofs.Tests.{by-bool, no-bool, eqb-self}
 use Rattle.rules.proofs.Masks.{joined-lt}
-use Rattle.rules.proofs.Truths.{and-2, and-3, and-4, both, eqb-sym}
+use Rattle.rules.proofs.Truths.{and-2, and-4, both, eqb-sym}
+use Rattle.rules.proofs.Tallies.{block-cong, voters-tally, highest-tally}
 use Rattle.rules.proofs.Allowed.{view-within, name-lt, lt-name, mask-lt, lt-mask, none-lt, mask-parts, mask-made, certificate-cases, certificate-made, within-view}
+use Rattle.kept.proofs.Lists.{all-mem}
 
 -- ---- one tally
 
@@ -48,12 +50,6 @@ block-self t = rw (eqb-self (t .view), eqb-self (t .height), eqb-self (t .name))
 block-sym : (t u : Tally) → sameBlock t u ≡ sameBlock u t
 unfolding sameBlock
 block-sym t u = rw (eqb-sym (t .view) (u .view), eqb-sym (t .height) (u .height), eqb-sym (t .name) (u .name))
-
-block-cong : (x t u : Tally) → sameBlock x t ≡ true → sameBlock x u ≡ sameBlock t u
-unfolding sameBlock
-block-cong x t u e =
-    let (a, b, c) = and-3 (eqb (x .view) (t .view)) (eqb (x .height) (t .height)) (eqb (x .name) (t .name)) e in
-    rw (eqb-true (x .view) (t .view) a, eqb-true (x .height) (t .height) b, eqb-true (x .name) (t .name) c)
 
 block-grown : (t u : Tally) (m : ℕ) → sameBlock t (grown u m) ≡ sameBlock t u
 unfolding sameBlock grown
@@ -135,11 +131,11 @@ module _ (t : Tally) (us : List Tally) where
 -- ---- reading the table
 
 pub voters-mask : (g : Settings) (t : Tally) (us : List Tally) → all (tallyGood g) us ≡ true → voters t us < 2 ^ g .n
-unfolding voters all
-voters-mask g t [] h = none-lt g
-voters-mask g t (u ∷ us) h =
-    let p = and-2 (tallyGood g u) (all (tallyGood g) us) h in
-    by-bool (sameBlock t u) (λ q. rw (q, voters) (tally-parts g u (p .0) .mask)) (λ q. rw (q, voters) (voters-mask g t us (p .1)))
+voters-mask g t us h =
+    elim (voters-tally t us) [
+      | inl e ↦ rw e (none-lt g)
+      | inr (u, m, _, e) ↦ rw e (tally-parts g u (all-mem (tallyGood g) h m) .mask)
+    ]
 
 -- a certificate of a view before v: part (4) of a well-formed state
 pub record Certificate (g : Settings) (v : ℕ) (t : Tally) : Type 0 where
@@ -160,21 +156,13 @@ unfolding lockGood
 lock-made s k = let t = s .lock in rw (lt-ltb (t .view) (s .view) (k .earlier), k .block, lt-name (t .name) (k .name)) (k .isAllowed)
 
 pub highest-good : (g : Settings) (v : ℕ) (ts : List Tally) → 1 ≤ v → all (tallyGood g) ts ≡ true → Certificate g v (highest g v ts)
-unfolding highest all certified blockAllowed certificateAllowed
-highest-good g v [] l h = record { earlier = omega arith; block = refl; name = lit≤ tt; isAllowed = refl }
-highest-good g v (t ∷ ts) l h =
-    let p = and-2 (tallyGood g t) (all (tallyGood g) ts) h in
-    let k = tally-parts g t (p .0) in
-    let w = view-within (t .view) (k .view) in
-    let best = highest g v ts in
-    by-bool (ltb (t .view) v && certified g t && higher t best)
-    (λ q.
-    let c = and-3 (ltb (t .view) v) (certified g t) (higher t best) q in
-    rw (q, highest)
-    (record {
-      earlier = ltb-true (t .view) v (c .0);
-      block = k .block;
-      name = k .name;
-      isAllowed = certificate-made g (t .mask) (t .height) (t .view) (w .0) (w .1) (mask-made g (t .mask) (k .mask) (c .1));
-    }))
-    (λ q. rw (q, highest) (highest-good g v ts l (p .1)))
+unfolding blockAllowed certificateAllowed
+highest-good g v ts l h =
+    elim (highest-tally g v ts) [
+      | inl e ↦ rw e (record { earlier = omega arith; block = refl; name = lit≤ tt; isAllowed = refl })
+      | inr (m, b, q) ↦ (
+          let t = highest g v ts in
+          let k = tally-parts g t (all-mem (tallyGood g) h m) in
+          let (x, y) = view-within (t .view) (k .view) in
+          record { earlier = b; block = k .block; name = k .name; isAllowed = certificate-made g (t .mask) (t .height) (t .view) x y (mask-made g (t .mask) (k .mask) q) })
+    ]

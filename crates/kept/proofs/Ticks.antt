@@ -5,22 +5,24 @@ use native.Mathlib.Omega.{arith}
 use mathlib.Core.Bool.{true}
 use mathlib.Core.List.{List, [], _∷_, List·Memᴰ as Mem}
 use mathlib.Core.Option.{some, map-eq-some-iff}
-use lib.Dec.{ltb, eqb}
+use lib.Dec.{eqb}
 use lib.ListN.{length}
-use borrow.Author.Tests.{eqb-true, eq-eqb, ltb-true, lt-ltb}
-use Rattle.rules.specs.Limits.{lastView, lastClock}
+use borrow.Author.Tests.{eqb-true, eq-eqb, lt-ltb}
+use Rattle.rules.specs.Limits.{lastClock}
 use Rattle.rules.specs.Sizes.{Settings, leader, only}
 use Rattle.rules.specs.Messages.{newView, blame, blameSet, status, allowed, toAll}
-use Rattle.rules.specs.Words.{Statement, message, highest, Phase, inView, waiting, stopped, State}
+use Rattle.rules.specs.Words.{Statement, message, highest, State}
 use Rattle.rules.specs.Inputs.{Work, saying, _▸_, withClock, withLog, isIn, blamesOf, blameFull, leads, due, commits, logging, overdue, complain, leadsNow, ownNewView, lead, entersNow, nextLock, report, entering, entered, current, pair, inOrder, votingAll, arrive, enter, ticked}
 use Rattle.rules.specs.WellFormed.{linked}
-use Rattle.rules.proofs.Tests.{by-bool, by-option, no-bool}
+use Rattle.rules.proofs.Tests.{by-bool, by-option}
 use Rattle.rules.proofs.Truths.{and-2, both}
+use Rattle.rules.proofs.Searches.{mem-keep}
 use Rattle.rules.proofs.Statements.{pair-some, mem-order}
 use Rattle.rules.proofs.Allowed.{sizes, leader-lt, only-lt, view-within}
+use Rattle.rules.proofs.Kept.{enters-at}
 use Rattle.kept.specs.Parts.{Formed}
 use Rattle.kept.specs.Said.{Each, Sendable, Sayable}
-use Rattle.kept.proofs.Lists.{mem-each, keep-mem}
+use Rattle.kept.proofs.Lists.{mem-each}
 use Rattle.kept.proofs.Sendable.{sendable}
 use Rattle.kept.proofs.Tallies.{Certificate, highest-good}
 use Rattle.kept.proofs.Statements.{stored-said}
@@ -85,15 +87,6 @@ module _ {s : State} (f : Formed s) where
 -- ---- entering a view
 
 -- only a waiting station below the last view enters
-pub enters-below : (s : State) → entersNow s ≡ true → s .view < lastView
-unfolding entersNow
-enters-below s e = go (s .phase) refl
-  where
-    go : (p : Phase) → s .phase ≡ p → s .view < lastView
-    go inView r = no-bool (sym (rw (r, entersNow) at e))
-    go (waiting q) r = ltb-true (s .view) lastView (and-2 (ltb (s .view) lastView) (eqb (s .clock) (q + s .settings .D + 1)) (rw (r, entersNow) at e) .0)
-    go (stopped c) r = no-bool (sym (rw (r, entersNow) at e))
-
 module _ {s : State} (f : Formed s) where
   nextLock-good : Certificate (s .settings) (s .view + 1) (nextLock s)
   unfolding nextLock
@@ -112,7 +105,7 @@ module _ {s : State} (f : Formed s) where
   entered-keeps : entersNow s ≡ true → Keeps s (entered s)
   unfolding entered saying entering
   entered-keeps e =
-      let l = enters-below s e in
+      let l = enters-at s e .2 in
       record { settings = refl; formed = entering-formed f (s .view + 1) (nextLock s) (omega arith) (omega arith) nextLock-good; said = report-said }
 
 pub votingAll-keeps : (g : Settings) (xs : List Statement) {s : State} → s .settings ≡ g → Formed s → Each (λ x. Sendable g (message x)) xs → Keeps s (votingAll xs s)
@@ -123,7 +116,7 @@ votingAll-keeps g (x ∷ xs) {s} e f h =
 
 current-mem : (s : State) (x : Statement) → Mem x (current s) → Mem x (s .statements)
 unfolding current
-current-mem s x m = keep-mem (λ y. eqb (y .view) (s .view)) (s .statements) m .0
+current-mem s x m = mem-keep (λ (y : Statement). eqb (y .view) (s .view)) (s .statements) x m .0
 
 module _ {s : State} (f : Formed s) where
   pub arrive-keeps : Keeps s (arrive s)

@@ -103,7 +103,7 @@ pub same-block : (q t : Tally) → q .view ≡ t .view → q .height ≡ t .heig
 unfolding sameBlock
 same-block q t a b c = rw (eq-eqb (q .view) (t .view) a, eq-eqb (q .height) (t .height) b, eq-eqb (q .name) (t .name) c)
 
-block-cong : (q t u : Tally) → sameBlock q t ≡ true → sameBlock q u ≡ sameBlock t u
+pub block-cong : (q t u : Tally) → sameBlock q t ≡ true → sameBlock q u ≡ sameBlock t u
 unfolding sameBlock
 block-cong q t u e = let (a, b, c) = block-eq q t e in rw (a, b, c)
 

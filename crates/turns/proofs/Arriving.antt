@@ -11,6 +11,7 @@ use Rattle.rules.specs.Limits.{mostStatements}
 use Rattle.rules.specs.Messages.{Message, toAll, blameSet}
 use Rattle.rules.specs.Words.{Statement, message, State}
 use Rattle.rules.specs.Inputs.{saying, _▸_, quit, blamesOf, blameFull, entersNow, nextLock, entered, current, pair, inOrder, votingAll, arrive, enter}
+use Rattle.rules.proofs.Kept.{enters-at}
 use Rattle.fields.specs.Records.{fields}
 use Rattle.wire.specs.Meaning.{statementOf, Linked}
 use Rattle.wire.specs.declared.Statement as code
@@ -29,7 +30,6 @@ use Rattle.search.proofs.Statements.{current-is}
 use Rattle.kept.proofs.Lists.{keep-length, sorted-length}
 use Rattle.kept.proofs.Phases.{entering-formed}
 use Rattle.kept.proofs.Tallies.{highest-good}
-use Rattle.kept.proofs.Ticks.{enters-below}
 use Rattle.acts.specs.Answers.{Stands}
 use Rattle.acts.specs.Works.{Formed, Works}
 use Rattle.acts.proofs.Places.{place-sendable, place-message, sendable-linked}
@@ -135,6 +135,6 @@ module _ {b : List ℕ} (k : Formed b) (q : entersNow (stateOf b) ≡ true) wher
   entered-formed w =
       let s = stateOf b in
       let f = formed-parts k .formed in
-      let l = enters-below s q in
+      let l = enters-at s q .2 in
       left-formed (w .left)
       (entering-formed f (s .view + 1) (nextLock s) (omega arith) (omega arith) (highest-good (s .settings) (s .view + 1) (s .tallies) (omega arith) (f .tables .tallies)))

@@ -17,10 +17,10 @@ use Rattle.rules.specs.Refusals.{hasRoom}
 use Rattle.rules.specs.WellFormed.{talliesThere, linked}
 use Rattle.rules.proofs.Tests.{by-bool, by-option}
 use Rattle.rules.proofs.Truths.{and-2, and-3}
-use Rattle.search.specs.Lookups.{turn}
+use Rattle.rules.proofs.Statements.{mem-order}
 use Rattle.kept.specs.Parts.{Formed}
 use Rattle.kept.specs.Said.{Each}
-use Rattle.kept.proofs.Lists.{mem-each, all-mem, keep-mem, sorted-mem}
+use Rattle.kept.proofs.Lists.{mem-each, all-mem}
 use Rattle.kept.proofs.Tallies.{join-any}
 use Rattle.kept.proofs.Ticks.{logging-keeps, complain-keeps, lead-keeps}
 use Rattle.acts.proofs.Rooms.{voting-room}
@@ -63,9 +63,7 @@ votingAll-room [] s h = refl
 votingAll-room (x ∷ xs) s h = votingAll-room xs (voting x s .now) (still-opened x xs s (h .1)) ∙ voting-room x s (h .0)
 
 current-opened : (s : State) → ((x : Statement) → Mem x (s .statements) → Opened s x) → Each (Opened s) (inOrder (current s))
-unfolding inOrder current
-current-opened s f =
-    mem-each (Opened s) (inOrder (current s)) (λ x m. f x (keep-mem (λ y. eqb (y .view) (s .view)) (s .statements) (sorted-mem turn (current s) m) .0))
+current-opened s f = mem-each (Opened s) (inOrder (current s)) (λ x m. f x (mem-order s x m .0))
 
 arrive-room : (s : State) → ((x : Statement) → Mem x (s .statements) → Opened s x) → hasRoom (arrive s .now) ≡ hasRoom s
 unfolding arrive quit saying withPhase hasRoom
