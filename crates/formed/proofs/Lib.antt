@@ -1,4 +1,5 @@
 pub mod Walks
+pub mod SameMarks
 pub mod Forms
 pub mod Blocks
 pub mod Parts

@@ -14,6 +14,7 @@ mod blames;
 mod form;
 mod header;
 mod log;
+mod marks;
 mod records;
 mod statements;
 mod tallies;

@@ -1,6 +1,6 @@
 // The tallies of a store: allowed for these settings, distinct, and there for every statement.
 ghost use mathlib.Core.Path.{_≡_};
-ghost use Prim.Native.Nat.{_-_};
+ghost use Prim.Native.Nat.{_+_, _-_, _<_};
 ghost use Rattle.rules.specs.Lists.{all, any, distinct};
 ghost use Rattle.rules.specs.Words.{sameBlock, certificate};
 ghost use Rattle.rules.specs.WellFormed.{tallyGood, talliesThere};
@@ -8,9 +8,10 @@ ghost use Rattle.settings.specs.Made.{settingsOf};
 ghost use Rattle.store.specs.Layout.{statementTable, tallyTable};
 ghost use Rattle.store.specs.Decode.{rows, tallyAt, statements, tallies};
 ghost use Rattle.store.specs.Meaning.{tallyOf};
-ghost use Rattle.formed.specs.Lent.{Counts, bare, Certifies, AllCertify};
+ghost use Rattle.formed.specs.Lent.{Counts, Marked, bare, Certifies, AllCertify};
 use super::TALLIES;
 use super::TALLY_SIZE;
+use super::marks;
 use super::records::begins;
 use settings::Settings;
 use store::Tally;
@@ -64,15 +65,27 @@ pub fn has_tally(store: &[u8], from: usize, count: usize, block: Tally) -> bool
     false
 }
 
+// Whether a later tally is of the block of tally i: looked for only where its mark is met again.
+fn repeated(store: &[u8], marks: &[u32; 256], i: usize, count: usize) -> bool
+    requires { ⌜ Counts tallyTable (now store) count × Marked (now store) (tallyTable .base) (tallyTable .size) count (now marks) × (i < count) ⌝ }
+    ensures { λ r. ⌜ r ≡ any (sameBlock (tallyAt (now (store .entry)) i)) (rows (tallyAt (now (store .entry))) (i + 1) (count - (i + 1))) ⌝ }
+{
+    if !marks::again(marks, i, count) {
+        return false;
+    }
+    let tally = store::tally_at(store, i);
+    has_tally(store, i + 1, count, tally)
+}
+
 // Whether no two tallies are of one block.
 pub fn distinct(store: &[u8], count: usize) -> bool
     requires { ⌜ Counts tallyTable (now store) count ⌝ }
     ensures { λ r. ⌜ r ≡ distinct sameBlock (tallies (now (store .entry))) ⌝ }
 {
+    let marks = marks::marks_of(store, TALLIES, TALLY_SIZE, count);
     let mut i: usize = 0;
     while i < count {
-        let tally = store::tally_at(store, i);
-        if has_tally(store, i + 1, count, tally) {
+        if repeated(store, &marks, i, count) {
             return false;
         }
         i += 1;
