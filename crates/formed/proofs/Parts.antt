@@ -175,22 +175,19 @@ module _ (x : Statement) (h : Certifies (bare x)) where
 
 -- ---- its tallies
 
-module _ (ts us : List words.Tally) (w : ts ≡ us) (x : words.Statement) (a : Bool) (p : a ≡ any (sameBlock (ownBlock x 0)) us) where
-  own : (b : Bool) → a ≡ b → any (sameBlock (ownBlock x 0)) ts ≡ b
-  own b e = ap (any (sameBlock (ownBlock x 0))) w ∙ sym p ∙ e
-
-  pub there-missing : not a ≡ true → false ≡ talliesThere ts x
+module _ (ts : List words.Tally) (x : words.Statement) where
+  pub there-missing : any (sameBlock (ownBlock x 0)) ts ≡ false → talliesThere ts x ≡ false
   unfolding talliesThere
-  there-missing e = rw (own false (not-true a e))
+  there-missing e = rw e
 
-  module _ (t : words.Tally) (q : t ≡ certificate x) (e : not a ≡ false) where
-    pub there-genesis : t .view ≡ 0 → true ≡ talliesThere ts x
+  module _ (t : words.Tally) (q : t ≡ certificate x) (e : any (sameBlock (ownBlock x 0)) ts ≡ true) where
+    pub there-genesis : t .view ≡ 0 → talliesThere ts x ≡ true
     unfolding talliesThere
-    there-genesis z = rw (own true (not-false a e), ← q, z)
+    there-genesis z = rw (e, ← q, z)
 
-    pub there-both : (t .view ≡ 0 → ⊥) → any (sameBlock t) us ≡ talliesThere ts x
+    pub there-both : (t .view ≡ 0 → ⊥) → talliesThere ts x ≡ any (sameBlock t) ts
     unfolding talliesThere
-    there-both d = rw (own true (not-false a e), ← q, ne-eqb _ _ d, w)
+    there-both d = rw (e, ← q, ne-eqb _ _ d)
 
 -- ---- blame masks
 

@@ -5,7 +5,7 @@ use mathlib.Core.Bool.{Bool, true, false, _&&_}
 use mathlib.Core.List.{List, []}
 use mathlib.Core.Option.{Option, none, some}
 use lib.ListN.{length}
-use lib.Dec.{leb, eqb}
+use lib.Dec.{leb, ltb, eqb}
 use Rattle.rules.specs.Lists.{all, distinct, within}
 use Rattle.rules.specs.Sizes.{Settings}
 use Rattle.rules.specs.Words as words
@@ -43,6 +43,11 @@ begins b at view height name = eqb view (number b at 4) && eqb height (number b 
 -- the marks of a table's first n records: the last four bytes of their names
 abbrev pub Marked : List ℕ → ℕ → ℕ → ℕ → List ℕ → Type 0
 Marked b base size n marks = (i : ℕ) → i < n → nth marks i ≡ number b (base + size * i + 36) 4
+
+-- a place below n where the test holds, n itself where it fails
+pub record Place (n : ℕ) (test : Bool) (r : ℕ) : Type 0 where
+  pub within : r ≤ n
+  pub is : ltb r n ≡ test
 
 -- a statement as it was received
 abbrev pub bare : Statement → words.Statement

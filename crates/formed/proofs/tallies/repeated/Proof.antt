@@ -18,17 +18,17 @@ returns c =
 tally-at-requires : tie.Need-tally-at-requires
 tally-at-requires c κs = search needs
 
-add-has-tally : tie.Need-add-has-tally
-add-has-tally c = search needs
+add-seek : tie.Need-add-seek
+add-seek c = search needs
 
-has-tally-requires : tie.Need-has-tally-requires
-has-tally-requires c κs = search needs
+seek-requires : tie.Need-seek-requires
+seek-requires c κs = search needs
 
 returns-2 : tie.Need-returns-2
 returns-2 c =
-    c .has-tally .ensures ∙ any-alike sameBlock _ (c .before .tally-at .ensures)
+    c .seek .ensures .is ∙ any-alike sameBlock _ (c .before .tally-at .ensures)
 
 pub repeated-spec : {M : Type 1} → statement M
 repeated-spec =
     tie.close
-    (tie.spec again-requires returns tally-at-requires add-has-tally has-tally-requires returns-2)
+    (tie.spec again-requires returns tally-at-requires add-seek seek-requires returns-2)
