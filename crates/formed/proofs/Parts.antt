@@ -202,13 +202,13 @@ blames-are g b = masks-are g (rows (blameAt b) 0 lastView) (rows-length (blameAt
 -- ---- the log
 
 module _ (b : List ℕ) (i h name parent : ℕ) where
-  pub link-differs : (h ≡ number b (placeOf statementTable i + 4) 4 → ⊥) → false ≡ isLink h name parent (statementAt b i)
-  unfolding isLink isBlock statementAt
+  pub link-differs : (h ≡ statementAt b i .height → ⊥) → false ≡ isLink h name parent (statementAt b i)
+  unfolding isLink isBlock
   link-differs d = rw (ne-eqb _ _ d, and-false)
 
-  pub link-agrees : h ≡ number b (placeOf statementTable i + 4) 4 → (z : Statement) → statementOf z (statementAt b i .voted) ≡ statementAt b i
+  pub link-agrees : h ≡ statementAt b i .height → (z : Statement) → statementOf z (statementAt b i .voted) ≡ statementAt b i
       → (n p : Bool) → n ≡ eqb name (nameOf (z .name)) → p ≡ eqb parent (nameOf (z .link)) → (not (z .«is_new_view») && n && p) ≡ isLink h name parent (statementAt b i)
-  unfolding isLink isBlock statementAt statementOf
+  unfolding isLink isBlock statementOf
   link-agrees e z q n p en ep =
       rw (en, ep, ap (λ (x : words.Statement). x .isNewView) q, ap (λ (x : words.Statement). x .name) q, ap (λ (x : words.Statement). x .link) q, eq-eqb _ _ e, and-true)
 

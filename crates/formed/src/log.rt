@@ -9,17 +9,14 @@ ghost use Rattle.fields.specs.Names.{nameOf};
 ghost use Rattle.store.specs.Layout.{storeLength, statementTable, logTable};
 ghost use Rattle.store.specs.Decode.{rows, statementAt, statements, names};
 ghost use Rattle.formed.specs.Lent.{Counts, Place, isLink};
-use super::HEIGHT;
-use super::STATEMENT_SIZE;
-use super::STATEMENTS;
 use fields::Name;
 
 // Whether statement i is the propose of this height, name and parent.
-fn links(store: &[u8], i: usize, height: u64, name: Name, parent: Name) -> bool
+fn links(store: &[u8], i: usize, height: u32, name: Name, parent: Name) -> bool
     requires { ⌜ (length (now store) ≡ storeLength) × (i < mostStatements) ⌝ }
     ensures { λ r. ⌜ r ≡ isLink height (nameOf name) (nameOf parent) (statementAt (now (store .entry)) i) ⌝ }
 {
-    if height != fields::get(store, STATEMENTS + STATEMENT_SIZE * i + HEIGHT, 4) {
+    if height != store::height_at(store, i) {
         return false;
     }
     let statement = store::statement_at(store, i);
@@ -27,7 +24,7 @@ fn links(store: &[u8], i: usize, height: u64, name: Name, parent: Name) -> bool
 }
 
 // The place of a propose of this height, name and parent, from one place up to another; that other, if there is none.
-fn seek(store: &[u8], from: usize, end: usize, height: u64, name: Name, parent: Name) -> usize
+fn seek(store: &[u8], from: usize, end: usize, height: u32, name: Name, parent: Name) -> usize
     requires { ⌜ (length (now store) ≡ storeLength) × (end ≤ mostStatements) ⌝ }
     ensures { λ r. ⌜ Place end (any (isLink height (nameOf name) (nameOf parent)) (rows (statementAt (now (store .entry))) from (end - from))) r ⌝ }
 {
@@ -44,7 +41,7 @@ fn seek(store: &[u8], from: usize, end: usize, height: u64, name: Name, parent: 
 }
 
 // The same among all statements, looked for from a place on and then before it; the count, if there is none.
-fn find(store: &[u8], begin: usize, count: usize, height: u64, name: Name, parent: Name) -> usize
+fn find(store: &[u8], begin: usize, count: usize, height: u32, name: Name, parent: Name) -> usize
     requires { ⌜ Counts statementTable (now store) count × (begin ≤ count) ⌝ }
     ensures { λ r. ⌜ Place count (any (isLink height (nameOf name) (nameOf parent)) (statements (now (store .entry)))) r ⌝ }
 {
@@ -69,7 +66,7 @@ pub fn is_linked(store: &[u8], count: usize, stored: usize) -> bool
     let mut i: usize = 0;
     while i < count {
         let name = store::name_at(store, i);
-        let height = i as u64 + 1;
+        let height = i as u32 + 1;
         let propose = find(store, begin, stored, height, name, parent);
         if stored <= propose {
             return false;

@@ -31,6 +31,9 @@ loop-holds c =
 name-at-requires : tie.Need-name-at-requires Inv-loop μ-loop
 name-at-requires c κs = search needs
 
+cast-height : tie.Need-cast-height Inv-loop μ-loop
+cast-height c = search needs
+
 add-height : tie.Need-add-height Inv-loop μ-loop
 add-height c = search needs
 
@@ -64,6 +67,7 @@ is-linked-spec =
     zero-requires
     loop-holds
     name-at-requires
+    cast-height
     add-height
     find-requires
     returns
