@@ -1,7 +1,10 @@
 -- What the readers of the store say of a stored statement. Assumes nothing.
 use Prim.Native.Nat.{ℕ}
 use mathlib.Core.Path.{_≡_, ap}
-use mathlib.Core.Option.{Option, none}
+use mathlib.Core.Bool.{Bool, false, not, _&&_, and-true, and-false}
+use mathlib.Core.Option.{Option}
+use lib.Dec.{eqb}
+use borrow.Author.Tests.{eq-eqb, ne-eqb}
 use Rattle.rules.specs.Words as words
 use Rattle.rules.specs.Inputs.{isBlock}
 use Rattle.fields.specs.Names.{nameOf}
@@ -22,7 +25,11 @@ module _ (x : Statement) (v : Option ℕ) (y : words.Statement) (e : statementOf
   unfolding statementOf
   link-of = ap (λ (s : words.Statement). s .link) e
 
-  -- a block is one whether or not it was voted for
-  pub block-of : (h n : ℕ) → isBlock h n (statementOf x none) ≡ isBlock h n y
+  -- where the height agrees, kind and name tell
+  pub block-agrees : (h n : ℕ) → h ≡ y .height → (own : Bool) → own ≡ eqb n (nameOf (x .name)) → (not (x .«is_new_view») && own) ≡ isBlock h n y
   unfolding isBlock statementOf
-  block-of h n = ap (isBlock h n) e
+  block-agrees h n p own q = rw (q, name-of, ap (λ (s : words.Statement). s .isNewView) e, eq-eqb _ _ p, and-true)
+
+pub block-differs : (h n : ℕ) (y : words.Statement) → (h ≡ y .height → ⊥) → false ≡ isBlock h n y
+unfolding isBlock
+block-differs h n y d = rw (ne-eqb _ _ d, and-false)

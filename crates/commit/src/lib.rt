@@ -10,20 +10,17 @@ ghost use Rattle.rules.specs.WellFormed.{wellFormed};
 ghost use Rattle.rules.specs.Inputs.{isBlock, commits, votes};
 ghost use Rattle.fields.specs.Records.{fields};
 ghost use Rattle.fields.specs.Names.{nameOf};
-ghost use Rattle.wire.specs.Meaning.{statementOf};
 ghost use Rattle.store.specs.Layout.{headerFormat, statementTable, logTable, storeLength, countOf};
 ghost use Rattle.store.specs.Decode.{statements, statementAt, names, stateOf, Form};
 ghost use Rattle.store.specs.Meaning.{headerOf};
 ghost use Rattle.store.specs.Changes.{firstFrom};
 ghost use Rattle.commit.specs.Chains.{nameIn, nameSoFar, Stored, voteIn, isRipe, WalkedFrom, Settled, Copied, Begun, Ready, Agree};
 ghost use Rattle.commit.specs.Outcome.{Joined, JoinedWith, Committed};
-ghost use mathlib.Core.Option.{none};
 use fields::Name;
 use settings::Settings;
 use store::Found;
 use store::Phase;
 use store::Station;
-use wire::Statement;
 
 // The log is so long now, or a chain differs from it.
 pub enum Merged {
@@ -31,18 +28,16 @@ pub enum Merged {
     Differs,
 }
 
-// Whether a statement is a propose of the name at the height.
-fn is_block(x: Statement, height: u32, name: Name) -> bool
-    ensures { λ r. ⌜ r ≡ isBlock height (nameOf name) (statementOf x none) ⌝ }
+// Whether statement i is a propose of the name at the height; no more than its height is read where that differs.
+fn is_block(store: &[u8], i: usize, height: u32, name: Name) -> bool
+    requires { ⌜ (length (now store) ≡ storeLength) × (i < mostStatements) ⌝ }
+    ensures { λ r. ⌜ r ≡ isBlock height (nameOf name) (statementAt (now (store .entry)) i) ⌝ }
 {
-    if x.is_new_view {
+    if height != store::height_at(store, i) {
         return false;
     }
-    if height != x.height {
-        return false;
-    }
-    let own = x.name;
-    name.same(own)
+    let x = store::statement_at(store, i);
+    !x.is_new_view & name.same(x.name)
 }
 
 // The place of the first stored propose of the name at the height.
@@ -55,8 +50,7 @@ pub fn find_block(store: &[u8], count: usize, height: u32, name: Name) -> Found
         if count <= i {
             break Found::Nothing;
         }
-        let x = store::statement_at(store, i);
-        if is_block(x, height, name) {
+        if is_block(store, i, height, name) {
             break Found::At(i);
         }
         i += 1;

@@ -68,8 +68,8 @@ fn wide(x: u8) -> u64
     x as u64
 }
 
-// The number of the bytes of a place.
-pub fn get(s: &[u8], at: usize, width: usize) -> u64
+// The number of the bytes of a place, byte by byte.
+fn by_bytes(s: &[u8], at: usize, width: usize) -> u64
     requires { ⌜ (width ≤ 8) × (at + width ≤ length (now s)) ⌝ }
     ensures { λ r. ⌜ (r ≡ number (now (s .entry)) at width) × (r < 256 ^ width) ⌝ }
 {
@@ -80,6 +80,19 @@ pub fn get(s: &[u8], at: usize, width: usize) -> u64
         k += 1;
     }
     value
+}
+
+// The number of the bytes of a place. Eight are read as two fours, of which the compiler makes one load.
+pub fn get(s: &[u8], at: usize, width: usize) -> u64
+    requires { ⌜ (width ≤ 8) × (at + width ≤ length (now s)) ⌝ }
+    ensures { λ r. ⌜ (r ≡ number (now (s .entry)) at width) × (r < 256 ^ width) ⌝ }
+{
+    if width == 8 {
+        let high = by_bytes(s, at, 4);
+        let low = by_bytes(s, at + 4, 4);
+        return high * 4_294_967_296 + low;
+    }
+    by_bytes(s, at, width)
 }
 
 // Writes the low bytes of a value to a place.

@@ -1,4 +1,6 @@
 pub mod Walks
+pub mod SameMarks
+pub mod Searches
 pub mod Forms
 pub mod Blocks
 pub mod Parts

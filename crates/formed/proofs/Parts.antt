@@ -175,22 +175,19 @@ module _ (x : Statement) (h : Certifies (bare x)) where
 
 -- ---- its tallies
 
-module _ (ts us : List words.Tally) (w : ts ≡ us) (x : words.Statement) (a : Bool) (p : a ≡ any (sameBlock (ownBlock x 0)) us) where
-  own : (b : Bool) → a ≡ b → any (sameBlock (ownBlock x 0)) ts ≡ b
-  own b e = ap (any (sameBlock (ownBlock x 0))) w ∙ sym p ∙ e
-
-  pub there-missing : not a ≡ true → false ≡ talliesThere ts x
+module _ (ts : List words.Tally) (x : words.Statement) where
+  pub there-missing : any (sameBlock (ownBlock x 0)) ts ≡ false → talliesThere ts x ≡ false
   unfolding talliesThere
-  there-missing e = rw (own false (not-true a e))
+  there-missing e = rw e
 
-  module _ (t : words.Tally) (q : t ≡ certificate x) (e : not a ≡ false) where
-    pub there-genesis : t .view ≡ 0 → true ≡ talliesThere ts x
+  module _ (t : words.Tally) (q : t ≡ certificate x) (e : any (sameBlock (ownBlock x 0)) ts ≡ true) where
+    pub there-genesis : t .view ≡ 0 → talliesThere ts x ≡ true
     unfolding talliesThere
-    there-genesis z = rw (own true (not-false a e), ← q, z)
+    there-genesis z = rw (e, ← q, z)
 
-    pub there-both : (t .view ≡ 0 → ⊥) → any (sameBlock t) us ≡ talliesThere ts x
+    pub there-both : (t .view ≡ 0 → ⊥) → talliesThere ts x ≡ any (sameBlock t) ts
     unfolding talliesThere
-    there-both d = rw (own true (not-false a e), ← q, ne-eqb _ _ d, w)
+    there-both d = rw (e, ← q, ne-eqb _ _ d)
 
 -- ---- blame masks
 
@@ -205,13 +202,13 @@ blames-are g b = masks-are g (rows (blameAt b) 0 lastView) (rows-length (blameAt
 -- ---- the log
 
 module _ (b : List ℕ) (i h name parent : ℕ) where
-  pub link-differs : (h ≡ number b (placeOf statementTable i + 4) 4 → ⊥) → false ≡ isLink h name parent (statementAt b i)
-  unfolding isLink isBlock statementAt
+  pub link-differs : (h ≡ statementAt b i .height → ⊥) → false ≡ isLink h name parent (statementAt b i)
+  unfolding isLink isBlock
   link-differs d = rw (ne-eqb _ _ d, and-false)
 
-  pub link-agrees : h ≡ number b (placeOf statementTable i + 4) 4 → (z : Statement) → statementOf z (statementAt b i .voted) ≡ statementAt b i
+  pub link-agrees : h ≡ statementAt b i .height → (z : Statement) → statementOf z (statementAt b i .voted) ≡ statementAt b i
       → (n p : Bool) → n ≡ eqb name (nameOf (z .name)) → p ≡ eqb parent (nameOf (z .link)) → (not (z .«is_new_view») && n && p) ≡ isLink h name parent (statementAt b i)
-  unfolding isLink isBlock statementAt statementOf
+  unfolding isLink isBlock statementOf
   link-agrees e z q n p en ep =
       rw (en, ep, ap (λ (x : words.Statement). x .isNewView) q, ap (λ (x : words.Statement). x .name) q, ap (λ (x : words.Statement). x .link) q, eq-eqb _ _ e, and-true)
 

@@ -5,7 +5,7 @@ use mathlib.Core.Bool.{Bool, true, false, _&&_}
 use mathlib.Core.List.{List, []}
 use mathlib.Core.Option.{Option, none, some}
 use lib.ListN.{length}
-use lib.Dec.{leb, eqb}
+use lib.Dec.{leb, ltb, eqb}
 use Rattle.rules.specs.Lists.{all, distinct, within}
 use Rattle.rules.specs.Sizes.{Settings}
 use Rattle.rules.specs.Words as words
@@ -17,7 +17,7 @@ use Rattle.fields.specs.Records.{fields}
 use Rattle.wire.specs.Meaning.{statementOf}
 use Rattle.wire.specs.declared.Statement.{Statement}
 use Rattle.store.specs.Layout.{headerFormat, storeLength, Table, statementTable, tallyTable, logTable, countOf}
-use Rattle.store.specs.Decode.{statementAt, statements, tallies, blames, names, stateFrom}
+use Rattle.store.specs.Decode.{nth, statementAt, statements, tallies, blames, names, stateFrom}
 use Rattle.store.specs.Meaning.{headerOf}
 use Rattle.store.specs.declared.Station.{Station}
 
@@ -39,6 +39,15 @@ fits b base size room count = leb count room && eqb (number b (base + size * cou
 -- the record at a place begins with this view, height and name
 unfoldable pub begins : List ℕ → ℕ → ℕ → ℕ → ℕ → Bool
 begins b at view height name = eqb view (number b at 4) && eqb height (number b (at + 4) 4) && eqb name (number b (at + 8) 32)
+
+-- the marks of a table's first n records: the last four bytes of their names
+abbrev pub Marked : List ℕ → ℕ → ℕ → ℕ → List ℕ → Type 0
+Marked b base size n marks = (i : ℕ) → i < n → nth marks i ≡ number b (base + size * i + 36) 4
+
+-- a place below n where the test holds, n itself where it fails
+pub record Place (n : ℕ) (test : Bool) (r : ℕ) : Type 0 where
+  pub within : r ≤ n
+  pub is : ltb r n ≡ test
 
 -- a statement as it was received
 abbrev pub bare : Statement → words.Statement

@@ -14,6 +14,7 @@ mod blames;
 mod form;
 mod header;
 mod log;
+mod marks;
 mod records;
 mod statements;
 mod tallies;
@@ -31,9 +32,7 @@ const LOG: usize = 21_124;
 
 const NAME_SIZE: usize = 32;
 
-// Where height and name are in a record that begins with a view.
-const HEIGHT: usize = 4;
-
+// Where the name is in a record that begins with a view and a height.
 const NAME: usize = 8;
 
 // Whether tallies, blame masks and log are well formed, where the statements are.

@@ -1,6 +1,6 @@
 // The statements of a store: allowed for these settings, voted for not after the clock, distinct.
 ghost use mathlib.Core.Path.{_≡_};
-ghost use Prim.Native.Nat.{_-_, _<_};
+ghost use Prim.Native.Nat.{_+_, _-_, _<_};
 ghost use lib.ListN.{length};
 ghost use Rattle.rules.specs.Limits.{mostStatements};
 ghost use Rattle.rules.specs.Lists.{all, any, distinct};
@@ -8,9 +8,10 @@ ghost use Rattle.rules.specs.Words.{sameStatement};
 ghost use Rattle.rules.specs.WellFormed.{statementGood};
 ghost use Rattle.store.specs.Layout.{storeLength, statementTable};
 ghost use Rattle.store.specs.Decode.{rows, voteOf, statementAt, statements};
-ghost use Rattle.formed.specs.Lent.{Counts, alone, bare, voteInOrder};
+ghost use Rattle.formed.specs.Lent.{Counts, Marked, alone, bare, voteInOrder};
 use super::STATEMENT_SIZE;
 use super::STATEMENTS;
+use super::marks;
 use super::records::begins;
 use store::Station;
 use wire::Statement;
@@ -87,15 +88,27 @@ fn has_statement(store: &[u8], from: usize, count: usize, statement: Statement) 
     false
 }
 
+// Whether a later statement is the same as statement i: looked for only where its mark is met again.
+fn repeated(store: &[u8], marks: &[u32; 256], i: usize, count: usize) -> bool
+    requires { ⌜ Counts statementTable (now store) count × Marked (now store) (statementTable .base) (statementTable .size) count (now marks) × (i < count) ⌝ }
+    ensures { λ r. ⌜ r ≡ any (sameStatement (statementAt (now (store .entry)) i)) (rows (statementAt (now (store .entry))) (i + 1) (count - (i + 1))) ⌝ }
+{
+    if !marks::again(marks, i, count) {
+        return false;
+    }
+    let statement = store::statement_at(store, i);
+    has_statement(store, i + 1, count, statement)
+}
+
 // Whether no two statements are the same.
 pub fn distinct(store: &[u8], count: usize) -> bool
     requires { ⌜ Counts statementTable (now store) count ⌝ }
     ensures { λ r. ⌜ r ≡ distinct sameStatement (statements (now (store .entry))) ⌝ }
 {
+    let marks = marks::marks_of(store, STATEMENTS, STATEMENT_SIZE, count);
     let mut i: usize = 0;
     while i < count {
-        let statement = store::statement_at(store, i);
-        if has_statement(store, i + 1, count, statement) {
+        if repeated(store, &marks, i, count) {
             return false;
         }
         i += 1;

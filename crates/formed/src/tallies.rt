@@ -1,16 +1,19 @@
 // The tallies of a store: allowed for these settings, distinct, and there for every statement.
 ghost use mathlib.Core.Path.{_≡_};
-ghost use Prim.Native.Nat.{_-_};
+ghost use Prim.Native.Nat.{_+_, _-_, _≤_, _<_};
+ghost use lib.ListN.{length};
+ghost use Rattle.rules.specs.Limits.{mostTallies};
 ghost use Rattle.rules.specs.Lists.{all, any, distinct};
 ghost use Rattle.rules.specs.Words.{sameBlock, certificate};
 ghost use Rattle.rules.specs.WellFormed.{tallyGood, talliesThere};
 ghost use Rattle.settings.specs.Made.{settingsOf};
-ghost use Rattle.store.specs.Layout.{statementTable, tallyTable};
+ghost use Rattle.store.specs.Layout.{storeLength, statementTable, tallyTable};
 ghost use Rattle.store.specs.Decode.{rows, tallyAt, statements, tallies};
 ghost use Rattle.store.specs.Meaning.{tallyOf};
-ghost use Rattle.formed.specs.Lent.{Counts, bare, Certifies, AllCertify};
+ghost use Rattle.formed.specs.Lent.{Counts, Marked, Place, bare, Certifies, AllCertify};
 use super::TALLIES;
 use super::TALLY_SIZE;
+use super::marks;
 use super::records::begins;
 use allowed::clauses;
 use settings::Settings;
@@ -42,14 +45,17 @@ pub fn all_good(store: &[u8], settings: Settings, count: usize) -> bool
     true
 }
 
-// Whether one of the tallies from a place on is of this block.
-pub fn has_tally(store: &[u8], from: usize, count: usize, block: Tally) -> bool
-    requires { ⌜ Counts tallyTable (now store) count ⌝ }
-    ensures { λ r. ⌜ r ≡ any (sameBlock (tallyOf block)) (rows (tallyAt (now (store .entry))) from (count - from)) ⌝ }
+// The place of a tally of this block, from one place up to another; that other, if there is none.
+fn seek(store: &[u8], from: usize, end: usize, block: Tally) -> usize
+    requires { ⌜ (length (now store) ≡ storeLength) × (end ≤ mostTallies) ⌝ }
+    ensures { λ r. ⌜ Place end (any (sameBlock (tallyOf block)) (rows (tallyAt (now (store .entry))) from (end - from))) r ⌝ }
 {
     let name = block.name;
     let mut i = from;
-    while i < count {
+    loop {
+        if end <= i {
+            break end;
+        }
         if begins(
             store,
             TALLIES + TALLY_SIZE * i,
@@ -57,11 +63,38 @@ pub fn has_tally(store: &[u8], from: usize, count: usize, block: Tally) -> bool
             block.height,
             name,
         ) {
-            return true;
+            break i;
         }
         i += 1;
     }
-    false
+}
+
+// The place of a tally of this block, looked for from a place on and then before it; the count, if there is none.
+fn find(store: &[u8], begin: usize, count: usize, block: Tally) -> usize
+    requires { ⌜ Counts tallyTable (now store) count × (begin ≤ count) ⌝ }
+    ensures { λ r. ⌜ Place count (any (sameBlock (tallyOf block)) (tallies (now (store .entry)))) r ⌝ }
+{
+    let later = seek(store, begin, count, block);
+    if later < count {
+        return later;
+    }
+    let sooner = seek(store, 0, begin, block);
+    if sooner < begin {
+        return sooner;
+    }
+    count
+}
+
+// Whether a later tally is of the block of tally i: looked for only where its mark is met again.
+fn repeated(store: &[u8], marks: &[u32; 256], i: usize, count: usize) -> bool
+    requires { ⌜ Counts tallyTable (now store) count × Marked (now store) (tallyTable .base) (tallyTable .size) count (now marks) × (i < count) ⌝ }
+    ensures { λ r. ⌜ r ≡ any (sameBlock (tallyAt (now (store .entry)) i)) (rows (tallyAt (now (store .entry))) (i + 1) (count - (i + 1))) ⌝ }
+{
+    if !marks::again(marks, i, count) {
+        return false;
+    }
+    let tally = store::tally_at(store, i);
+    seek(store, i + 1, count, tally) < count
 }
 
 // Whether no two tallies are of one block.
@@ -69,10 +102,10 @@ pub fn distinct(store: &[u8], count: usize) -> bool
     requires { ⌜ Counts tallyTable (now store) count ⌝ }
     ensures { λ r. ⌜ r ≡ distinct sameBlock (tallies (now (store .entry))) ⌝ }
 {
+    let marks = marks::marks_of(store, TALLIES, TALLY_SIZE, count);
     let mut i: usize = 0;
     while i < count {
-        let tally = store::tally_at(store, i);
-        if has_tally(store, i + 1, count, tally) {
+        if repeated(store, &marks, i, count) {
             return false;
         }
         i += 1;
@@ -103,39 +136,46 @@ fn certificate(statement: Statement) -> Tally
     }
 }
 
-// Whether a statement's own block and its certified block have their tallies.
-fn there(store: &[u8], count: usize, statement: Statement) -> bool
-    requires { ⌜ Counts tallyTable (now store) count × Certifies (bare statement) ⌝ }
-    ensures { λ r. ⌜ r ≡ talliesThere (tallies (now (store .entry))) (bare statement) ⌝ }
+// The place of the tally of a statement's own block; the count, if that or its certified block has none.
+fn there(store: &[u8], begin: usize, count: usize, statement: Statement) -> usize
+    requires { ⌜ Counts tallyTable (now store) count × (begin ≤ count) × Certifies (bare statement) ⌝ }
+    ensures { λ r. ⌜ Place count (talliesThere (tallies (now (store .entry))) (bare statement)) r ⌝ }
 {
     let name = statement.name;
-    let own = Tally {
+    let block = Tally {
         view: statement.view,
         height: statement.height,
         name,
         mask: 0,
     };
-    if !has_tally(store, 0, count, own) {
-        return false;
+    let own = find(store, begin, count, block);
+    if count <= own {
+        return count;
     }
     let certified = certificate(statement);
     if certified.view == 0 {
-        return true;
+        return own;
     }
-    has_tally(store, 0, count, certified)
+    if count <= find(store, begin, count, certified) {
+        return count;
+    }
+    own
 }
 
-// Whether every statement has its tallies.
+// Whether every statement has its tallies. Those of one mostly stand where those of the one before it ended.
 pub fn all_there(store: &[u8], count: usize, stored: usize) -> bool
     requires { ⌜ Counts tallyTable (now store) count × Counts statementTable (now store) stored × AllCertify (now store) stored ⌝ }
     ensures { λ r. ⌜ r ≡ all (talliesThere (tallies (now (store .entry)))) (statements (now (store .entry))) ⌝ }
 {
+    let mut begin: usize = 0;
     let mut i: usize = 0;
     while i < stored {
         let statement = store::statement_at(store, i);
-        if !there(store, count, statement) {
+        let own = there(store, begin, count, statement);
+        if count <= own {
             return false;
         }
+        begin = own;
         i += 1;
     }
     true

@@ -221,6 +221,14 @@ pub fn statement_at(store: &[u8], i: usize) -> Statement
     }
 }
 
+// The height of statement i.
+pub fn height_at(store: &[u8], i: usize) -> u32
+    requires { ⌜ (length (now store) ≡ storeLength) × (i < mostStatements) ⌝ }
+    ensures { λ r. ⌜ r ≡ statementAt (now (store .entry)) i .height ⌝ }
+{
+    get_four(store, STATEMENTS + STATEMENT_SIZE * i + HEIGHT)
+}
+
 // The number of the own vote for statement i: 0, or one more than its clock.
 pub fn voted_at(store: &[u8], i: usize) -> u32
     requires { ⌜ (length (now store) ≡ storeLength) × (i < mostStatements) ⌝ }

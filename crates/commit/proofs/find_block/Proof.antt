@@ -1,6 +1,5 @@
 -- `commit::find_block` meets its contract. The invariant: no place below i matches. The measure is what is left of the table. Assumes nothing.
 use Rattle.store.proofs.Forms.{form-long, form-statements}
-use Rattle.commit.proofs.Readers.{block-of}
 use Rattle.store.proofs.Searches.{find-none, find-here, find-next}
 use Rattle.store.specs.Changes.{firstFrom}
 use Rattle.store.specs.Decode.{rows, statements, statementAt}
@@ -27,16 +26,13 @@ unfolding statements
 loop-holds c =
     (omega arith, rw (c .before .pre .1, sub-zero))
 
-statement-at-requires : tie.Need-statement-at-requires Inv-loop μ-loop
-statement-at-requires c κs =
-    (form-long _ (c .before .before .before .pre .0), omega (arith, c .before .before .before .pre .1, form-statements _ (c .before .before .before .pre .0)))
-
 is-block-requires : tie.Need-is-block-requires Inv-loop μ-loop
-is-block-requires c κs = search needs
+is-block-requires c κs =
+    (form-long _ (c .before .before .before .pre .0), omega (arith, c .before .before .before .pre .1, form-statements _ (c .before .before .before .pre .0)))
 
 add-i : tie.Need-add-i Inv-loop μ-loop
 add-i c =
-    omega (arith, c .before .before .before .before .before .before .pre .1, form-statements _ (c .before .before .before .before .before .before .pre .0))
+    omega (arith, c .before .before .before .before .before .pre .1, form-statements _ (c .before .before .before .before .before .pre .0))
 
 loop-less : tie.Need-loop-less Inv-loop μ-loop
 loop-less c =
@@ -44,8 +40,8 @@ loop-less c =
 
 loop-again : tie.Need-loop-again Inv-loop μ-loop
 loop-again c =
-    let other = sym (block-of _ _ _ (c .before .before .statement-at .ensures) _ _) ∙ sym (c .before .is-block .ensures) ∙ c .if2 .left in
-    (omega arith, c .before .before .before .before .loop .inv .1 ∙ find-next _ _ _ (c .before .before .before .before .loop .i) (omega arith) other)
+    let other = sym (c .before .is-block .ensures) ∙ c .if2 .left in
+    (omega arith, c .before .before .before .loop .inv .1 ∙ find-next _ _ _ (c .before .before .before .loop .i) (omega arith) other)
 
 returns : tie.Need-returns Inv-loop μ-loop
 returns c =
@@ -53,8 +49,8 @@ returns c =
 
 returns-2 : tie.Need-returns-2 Inv-loop μ-loop
 returns-2 c =
-    let block = sym (block-of _ _ _ (c .before .before .statement-at .ensures) _ _) ∙ sym (c .before .is-block .ensures) ∙ c .if2 .taken in
-    sym (c .before .before .before .before .loop .inv .1 ∙ find-here _ _ _ (c .before .before .before .before .loop .i) (omega arith) block)
+    let block = sym (c .before .is-block .ensures) ∙ c .if2 .taken in
+    sym (c .before .before .before .loop .inv .1 ∙ find-here _ _ _ (c .before .before .before .loop .i) (omega arith) block)
 
 pub find-block-spec : {M : Type 1} → statement M
 find-block-spec =
@@ -63,7 +59,6 @@ find-block-spec =
     Inv-loop
     μ-loop
     loop-holds
-    statement-at-requires
     is-block-requires
     add-i
     loop-less

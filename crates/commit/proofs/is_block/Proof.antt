@@ -1,29 +1,28 @@
 -- `commit::is_block` meets its contract. Assumes nothing.
-use borrow.Author.Tests.{eq-eqb, ne-eqb}
-use mathlib.Core.Path.{_∙_}
-use Rattle.wire.specs.Meaning.{statementOf}
-use Rattle.rules.specs.Inputs.{isBlock}
+use mathlib.Core.Path.{sym, _∙_}
+use Rattle.commit.proofs.Readers.{block-agrees, block-differs}
 use borrow.Author.Needs.{needs}
 use Rattle.commit.proofs.is_block.Statement.{statement}
 use Rattle.commit.proofs.is_block.Tie as tie
 
-returns : tie.Need-returns
-unfolding isBlock statementOf
-returns c =
-    simp (c .if1 .taken)
+height-at-requires : tie.Need-height-at-requires
+height-at-requires c κs = search needs
 
-returns-2 : tie.Need-returns-2
-unfolding isBlock statementOf
-returns-2 c =
-    simp (c .before .before .if1 .left, ne-eqb _ _ (c .if2 .taken))
+returns : tie.Need-returns
+returns c =
+    block-differs _ _ _ (λ e. c .if1 .taken (e ∙ sym (c .before .height-at .ensures)))
+
+statement-at-requires : tie.Need-statement-at-requires
+statement-at-requires c κs = search needs
 
 same-requires : tie.Need-same-requires
 same-requires c κs = search needs
 
-returns-3 : tie.Need-returns-3
-unfolding isBlock statementOf
-returns-3 c =
-    c .same .ensures ∙ simp (c .before .before .before .before .if1 .left, eq-eqb _ _ (c .before .before .if2 .left))
+returns-2 : tie.Need-returns-2
+returns-2 c =
+    block-agrees _ _ _ (c .before .before .statement-at .ensures) _ _ (c .before .before .before .if1 .left ∙ c .before .before .before .before .height-at .ensures) _ (c .same .ensures)
 
 pub is-block-spec : {M : Type 1} → statement M
-is-block-spec = tie.close (tie.spec returns returns-2 same-requires returns-3)
+is-block-spec =
+    tie.close
+    (tie.spec height-at-requires returns statement-at-requires same-requires returns-2)

@@ -27,7 +27,7 @@ fn name(s: &[u8], at: usize) -> &[u8; 32] {
 }
 
 fn zero(s: &[u8]) -> bool {
-    s.iter().all(|&b| b == 0)
+    s.iter().fold(0, |any, b| any | b) == 0
 }
 
 /// A store, taken apart as far as every part of the check needs it.
@@ -95,54 +95,86 @@ impl Look<'_> {
             && u64::from(two(s, at + 40)) < 1 << self.n
     }
 
-    fn has(&self, view: u32, height: u32, block: &[u8; 32]) -> bool {
+    /// The place of a tally of this block, looked for from a place on, then before it.
+    fn find(&self, begin: usize, view: u32, height: u32, block: &[u8; 32]) -> Option<usize> {
         let key = u64::from(view) << 32 | u64::from(height);
-        (0..self.tallies).map(|i| TALLIES + TALLY * i).any(|at| {
+        (begin..self.tallies).chain(0..begin).find(|i| {
+            let at = TALLIES + TALLY * i;
             u64::from_be_bytes(self.s[at..at + 8].try_into().unwrap()) == key
                 && name(self.s, at + 8) == block
         })
     }
 
-    fn tallied(&self, at: usize) -> bool {
+    /// Whether a statement's two blocks have tallies: the place of its own.
+    fn tallied(&self, begin: usize, at: usize) -> Option<usize> {
         let (s, view, height) = (self.s, four(self.s, at), four(self.s, at + 4));
-        let certified = if s[at + 40] == 1 {
+        let own = self.find(begin, view, height, name(s, at + 8))?;
+        if s[at + 40] == 1 {
             let view = four(s, at + 72);
-            view == 0 || self.has(view, height, name(s, at + 8))
+            if view != 0 {
+                self.find(begin, view, height, name(s, at + 8))?;
+            }
         } else {
-            self.has(view, height - 1, name(s, at + 44))
-        };
-        certified && self.has(view, height, name(s, at + 8))
+            self.find(begin, view, height - 1, name(s, at + 44))?;
+        }
+        Some(own)
     }
 
-    fn distinct(&self) -> bool {
+    fn all_tallied(&self) -> bool {
+        let mut begin = 0;
+        (0..self.statements).all(|i| match self.tallied(begin, STATEMENTS + STATEMENT * i) {
+            Some(own) => {
+                begin = own;
+                true
+            }
+            None => false,
+        })
+    }
+
+    /// Whether no two records of a table are the same: compared only where the ends of their names are.
+    fn distinct(&self, base: usize, size: usize, count: usize, same: impl Fn(usize, usize) -> bool) -> bool {
+        let mut marks = [0; 256];
+        for i in 0..count {
+            marks[i] = four(self.s, base + size * i + 36);
+        }
+        (0..count).all(|i| {
+            let mark = marks[i];
+            let again = marks[i + 1..count].iter().fold(false, |hit, &m| hit | (m == mark));
+            !again || (i + 1..count).all(|j| !same(base + size * i, base + size * j))
+        })
+    }
+
+    fn statements_distinct(&self) -> bool {
         let s = self.s;
-        let statements = |i: usize, j: usize| {
-            let (a, b) = (STATEMENTS + STATEMENT * i, STATEMENTS + STATEMENT * j);
+        self.distinct(STATEMENTS, STATEMENT, self.statements, |a, b| {
             s[a..a + 8] == s[b..b + 8]
                 && s[a + 8..a + 42] == s[b + 8..b + 42]
                 && s[a + 44..a + 76] == s[b + 44..b + 76]
-        };
-        let tallies = |i: usize, j: usize| {
-            let (a, b) = (TALLIES + TALLY * i, TALLIES + TALLY * j);
+        })
+    }
+
+    fn tallies_distinct(&self) -> bool {
+        let s = self.s;
+        self.distinct(TALLIES, TALLY, self.tallies, |a, b| {
             s[a..a + 8] == s[b..b + 8] && s[a + 8..a + 40] == s[b + 8..b + 40]
-        };
-        (0..self.statements).all(|i| (i + 1..self.statements).all(|j| !statements(i, j)))
-            && (0..self.tallies).all(|i| (i + 1..self.tallies).all(|j| !tallies(i, j)))
+        })
     }
 
     fn linked(&self) -> bool {
         let s = self.s;
-        let mut parent = &GENESIS;
+        let (mut parent, mut begin) = (&GENESIS, 0);
         (0..self.logged).all(|i| {
             let block = name(s, LOG + 32 * i);
-            let found = (0..self.statements).map(|j| STATEMENTS + STATEMENT * j).any(|at| {
+            let found = (begin..self.statements).chain(0..begin).find(|j| {
+                let at = STATEMENTS + STATEMENT * j;
                 four(s, at + 4) == i as u32 + 1
                     && s[at + 40] == 2
                     && name(s, at + 8) == block
                     && name(s, at + 44) == parent
             });
             parent = block;
-            found
+            begin = found.unwrap_or(0);
+            found.is_some()
         })
     }
 }
@@ -165,8 +197,9 @@ fn well_formed(s: &[u8]) -> bool {
         && look.header()
         && (0..look.statements).all(|i| look.statement(STATEMENTS + STATEMENT * i))
         && (0..look.tallies).all(|i| look.tally(TALLIES + TALLY * i))
-        && look.distinct()
-        && (0..look.statements).all(|i| look.tallied(STATEMENTS + STATEMENT * i))
+        && look.statements_distinct()
+        && look.tallies_distinct()
+        && look.all_tallied()
         && (0..32).all(|i| u64::from(two(s, BLAMES + 2 * i)) < 1 << look.n)
         && look.linked()
 }

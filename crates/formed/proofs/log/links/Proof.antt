@@ -5,21 +5,12 @@ use borrow.Author.Needs.{needs}
 use Rattle.formed.proofs.log.links.Statement.{statement}
 use Rattle.formed.proofs.log.links.Tie as tie
 
-mul-get : tie.Need-mul-get
-mul-get c = search needs
-
-add-get : tie.Need-add-get
-add-get c = search needs
-
-add-get-2 : tie.Need-add-get-2
-add-get-2 c = search needs
-
-get-requires : tie.Need-get-requires
-get-requires c κs = search needs
+height-at-requires : tie.Need-height-at-requires
+height-at-requires c κs = search needs
 
 returns : tie.Need-returns
 returns c =
-    link-differs _ _ _ _ _ (λ e. c .if1 .taken (e ∙ sym (c .before .get .ensures .0)))
+    link-differs _ _ _ _ _ (λ e. c .if1 .taken (e ∙ sym (c .before .height-at .ensures)))
 
 statement-at-requires : tie.Need-statement-at-requires
 statement-at-requires c κs = search needs
@@ -32,16 +23,13 @@ same-requires-2 c κs = search needs
 
 returns-2 : tie.Need-returns-2
 returns-2 c =
-    link-agrees _ _ _ _ _ (c .before .before .before .before .if1 .left ∙ c .before .before .before .before .before .get .ensures .0) _ (c .before .before .before .statement-at .ensures) _ _ (c .before .same .ensures) (c .same2 .ensures)
+    link-agrees _ _ _ _ _ (c .before .before .before .before .if1 .left ∙ c .before .before .before .before .before .height-at .ensures) _ (c .before .before .before .statement-at .ensures) _ _ (c .before .same .ensures) (c .same2 .ensures)
 
 pub links-spec : {M : Type 1} → statement M
 links-spec =
     tie.close
     (tie.spec
-    mul-get
-    add-get
-    add-get-2
-    get-requires
+    height-at-requires
     returns
     statement-at-requires
     same-requires

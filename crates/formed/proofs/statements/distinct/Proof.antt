@@ -3,7 +3,6 @@ use Prim.Native.Nat.{_-_}
 use mathlib.Core.Path.{_≡_, sym, ap, _∙_}
 use Rattle.rules.specs.Words.{sameStatement}
 use Rattle.rules.specs.Lists.{distinct}
-use Rattle.wire.specs.Meaning.{statementOf}
 use Rattle.store.specs.Decode.{rows, statementAt, statements}
 use Rattle.formed.proofs.Walks.{rows-whole, distinct-end, distinct-here, distinct-next}
 use borrow.Author.Needs.{needs}
@@ -11,31 +10,27 @@ use Rattle.formed.proofs.statements.distinct.Statement.{statement}
 use Rattle.formed.proofs.statements.distinct.Tie as tie
 
 abbrev Inv-loop : tie.InvT-loop
-Inv-loop store count i₀ i =
+Inv-loop store count marks i₀ i =
     distinct sameStatement (statements store) ≡ distinct sameStatement (rows (statementAt store) i (count - i))
 
 abbrev μ-loop : tie.MeasureT-loop
-μ-loop store count i₀ i =
+μ-loop store count marks i₀ i =
     count - i
+
+marks-of-requires : tie.Need-marks-of-requires Inv-loop μ-loop
+marks-of-requires c κs = search needs
 
 loop-holds : tie.Need-loop-holds Inv-loop μ-loop
 unfolding statements
 loop-holds c =
-    ap (distinct sameStatement) (rows-whole (statementAt _) _ _ (c .before .pre .is))
+    ap (distinct sameStatement) (rows-whole (statementAt _) _ _ (c .before .before .pre .is))
 
-statement-at-requires : tie.Need-statement-at-requires Inv-loop μ-loop
-statement-at-requires c κs = search needs
-
-add-has-statement : tie.Need-add-has-statement Inv-loop μ-loop
-add-has-statement c = search needs
-
-has-statement-requires : tie.Need-has-statement-requires Inv-loop μ-loop
-has-statement-requires c κs = search needs
+repeated-requires : tie.Need-repeated-requires Inv-loop μ-loop
+repeated-requires c κs = search needs
 
 returns : tie.Need-returns Inv-loop μ-loop
-unfolding sameStatement statementOf
 returns c =
-    sym (c .before .before .before .before .loop .inv ∙ distinct-here (statementAt _) _ sameStatement _ (c .before .before .before .loop-test .taken) _ (c .before .before .statement-at .ensures) (sym (c .before .has-statement .ensures) ∙ c .if1 .taken))
+    sym (c .before .before .before .before .loop .inv ∙ distinct-here (statementAt _) _ sameStatement _ (c .before .before .before .loop-test .taken) (sym (c .before .repeated .ensures) ∙ c .if1 .taken))
 
 add-i : tie.Need-add-i Inv-loop μ-loop
 add-i c = search needs
@@ -44,9 +39,8 @@ loop-less : tie.Need-loop-less Inv-loop μ-loop
 loop-less c = search needs
 
 loop-again : tie.Need-loop-again Inv-loop μ-loop
-unfolding sameStatement statementOf
 loop-again c =
-    c .before .before .before .before .loop .inv ∙ distinct-next (statementAt _) _ sameStatement _ (c .before .before .before .loop-test .taken) _ (c .before .before .statement-at .ensures) (sym (c .before .has-statement .ensures) ∙ c .if1 .left)
+    c .before .before .before .before .loop .inv ∙ distinct-next (statementAt _) _ sameStatement _ (c .before .before .before .loop-test .taken) (sym (c .before .repeated .ensures) ∙ c .if1 .left)
 
 returns-2 : tie.Need-returns-2 Inv-loop μ-loop
 returns-2 c =
@@ -58,10 +52,9 @@ distinct-spec =
     (tie.spec
     Inv-loop
     μ-loop
+    marks-of-requires
     loop-holds
-    statement-at-requires
-    add-has-statement
-    has-statement-requires
+    repeated-requires
     returns
     add-i
     loop-less

@@ -10,30 +10,27 @@ use Rattle.formed.proofs.tallies.distinct.Statement.{statement}
 use Rattle.formed.proofs.tallies.distinct.Tie as tie
 
 abbrev Inv-loop : tie.InvT-loop
-Inv-loop store count i₀ i =
+Inv-loop store count marks i₀ i =
     distinct sameBlock (tallies store) ≡ distinct sameBlock (rows (tallyAt store) i (count - i))
 
 abbrev μ-loop : tie.MeasureT-loop
-μ-loop store count i₀ i =
+μ-loop store count marks i₀ i =
     count - i
+
+marks-of-requires : tie.Need-marks-of-requires Inv-loop μ-loop
+marks-of-requires c κs = search needs
 
 loop-holds : tie.Need-loop-holds Inv-loop μ-loop
 unfolding tallies
 loop-holds c =
-    ap (distinct sameBlock) (rows-whole (tallyAt _) _ _ (c .before .pre .is))
+    ap (distinct sameBlock) (rows-whole (tallyAt _) _ _ (c .before .before .pre .is))
 
-tally-at-requires : tie.Need-tally-at-requires Inv-loop μ-loop
-tally-at-requires c κs = search needs
-
-add-has-tally : tie.Need-add-has-tally Inv-loop μ-loop
-add-has-tally c = search needs
-
-has-tally-requires : tie.Need-has-tally-requires Inv-loop μ-loop
-has-tally-requires c κs = search needs
+repeated-requires : tie.Need-repeated-requires Inv-loop μ-loop
+repeated-requires c κs = search needs
 
 returns : tie.Need-returns Inv-loop μ-loop
 returns c =
-    sym (c .before .before .before .before .loop .inv ∙ distinct-here (tallyAt _) _ _ _ (c .before .before .before .loop-test .taken) _ (c .before .before .tally-at .ensures) (sym (c .before .has-tally .ensures) ∙ c .if1 .taken))
+    sym (c .before .before .before .before .loop .inv ∙ distinct-here (tallyAt _) _ sameBlock _ (c .before .before .before .loop-test .taken) (sym (c .before .repeated .ensures) ∙ c .if1 .taken))
 
 add-i : tie.Need-add-i Inv-loop μ-loop
 add-i c = search needs
@@ -43,11 +40,11 @@ loop-less c = search needs
 
 loop-again : tie.Need-loop-again Inv-loop μ-loop
 loop-again c =
-    c .before .before .before .before .loop .inv ∙ distinct-next (tallyAt _) _ _ _ (c .before .before .before .loop-test .taken) _ (c .before .before .tally-at .ensures) (sym (c .before .has-tally .ensures) ∙ c .if1 .left)
+    c .before .before .before .before .loop .inv ∙ distinct-next (tallyAt _) _ sameBlock _ (c .before .before .before .loop-test .taken) (sym (c .before .repeated .ensures) ∙ c .if1 .left)
 
 returns-2 : tie.Need-returns-2 Inv-loop μ-loop
 returns-2 c =
-    sym (c .before .loop .inv ∙ distinct-end (tallyAt _) _ _ _ (c .loop-test .left))
+    sym (c .before .loop .inv ∙ distinct-end (tallyAt _) _ sameBlock _ (c .loop-test .left))
 
 pub distinct-spec : {M : Type 1} → statement M
 distinct-spec =
@@ -55,10 +52,9 @@ distinct-spec =
     (tie.spec
     Inv-loop
     μ-loop
+    marks-of-requires
     loop-holds
-    tally-at-requires
-    add-has-tally
-    has-tally-requires
+    repeated-requires
     returns
     add-i
     loop-less

@@ -1,0 +1,63 @@
+-- The place that a search answers: of a part of the rows, and of all of them by a later and an earlier part. Each once, for every
+-- test and table. Assumes nothing.
+use Prim.Native.Nat.{ℕ, _+_, _-_, _<_, _≤_}
+use mathlib.Core.Path.{_≡_, refl, sym, ap, _∙_}
+use mathlib.Core.Bool.{Bool, true, false, _||_, or-true, or-false}
+use mathlib.Core.List.{List, [], _∷_, _++_}
+use native.Mathlib.Omega.{arith}
+use native.Mathlib.Nat.{zero-add, sub-zero}
+use lib.Dec.{ltb}
+use borrow.Author.Tests.{lt-ltb, le-ltb}
+use Rattle.rules.specs.Lists.{any}
+use Rattle.rules.proofs.Tests.{by-bool}
+use Rattle.store.specs.Decode.{rows}
+use Rattle.store.proofs.Rows.{rows-append}
+use Rattle.formed.specs.Lent.{Place}
+
+module _ (n r : ℕ) (test : Bool) where
+  pub place-here : r < n → test ≡ true → Place n test r
+  place-here h e = record { within = omega arith; is = lt-ltb r n h ∙ sym e }
+
+  pub place-found : Place n test r → r < n → test ≡ true
+  place-found p h = sym (p .is) ∙ lt-ltb r n h
+
+  pub place-missing : Place n test r → n ≤ r → test ≡ false
+  place-missing p h = sym (p .is) ∙ le-ltb r n h
+
+pub place-end : (n : ℕ) (test : Bool) → test ≡ false → Place n test n
+place-end n test e = record { within = omega arith; is = le-ltb n n (omega arith) ∙ sym e }
+
+module _ {A : Type 0} (p : A → Bool) where
+  any-both : (xs ys : List A) → any p (xs ++ ys) ≡ (any p xs || any p ys)
+  unfolding any
+  any-both [] ys = refl
+  any-both (x ∷ xs) ys = by-bool (p x) (λ t. rw (t, any, any)) (λ t. rw (t, any, any) (any-both xs ys))
+
+  -- all m rows by those from place k on and those before it
+  module _ (f : ℕ → A) (n m k : ℕ) (e : n ≡ m) (h : k ≤ n) where
+    abbrev whole : Bool
+    whole = any p (rows f 0 m)
+
+    abbrev later : Bool
+    later = any p (rows f k (n - k))
+
+    abbrev sooner : Bool
+    sooner = any p (rows f 0 (k - 0))
+
+    parts : whole ≡ (sooner || later)
+    parts =
+        let q : m ≡ k + (n - k) = omega arith in
+        ap (λ (j : ℕ). any p (rows f 0 j)) q ∙ ap (any p) (rows-append f 0 k (n - k)) ∙ any-both (rows f 0 k) _ ∙ rw (zero-add, sub-zero)
+
+    pub found-later : (r : ℕ) → Place n later r → r < n → Place n whole r
+    found-later r a l = place-here n r whole l (parts ∙ rw (place-found n r later a l) (or-true sooner))
+
+    module _ (q r : ℕ) (a : Place n later q) (g : n ≤ q) (b : Place k sooner r) where
+      before : whole ≡ sooner
+      before = parts ∙ rw (place-missing n q later a g) (or-false sooner)
+
+      pub found-sooner : r < k → Place n whole r
+      found-sooner l = place-here n r whole (omega arith) (before ∙ place-found k r sooner b l)
+
+      pub found-nowhere : k ≤ r → Place n whole n
+      found-nowhere l = place-end n whole (before ∙ place-missing k r sooner b l)

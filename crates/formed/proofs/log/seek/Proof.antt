@@ -1,0 +1,60 @@
+-- `formed::log::seek` meets its contract. Assumes nothing.
+use Prim.Native.Nat.{_-_}
+use mathlib.Core.Path.{_≡_, refl, sym, _∙_}
+use Rattle.rules.specs.Lists.{any}
+use Rattle.fields.specs.Names.{nameOf}
+use Rattle.store.specs.Decode.{rows, statementAt}
+use Rattle.formed.specs.Lent.{isLink}
+use Rattle.formed.proofs.Walks.{any-end, any-here, any-next}
+use Rattle.formed.proofs.Searches.{place-here, place-end}
+use borrow.Author.Needs.{needs}
+use Rattle.formed.proofs.log.seek.Statement.{statement}
+use Rattle.formed.proofs.log.seek.Tie as tie
+
+abbrev Inv-loop : tie.InvT-loop
+Inv-loop store from end height name parent i₀ i =
+    any (isLink height (nameOf name) (nameOf parent)) (rows (statementAt store) from (end - from))
+    ≡ any (isLink height (nameOf name) (nameOf parent)) (rows (statementAt store) i (end - i))
+
+abbrev μ-loop : tie.MeasureT-loop
+μ-loop store from end height name parent i₀ i =
+    end - i
+
+loop-holds : tie.Need-loop-holds Inv-loop μ-loop
+loop-holds c =
+    refl
+
+links-requires : tie.Need-links-requires Inv-loop μ-loop
+links-requires c κs = search needs
+
+add-i : tie.Need-add-i Inv-loop μ-loop
+add-i c = search needs
+
+loop-less : tie.Need-loop-less Inv-loop μ-loop
+loop-less c = search needs
+
+loop-again : tie.Need-loop-again Inv-loop μ-loop
+loop-again c =
+    c .before .before .before .loop .inv ∙ any-next (statementAt _) _ _ _ (c .before .before .if1 .left) (sym (c .before .links .ensures) ∙ c .if2 .left)
+
+returns : tie.Need-returns Inv-loop μ-loop
+returns c =
+    place-end _ _ (c .before .loop .inv ∙ any-end (statementAt _) _ _ _ (c .if1 .taken))
+
+returns-2 : tie.Need-returns-2 Inv-loop μ-loop
+returns-2 c =
+    place-here _ _ _ (c .before .before .if1 .left) (c .before .before .before .loop .inv ∙ any-here (statementAt _) _ _ _ (c .before .before .if1 .left) (sym (c .before .links .ensures) ∙ c .if2 .taken))
+
+pub seek-spec : {M : Type 1} → statement M
+seek-spec =
+    tie.close
+    (tie.spec
+    Inv-loop
+    μ-loop
+    loop-holds
+    links-requires
+    add-i
+    loop-less
+    loop-again
+    returns
+    returns-2)
