@@ -165,7 +165,7 @@ module _ (X : Group) where
           let u : ¬ (ck (suc k) ≡ q + D + 1) = λ z. w (rw d (c2 ∙ z)) in
           omega arith
 
-  -- ---- L6, L8 along the run
+  -- ---- L6 along the run
 
   given-of : (i : ℕ) (e : Event) (m : Message) → GivenBy i e m → (bs : List ℕ) × (e ≡ given i bs) × (read bs ≡ some m)
   given-of i idle m r = absurd r
@@ -217,7 +217,7 @@ module _ (X : Group) where
       (all-map (SaidAt i (ck (suc k))) (Known (VotedBy (ck (suc k))) parentOf (G i)) (known-here i k) o (said-here i k o q (ck (suc k)) refl))
       (begun-proper (VotedBy (ck (suc k))) parentOf (G i) (event k) (st i k) (proper-map (VotedBy (ck k)) (VotedBy (ck (suc k))) parentOf later (G i) (st i k) (proper-run i ok k)))
 
-  -- ---- what is stored and said is allowed
+  -- ---- L8 along the run: what is stored and said is allowed
 
   good : (i : ℕ) → Ok i → goodSettings (G i) ≡ true
   good i ok = settings-alike n D i (X .settings) (ok .0)

@@ -2,17 +2,17 @@
 -- block b of height h in view v is known), and a stored propose's parent is that of its name. What is known of what comes from
 -- outside, and of the own votes, is a hypothesis of each law. Assumes nothing.
 use mathlib.Core.Path.{_≡_, subst, subst₂, subst₃, refl, sym, ap, _∙_}
-use Prim.Native.Nat.{ℕ, _+_, _-_, _<_}
+use Prim.Native.Nat.{ℕ, _+_, _-_}
 use native.Mathlib.Omega.{arith}
 use native.Mathlib.Decide.{ℕ-discrete}
 use mathlib.Core.Bool.{true}
-use mathlib.Core.List.{List, [], _∷_, List·Memᴰ}
-use mathlib.Core.Logic.{_⊎_, inl, inr}
+use mathlib.Core.List.{List, [], _∷_}
+use mathlib.Core.Logic.{inl, inr}
 use mathlib.Core.Option.{some, Option·some-injective}
 use lib.Dec.{eqb}
-use Rattle.rules.specs.Sizes.{Settings, only, bit, joined, quorum}
+use Rattle.rules.specs.Sizes.{Settings, only, bit, joined}
 use Rattle.rules.specs.Messages.{Message, newView, propose, vote, blame, blameSet, status, allowed, Effect, toAll, toOne, committed}
-use Rattle.rules.specs.Words.{Statement, message, sameStatement, Tally, ownBlock, certificate, sameBlock, grown, join, joinCertificate, voters, genesis, highest, State, fresh}
+use Rattle.rules.specs.Words.{Statement, message, sameStatement, Tally, ownBlock, certificate, sameBlock, grown, join, joinCertificate, voters, highest, State, fresh}
 use Rattle.rules.specs.Inputs.{saying, _▸_, withPhase, withTables, withBlames, entering, belowLock, noted, votedFor, ballot, stored, blamed, above, ownNewView, report, current, inOrder, votingAll}
 use Rattle.rules.proofs.Tests.{by-bool}
 use Rattle.rules.proofs.Searches.{All, all-append, all-split, all-map, all-of, all-alter}
@@ -71,22 +71,21 @@ module _ (P : ℕ → ℕ → ℕ → ℕ → Type 0) (parentOf : ℕ → ℕ) w
   own-backed x me h i e = subst (P (x .view) (x .height) (x .name)) (sym (bit-only me i e)) h
 
   highest-backed : (g : Settings) (v : ℕ) (ts : List Tally) → All Backed ts → Backed (highest g v ts)
-  highest-backed g v ts a = go (highest-tally g v ts)
-    where
-      go : (highest g v ts ≡ genesis) ⊎ (List·Memᴰ (highest g v ts) ts × (highest g v ts .view < v) × (quorum g (highest g v ts .mask) ≡ true)) → Backed (highest g v ts)
-      go (inl e) = subst Backed (sym e) (λ i k. no-bit i k)
-      go (inr (m, l, c)) = all-of Backed ts a (highest g v ts) m
+  highest-backed g v ts a =
+      elim (highest-tally g v ts) [
+        | inl e ↦ subst Backed (sym e) (λ i k. no-bit i k)
+        | inr (m, _, _) ↦ all-of Backed ts a (highest g v ts) m
+      ]
 
   voters-backed : (x : Statement) (us : List Tally) → All Backed us → (i : ℕ) → bit (voters (ownBlock x 0) us) i ≡ 1 → P (x .view) (x .height) (x .name) i
   unfolding ownBlock
-  voters-backed x us a i y = go (voters-tally (ownBlock x 0) us)
-    where
-      go : (voters (ownBlock x 0) us ≡ 0) ⊎ ((u : Tally) × List·Memᴰ u us × (sameBlock (ownBlock x 0) u ≡ true) × (voters (ownBlock x 0) us ≡ u .mask))
-          → P (x .view) (x .height) (x .name) i
-      go (inl e) = no-bit i (rw e at y)
-      go (inr (u, m, e, f)) =
-          let (p, q, r) = block-eq (ownBlock x 0) u e in
-          subst₃ (λ (a b c : ℕ). P a b c i) (sym p) (sym q) (sym r) (all-of Backed us a u m i (rw f at y))
+  voters-backed x us a i y =
+      elim (voters-tally (ownBlock x 0) us) [
+        | inl e ↦ no-bit i (rw e at y)
+        | inr (u, m, e, f) ↦ (
+            let (p, q, r) = block-eq (ownBlock x 0) u e in
+            subst₃ (λ (a b c : ℕ). P a b c i) (sym p) (sym q) (sym r) (all-of Backed us a u m i (rw f at y)))
+      ]
 
   module _ (g : Settings) where
     pub record Proper (s : State) : Type 0 where
@@ -189,7 +188,7 @@ module _ (P : ℕ → ℕ → ℕ → ℕ → Type 0) (parentOf : ℕ → ℕ) w
 
 -- who is known to have voted goes on being known
 module _ (P Q : ℕ → ℕ → ℕ → ℕ → Type 0) (parentOf : ℕ → ℕ) (f : (v h b i : ℕ) → P v h b i → Q v h b i) where
-  pub right-map : (m : Message) → Right P parentOf m → Right Q parentOf m
+  right-map : (m : Message) → Right P parentOf m → Right Q parentOf m
   right-map m r = record { backed = λ t e i k. f _ _ _ i (r .backed t e i k); parent = r .parent }
 
   pub proper-map : (g : Settings) (s : State) → Proper P parentOf g s → Proper Q parentOf g s
