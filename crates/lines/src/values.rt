@@ -1,0 +1,159 @@
+// What a word says: a number, bytes in hex, a name, a mask.
+ghost use Prim.Native.Nat.{_≤_, _/_};
+ghost use lib.ListN.{length};
+use super::text;
+use super::text::Over;
+use fields::Name;
+
+// A number, or none.
+pub enum Number {
+    Is(u64),
+    Not,
+}
+
+// A name, or none.
+pub enum Named {
+    Is(Name),
+    Not,
+}
+
+fn is_decimal(b: u8) -> bool {
+    (b'0' <= b) & (b <= b'9')
+}
+
+fn is_hex(b: u8) -> bool {
+    is_decimal(b) | ((b'a' <= b) & (b <= b'f')) | ((b'A' <= b) & (b <= b'F'))
+}
+
+// What a digit says, decimal or hex; 0 if it is none.
+fn digit(b: u8) -> u8 {
+    match b {
+        b'0'..=b'9' => b - b'0',
+        b'a'..=b'f' => b - b'a' + 10,
+        b'A'..=b'F' => b - b'A' + 10,
+        _ => 0,
+    }
+}
+
+// Whether every byte is a hex digit.
+fn all_hex(word: &[u8]) -> bool {
+    let mut i: usize = 0;
+    while i < word.len() {
+        if !is_hex(word[i]) {
+            return false;
+        }
+        i += 1;
+    }
+    true
+}
+
+// A decimal number up to the largest.
+pub fn decimal(word: &[u8], most: u64) -> Number {
+    if word.len() == 0 {
+        return Number::Not;
+    }
+    let mut value: u64 = 0;
+    let mut i: usize = 0;
+    while i < word.len() {
+        let b = word[i];
+        if !is_decimal(b) {
+            return Number::Not;
+        }
+        let d = digit(b) as u64;
+        if most / 10 < value {
+            return Number::Not;
+        }
+        if most - value * 10 < d {
+            return Number::Not;
+        }
+        value = value * 10 + d;
+        i += 1;
+    }
+    Number::Is(value)
+}
+
+// Station numbers joined by '+', as a mask; '-' is nobody.
+pub fn mask(word: &[u8]) -> Number {
+    if text::same(word, b"-") {
+        return Number::Is(0);
+    }
+    let mut all: u64 = 0;
+    let mut from: usize = 0;
+    loop {
+        let end = text::run(word, from, Over::Station);
+        let Number::Is(station) = decimal(&word[from..end], 15) else {
+            return Number::Not;
+        };
+        all = all | (1 << station);
+        if end == word.len() {
+            return Number::Is(all);
+        }
+        from = end + 1;
+    }
+}
+
+// The number of up to 16 hex digits.
+fn hex_number(word: &[u8]) -> u64
+    requires { ⌜ length (now word) ≤ 16 ⌝ }
+{
+    let mut value: u64 = 0;
+    let mut i: usize = 0;
+    while i < word.len() {
+        value = value * 16 + digit(word[i]) as u64;
+        i += 1;
+    }
+    value
+}
+
+// 16 digits before a place, or as many as there are.
+fn back(at: usize) -> usize {
+    if at < 16 { 0 } else { at - 16 }
+}
+
+// 1 to 64 hex digits as a name, 16 to each word of it.
+pub fn name(word: &[u8]) -> Named {
+    let end = word.len();
+    if end == 0 {
+        return Named::Not;
+    }
+    if 64 < end {
+        return Named::Not;
+    }
+    if !all_hex(word) {
+        return Named::Not;
+    }
+    let fourth = back(end);
+    let third = back(fourth);
+    let second = back(third);
+    Named::Is(Name {
+        first: hex_number(&word[0..second]),
+        second: hex_number(&word[second..third]),
+        third: hex_number(&word[third..fourth]),
+        fourth: hex_number(&word[fourth..end]),
+    })
+}
+
+// Whether a word is bytes in hex: pairs of digits, or '-' for none.
+pub fn is_bytes(word: &[u8]) -> bool {
+    if text::same(word, b"-") {
+        return true;
+    }
+    if word.len() % 2 != 0 {
+        return false;
+    }
+    all_hex(word)
+}
+
+// Writes the bytes that pairs of hex digits say; '-' is no pair.
+pub fn write_bytes(word: &[u8], bytes: &mut [u8])
+    requires { ⌜ length (now word) / 2 ≤ length (now bytes) ⌝ }
+{
+    let count = word.len() / 2;
+    let mut i: usize = 0;
+    while i < count {
+        let high = digit(word[2 * i]);
+        let low = digit(word[2 * i + 1]);
+        bytes[i] = high * 16 + low;
+        i += 1;
+    }
+}
