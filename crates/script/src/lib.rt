@@ -1,5 +1,4 @@
 // A script from standard input, played to one station; docs/SCRIPT.md has its form.
-ghost use Prim.Native.Nat.{_≤_};
 use crate::stored::Store;
 use libc::STDIN_FILENO;
 
@@ -12,14 +11,14 @@ mod words;
 // The most bytes of a line, without its end.
 const LONGEST: usize = 4096;
 
-// How far the script is read: bytes of the line so far, one more than the longest line has where it is longer; lines, and bad ones.
+// How far the script is read: bytes of the line so far, 4,097 where it is too long; lines that ended, and the bad ones of them.
 struct Progress {
     used: usize,
     lines: u64,
     bad: u64,
 }
 
-// Counts on, as far as a word goes.
+// One more, up to the largest number.
 fn next(count: u64) -> u64 {
     if count < u64::MAX { count + 1 } else { count }
 }

@@ -3,11 +3,12 @@ use crate::show::Out;
 use crate::show;
 use crate::stored::Store;
 use crate::stored;
+use crate::words;
 use lines::Line;
 use page::Page;
 use settings::Settings;
 
-// Plays a line, and says whether it was one.
+// Plays a line, and says whether it was one. The bytes of any line of 4,096 have room.
 pub fn line(store: &mut Store, line: &[u8], number: u64) -> bool {
     let mut bytes = [0u8; 2048];
     match lines::read_line(line, &mut bytes) {
@@ -120,8 +121,7 @@ fn tick(
         return so_far;
     }
     let caught_up = quiet(page, so_far.at, number, so_far.told, before);
-    let started = show::start(page, caught_up, number, b"tick ");
-    let named = page::decimal(page, started, before + 1);
+    let named = name_tick(page, caught_up, number, before + 1);
     let at = show::answer(page, named, answer, out);
     Ticking {
         at,
@@ -130,18 +130,23 @@ fn tick(
     }
 }
 
+// A tick, by the clock that it leads to.
+fn name_tick(page: &mut Page, at: usize, number: u64, clock: u64) -> usize {
+    let started = show::start(page, at, number, b"tick ");
+    page::decimal(page, started, clock)
+}
+
 // Ticks that said nothing: those behind one clock, up to another.
 fn quiet(page: &mut Page, at: usize, number: u64, from: u64, to: u64) -> usize {
     if to <= from {
         return at;
     }
     if to - from == 1 {
-        let started = show::start(page, at, number, b"tick ");
-        let named = page::decimal(page, started, to);
+        let named = name_tick(page, at, number, to);
         return page::say(page, named, b": 0 done, 0 bytes\n");
     }
     let started = show::start(page, at, number, b"ticks ");
     let first = page::decimal(page, started, from + 1);
-    let last = crate::words::number(page, first, b" to ", to);
+    let last = words::number(page, first, b" to ", to);
     page::say(page, last, b": 0 done, 0 bytes each\n")
 }

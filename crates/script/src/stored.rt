@@ -36,6 +36,7 @@ pub fn log(line: u64, store: &Store) {
     page::finish(&page, end);
 }
 
+// The log of a store that is well formed.
 fn logged(page: &mut Page, at: usize, store: &Store) -> usize {
     if !formed::well_formed(store) {
         return show::refused(page, at, 2);
@@ -79,6 +80,7 @@ pub fn state(line: u64, store: &Store) {
     page::finish(&page, end);
 }
 
+// The state of a store that is well formed.
 fn standing(page: &mut Page, at: usize, store: &Store) -> usize {
     if !formed::well_formed(store) {
         return show::refused(page, at, 2);
