@@ -82,10 +82,13 @@ value base n (b ∷ bs) = value base (n * base + digit b) bs
 -- ---- what a word says
 
 -- "a number is decimal digits", and no larger than its field can hold
-unfoldable pub decimal : ℕ → List ℕ → Option ℕ
+unfoldable pub isNumber : ℕ → List ℕ → Bool
 unfolding all isDecimal value
-decimal most w =
-    elim (ltb 0 (length w) && all isDecimal w && leb (value 10 0 w) most) [ true ↦ some (value 10 0 w) | false ↦ none ]
+isNumber most w = ltb 0 (length w) && all isDecimal w && leb (value 10 0 w) most
+
+unfoldable pub decimal : ℕ → List ℕ → Option ℕ
+unfolding isNumber value
+decimal most w = elim (isNumber most w) [ true ↦ some (value 10 0 w) | false ↦ none ]
 
 unfoldable pub isDash : List ℕ → Bool
 unfolding sameList bytes
@@ -103,9 +106,13 @@ unfolding isDash all isHex
 isBytes w = isDash w || eqb (length w % 2) 0 && all isHex w
 
 -- "1 to 64 hex digits, with zeros in front up to 32 bytes": the number of the name
+unfoldable pub isName : List ℕ → Bool
+unfolding within all isHex
+isName w = within 1 64 (length w) && all isHex w
+
 unfoldable pub name : List ℕ → Option ℕ
-unfolding within all isHex value
-name w = elim (within 1 64 (length w) && all isHex w) [ true ↦ some (value 16 0 w) | false ↦ none ]
+unfolding isName value
+name w = elim (isName w) [ true ↦ some (value 16 0 w) | false ↦ none ]
 
 -- the parts of a word between its '+'
 unfoldable pub begin : ℕ → List (List ℕ) → List (List ℕ)

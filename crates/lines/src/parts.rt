@@ -68,8 +68,11 @@ fn sort_of(tag: u8) -> Sort
     ensures { λ r. ⌜ r ≡ fieldOf tag .sort ⌝ }
 {
     match tag {
-        2 | 3 | 6 => Sort::Number(0xFFFF_FFFF),
-        4 | 5 => Sort::Name,
+        2 => Sort::Number(0xFFFF_FFFF),
+        3 => Sort::Number(0xFFFF_FFFF),
+        4 => Sort::Name,
+        5 => Sort::Name,
+        6 => Sort::Number(0xFFFF_FFFF),
         7 => Sort::Mask,
         8 => Sort::Number(0xFF),
         _ => Sort::Number(0xFFFF_FFFF_FFFF_FFFF),

@@ -5,7 +5,7 @@ use fields::Name;
 ghost use mathlib.Core.Path.{_≡_};
 ghost use Prim.Native.Nat.{_≤_, _<_, _-_, _/_};
 ghost use lib.ListN.{length};
-ghost use Rattle.rules.specs.Lists.{all};
+ghost use Rattle.rules.specs.Lists.{all, within};
 ghost use Rattle.wire.specs.Wrote.{wrote};
 ghost use Rattle.lines.specs.Words.{isDecimal, isHex, digit, value, decimal, pairs, isBytes, name, mask};
 ghost use Rattle.lines.specs.Places.{numberOf, namedOf};
@@ -22,28 +22,38 @@ pub enum Named {
     Not,
 }
 
+fn within(least: u8, most: u8, b: u8) -> bool
+    ensures { λ r. ⌜ r ≡ within least most b ⌝ }
+{
+    (least <= b) & (b <= most)
+}
+
 fn is_decimal(b: u8) -> bool
     ensures { λ r. ⌜ r ≡ isDecimal b ⌝ }
 {
-    (b'0' <= b) & (b <= b'9')
+    within(b'0', b'9', b)
 }
 
 fn is_hex(b: u8) -> bool
     ensures { λ r. ⌜ r ≡ isHex b ⌝ }
 {
-    is_decimal(b) | ((b'a' <= b) & (b <= b'f')) | ((b'A' <= b) & (b <= b'F'))
+    is_decimal(b) | within(b'a', b'f', b) | within(b'A', b'F', b)
 }
 
 // What a digit says, decimal or hex; 0 if it is none.
 fn digit(b: u8) -> u8
     ensures { λ r. ⌜ (r ≡ digit b) × (r < 16) ⌝ }
 {
-    match b {
-        b'0'..=b'9' => b - b'0',
-        b'a'..=b'f' => b - b'a' + 10,
-        b'A'..=b'F' => b - b'A' + 10,
-        _ => 0,
+    if is_decimal(b) {
+        return b - b'0';
     }
+    if within(b'a', b'f', b) {
+        return b - b'a' + 10;
+    }
+    if within(b'A', b'F', b) {
+        return b - b'A' + 10;
+    }
+    0
 }
 
 // A digit's number, as a word.
