@@ -6,15 +6,25 @@ use super::parts::Place;
 use fields::Name;
 use wire::Message;
 use wire::Statement;
+ghost use mathlib.Core.Path.{_≡_};
+ghost use Prim.Native.Nat.{_≤_};
+ghost use lib.ListN.{length, drop};
+ghost use Rattle.fields.specs.Names.{nameOf};
+ghost use Rattle.wire.specs.Meaning.{messageOf, Writable};
+ghost use Rattle.lines.specs.Script.{spoken};
+ghost use Rattle.lines.specs.Places.{Inside, has as contains, Own, makes, heardOf, CanWrite};
 
 // A message, or what is wrong with it.
-pub enum Said {
+pub enum Heard {
     Is(Message),
     Wrong(Flaw),
 }
 
 // Whether a kind has a field.
-fn has(kind: usize, tag: u8) -> bool {
+fn has(kind: usize, tag: u8) -> bool
+    requires { ⌜ (1 ≤ kind) × (kind ≤ 6) × (2 ≤ tag) × (tag ≤ 8) ⌝ }
+    ensures { λ r. ⌜ r ≡ contains kind tag ⌝ }
+{
     match kind {
         1 => tag != 5,
         2 => tag != 6,
@@ -26,33 +36,25 @@ fn has(kind: usize, tag: u8) -> bool {
 }
 
 // The next field of a kind, or nothing if the kind hasn't got it.
-fn own(line: &[u8], place: Place, kind: usize, tag: u8) -> Part {
+fn own(line: &[u8], place: Place, kind: usize, tag: u8) -> Part
+    requires { ⌜ (1 ≤ kind) × (kind ≤ 6) × (2 ≤ tag) × (tag ≤ 8) × Inside (now line) place ⌝ }
+    ensures { λ r. ⌜ Own (now (line .entry)) place kind tag (r .value) (r .next) ⌝ }
+{
     if has(kind, tag) {
-        return parts::part(line, place, tag);
+        return parts::field(line, place, tag);
     }
-    let value = Name::zero();
+    let value = parts::small(0);
     Part { value, next: place }
 }
 
 // The message of a kind. A field that the kind hasn't got isn't looked at.
-fn made(
-    kind: usize,
-    view: u32,
-    height: u32,
-    name: Name,
-    parent: Name,
-    cert: u32,
-    mask: u16,
-    author: u8,
-) -> Message {
+fn made(kind: usize, view: u32, height: u32, name: Name, parent: Name, cert: u32, mask: u16, author: u8) -> Message
+    requires { ⌜ (1 ≤ kind) × (kind ≤ 6) ⌝ }
+    ensures { λ r. ⌜ (messageOf r ≡ makes kind view height (nameOf name) (nameOf parent) cert mask author) × (Writable r) ⌝ }
+{
     match kind {
         1 => {
-            let link = Name {
-                first: 0,
-                second: 0,
-                third: 0,
-                fourth: cert as u64,
-            };
+            let link = parts::small(cert as u64);
             Message::Stated(Statement {
                 is_new_view: true,
                 view,
@@ -90,20 +92,30 @@ fn made(
 }
 
 // The message of a kind, from the words of a place on.
-pub fn said(line: &[u8], at: usize, kind: usize) -> Said {
+pub fn said(line: &[u8], at: usize, kind: usize) -> Heard
+    requires { ⌜ (at ≤ length (now line)) × (1 ≤ kind) × (kind ≤ 6) ⌝ }
+    ensures { λ r. ⌜ (heardOf r ≡ spoken kind (drop at (now (line .entry)))) × (CanWrite r) ⌝ }
+{
     let view = own(line, Place::At(at), kind, 2);
-    let height = own(line, view.next, kind, 3);
-    let name = own(line, height.next, kind, 4);
-    let parent = own(line, name.next, kind, 5);
-    let cert = own(line, parent.next, kind, 6);
-    let mask = own(line, cert.next, kind, 7);
-    let author = own(line, mask.next, kind, 8);
-    if let Place::Wrong(flaw) = parts::ending(line, author.next) {
-        return Said::Wrong(flaw);
+    let at_height = view.next;
+    let height = own(line, at_height, kind, 3);
+    let at_name = height.next;
+    let name = own(line, at_name, kind, 4);
+    let at_parent = name.next;
+    let parent = own(line, at_parent, kind, 5);
+    let at_cert = parent.next;
+    let cert = own(line, at_cert, kind, 6);
+    let at_mask = cert.next;
+    let mask = own(line, at_mask, kind, 7);
+    let at_author = mask.next;
+    let author = own(line, at_author, kind, 8);
+    let at_end = author.next;
+    if let Place::Wrong(flaw) = parts::ending(line, at_end) {
+        return Heard::Wrong(flaw);
     }
     let block = name.value;
     let link = parent.value;
-    Said::Is(made(
+    Heard::Is(made(
         kind,
         view.value.fourth as u32,
         height.value.fourth as u32,

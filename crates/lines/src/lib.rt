@@ -1,8 +1,11 @@
 // What a line of a script means, read from its bytes. docs/SCRIPT.md has the form, specs/Script.antt says it exactly.
-use kinds::Said;
+use kinds::Heard;
 use parts::Place;
-ghost use lib.ListN.{length};
-ghost use Rattle.lines.specs.Answers.{Reads};
+ghost use mathlib.Core.Path.{_≡_};
+ghost use Prim.Native.Nat.{_≤_};
+ghost use lib.ListN.{length, drop};
+ghost use Rattle.lines.specs.Script.{lineOf, spoken, freshened, ticked, hex, hexed, alone};
+ghost use Rattle.lines.specs.Answers.{Reads, Says, HexAt, HexRead, given, asked};
 
 mod kinds;
 mod parts;
@@ -36,7 +39,7 @@ pub enum Line {
 
 // Reads a line: any bytes, any buffer.
 pub fn read_line(line: &[u8], bytes: &mut [u8]) -> Line
-    ensures { λ r. ⌜ Reads (now (line .entry)) (now (bytes .entry)) (now (bytes .exit)) r ⌝ }
+    ensures { λ r. ⌜ Reads (lineOf (now (line .entry))) (now (bytes .entry)) (now (bytes .exit)) r ⌝ }
 {
     let first = text::word(line, 0);
     let start = first.start;
@@ -52,20 +55,40 @@ pub fn read_line(line: &[u8], bytes: &mut [u8]) -> Line
         1..=6 => spoken(line, at, kind, bytes),
         7 => fresh(line, at),
         8 => tick(line, at),
-        9 => handed(line, at, bytes),
-        10 => offered(line, at, bytes),
-        11 => alone(line, at, Line::Log),
-        12 => alone(line, at, Line::State),
+        9 => hexed(line, at, false, bytes),
+        10 => hexed(line, at, true, bytes),
+        11 => alone(line, at, false),
+        12 => alone(line, at, true),
         _ => Line::Bad(Flaw::Word),
     }
 }
 
-// The last word of a name, where a number stands.
-fn fresh(line: &[u8], at: usize) -> Line {
-    let n = parts::part(line, Place::At(at), 0);
-    let delay = parts::part(line, n.next, 0);
-    let own = parts::part(line, delay.next, 0);
-    if let Place::Wrong(flaw) = parts::ending(line, own.next) {
+// A line of one word: whether it asks for the state, or for the log.
+fn alone(line: &[u8], at: usize, state: bool) -> Line
+    requires { ⌜ at ≤ length (now line) ⌝ }
+    ensures { λ r. ⌜ Says (alone (asked state) (drop at (now (line .entry)))) r ⌝ }
+{
+    if let Place::Wrong(flaw) = parts::ending(line, Place::At(at)) {
+        return Line::Bad(flaw);
+    }
+    if state {
+        return Line::State;
+    }
+    Line::Log
+}
+
+// A fresh store.
+fn fresh(line: &[u8], at: usize) -> Line
+    requires { ⌜ at ≤ length (now line) ⌝ }
+    ensures { λ r. ⌜ Says (freshened (drop at (now (line .entry)))) r ⌝ }
+{
+    let n = parts::field(line, Place::At(at), 0);
+    let at_delay = n.next;
+    let delay = parts::field(line, at_delay, 0);
+    let at_own = delay.next;
+    let own = parts::field(line, at_own, 0);
+    let at_end = own.next;
+    if let Place::Wrong(flaw) = parts::ending(line, at_end) {
         return Line::Bad(flaw);
     }
     Line::Fresh {
@@ -76,13 +99,17 @@ fn fresh(line: &[u8], at: usize) -> Line {
 }
 
 // One tick, or as many as are said.
-fn tick(line: &[u8], at: usize) -> Line {
+fn tick(line: &[u8], at: usize) -> Line
+    requires { ⌜ at ≤ length (now line) ⌝ }
+    ensures { λ r. ⌜ Says (ticked (drop at (now (line .entry)))) r ⌝ }
+{
     let word = text::word(line, at);
     if word.start == word.end {
         return Line::Tick { count: 1 };
     }
-    let count = parts::part(line, Place::At(at), 0);
-    if let Place::Wrong(flaw) = parts::ending(line, count.next) {
+    let count = parts::field(line, Place::At(at), 0);
+    let at_end = count.next;
+    if let Place::Wrong(flaw) = parts::ending(line, at_end) {
         return Line::Bad(flaw);
     }
     Line::Tick {
@@ -90,16 +117,11 @@ fn tick(line: &[u8], at: usize) -> Line {
     }
 }
 
-// A line of one word.
-fn alone(line: &[u8], at: usize, asked: Line) -> Line {
-    if let Place::Wrong(flaw) = parts::ending(line, Place::At(at)) {
-        return Line::Bad(flaw);
-    }
-    asked
-}
-
-// Whether a place is where bytes in hex stand, with no word behind them: answers the word.
-fn bytes_at(line: &[u8], at: usize) -> Place {
+// Whether a word of bytes in hex stands at a place, and no word behind it.
+fn holds_hex(line: &[u8], at: usize) -> Place
+    requires { ⌜ at ≤ length (now line) ⌝ }
+    ensures { λ r. ⌜ HexAt (now (line .entry)) at r ⌝ }
+{
     let word = text::word(line, at);
     let start = word.start;
     let end = word.end;
@@ -112,9 +134,12 @@ fn bytes_at(line: &[u8], at: usize) -> Place {
     parts::ending(line, Place::At(end))
 }
 
-// The bytes that are said in hex.
-fn hex(line: &[u8], at: usize, bytes: &mut [u8]) -> Place {
-    if let Place::Wrong(flaw) = bytes_at(line, at) {
+// The bytes that are said in hex, written to the buffer: how many they are.
+fn hex(line: &[u8], at: usize, bytes: &mut [u8]) -> Place
+    requires { ⌜ at ≤ length (now line) ⌝ }
+    ensures { λ r. ⌜ HexRead (hex (drop at (now (line .entry)))) (now (bytes .entry)) (now (bytes .exit)) r ⌝ }
+{
+    if let Place::Wrong(flaw) = holds_hex(line, at) {
         return Place::Wrong(flaw);
     }
     let word = text::word(line, at);
@@ -128,27 +153,30 @@ fn hex(line: &[u8], at: usize, bytes: &mut [u8]) -> Place {
     Place::At(len)
 }
 
-// A message in hex.
-fn handed(line: &[u8], at: usize, bytes: &mut [u8]) -> Line {
+// An offered name or a message in hex.
+fn hexed(line: &[u8], at: usize, offered: bool, bytes: &mut [u8]) -> Line
+    requires { ⌜ at ≤ length (now line) ⌝ }
+    ensures { λ r. ⌜ Reads (hexed (given offered) (drop at (now (line .entry)))) (now (bytes .entry)) (now (bytes .exit)) r ⌝ }
+{
     match hex(line, at, bytes) {
-        Place::At(len) => Line::Message { len },
         Place::Wrong(flaw) => Line::Bad(flaw),
+        Place::At(len) => {
+            if offered {
+                return Line::Offer { len };
+            }
+            Line::Message { len }
+        }
     }
 }
 
-// An offered name in hex.
-fn offered(line: &[u8], at: usize, bytes: &mut [u8]) -> Line {
-    match hex(line, at, bytes) {
-        Place::At(len) => Line::Offer { len },
-        Place::Wrong(flaw) => Line::Bad(flaw),
-    }
-}
-
-// A message in words.
-fn spoken(line: &[u8], at: usize, kind: usize, bytes: &mut [u8]) -> Line {
+// A message in words, written to the buffer.
+fn spoken(line: &[u8], at: usize, kind: usize, bytes: &mut [u8]) -> Line
+    requires { ⌜ (at ≤ length (now line)) × (1 ≤ kind) × (kind ≤ 6) ⌝ }
+    ensures { λ r. ⌜ Reads (spoken kind (drop at (now (line .entry)))) (now (bytes .entry)) (now (bytes .exit)) r ⌝ }
+{
     match kinds::said(line, at, kind) {
-        Said::Wrong(flaw) => Line::Bad(flaw),
-        Said::Is(message) => {
+        Heard::Wrong(flaw) => Line::Bad(flaw),
+        Heard::Is(message) => {
             if bytes.len() < wire::size(message) {
                 return Line::Bad(Flaw::Long);
             }

@@ -1,6 +1,11 @@
 // Runs of bytes, and the words of a line.
-ghost use Prim.Native.Nat.{_≤_};
-ghost use lib.ListN.{length};
+ghost use mathlib.Core.List.{List};
+ghost use mathlib.Core.Path.{_≡_};
+ghost use Prim.Native.Nat.{ℕ, _≤_};
+ghost use lib.ListN.{length, drop};
+ghost use Rattle.rules.specs.Script.{sameList};
+ghost use Rattle.lines.specs.Words.{isSpace, passes as passed};
+ghost use Rattle.lines.specs.Places.{Runs, WordOf, Lists, placed};
 
 // A part of a line, from start up to end: empty where no word was found.
 pub struct Span {
@@ -8,7 +13,7 @@ pub struct Span {
     pub end: usize,
 }
 
-// What a run goes over: the spaces before a word, the bytes of a word, the digits before a '+'.
+// What a run goes over: the spaces before a word, the bytes of a word, the bytes up to a '+'.
 pub enum Over {
     Spaces,
     Word,
@@ -16,12 +21,16 @@ pub enum Over {
 }
 
 // Whether a byte parts words.
-fn is_space(b: u8) -> bool {
+fn is_space(b: u8) -> bool
+    ensures { λ r. ⌜ r ≡ isSpace b ⌝ }
+{
     (b == b' ') | (b == b'\t') | (b == b'\r')
 }
 
 // Whether a run goes over a byte.
-fn passes(over: Over, b: u8) -> bool {
+fn passes(over: Over, b: u8) -> bool
+    ensures { λ r. ⌜ r ≡ passed over b ⌝ }
+{
     match over {
         Over::Spaces => is_space(b),
         Over::Word => !(is_space(b) | (b == b'#')),
@@ -32,6 +41,7 @@ fn passes(over: Over, b: u8) -> bool {
 // Where a run that starts at a place ends.
 pub fn run(s: &[u8], from: usize, over: Over) -> usize
     requires { ⌜ from ≤ length (now s) ⌝ }
+    ensures { λ r. ⌜ Runs over (now (s .entry)) from r ⌝ }
 {
     let mut i = from;
     while i < s.len() {
@@ -46,6 +56,7 @@ pub fn run(s: &[u8], from: usize, over: Over) -> usize
 // The next word from a place on.
 pub fn word(s: &[u8], from: usize) -> Span
     requires { ⌜ from ≤ length (now s) ⌝ }
+    ensures { λ r. ⌜ WordOf (now (s .entry)) (drop from (now (s .entry))) r ⌝ }
 {
     let start = run(s, from, Over::Spaces);
     let end = run(s, start, Over::Word);
@@ -53,7 +64,9 @@ pub fn word(s: &[u8], from: usize) -> Span
 }
 
 // Whether two runs of bytes are the same.
-pub fn same(a: &[u8], b: &[u8]) -> bool {
+pub fn same(a: &[u8], b: &[u8]) -> bool
+    ensures { λ r. ⌜ r ≡ sameList (now (a .entry)) (now (b .entry)) ⌝ }
+{
     if a.len() != b.len() {
         return false;
     }
@@ -68,9 +81,11 @@ pub fn same(a: &[u8], b: &[u8]) -> bool {
 }
 
 // Which word of a list this is, counted from 1; 0 if it is none.
-pub fn which(list: &[u8], it: &[u8]) -> usize {
+pub fn which(list: &[u8], it: &[u8]) -> usize
+    ensures { λ r. ⌜ ((ws : List (List ℕ)) → Lists ws (now (list .entry)) → r ≡ placed 1 ws (now (it .entry))) ⌝ }
+{
     let mut at: usize = 0;
-    let mut k: usize = 1;
+    let mut k: usize = 0;
     loop {
         let next = word(list, at);
         let start = next.start;
@@ -79,7 +94,7 @@ pub fn which(list: &[u8], it: &[u8]) -> usize {
             return 0;
         }
         if same(&list[start..end], it) {
-            return k;
+            return k + 1;
         }
         at = end;
         k += 1;
