@@ -26,9 +26,9 @@ module _ (words : List ℕ) (i : ℕ) (h : i < length words) where
 
   -- the two digits of the byte at i
   pub next-pair :
-    (page : List ℕ) (end : ℕ) (page′ : List ℕ) (end′ : ℕ) →
-    (page′, end′) ≡ typed page end (glyph (getD words i 0 / 16) ∷ (glyph (getD words i 0 % 16) ∷ [])) →
-    typed page end (pairs (drop i words)) ≡ typed page′ end′ (pairs (drop (i + 1) words))
+      (page : List ℕ) (end : ℕ) (page′ : List ℕ) (end′ : ℕ) →
+      (page′, end′) ≡ typed page end (glyph (getD words i 0 / 16) ∷ (glyph (getD words i 0 % 16) ∷ [])) →
+      typed page end (pairs (drop i words)) ≡ typed page′ end′ (pairs (drop (i + 1) words))
   unfolding typed pairs
   next-pair page end page′ end′ e = rw (add-one i, drop-cons words i 0 h) (sym (ap (λ (q : List ℕ × ℕ). typed (q .0) (q .1) (pairs (drop (suc i) words))) e))
 

@@ -1,8 +1,8 @@
 // What each line does to the station.
-use crate::show::Out;
 use crate::show;
-use crate::stored::Store;
+use crate::show::Out;
 use crate::stored;
+use crate::stored::Store;
 use crate::words;
 use lines::Line;
 use page::Page;

@@ -22,7 +22,7 @@ returns c =
     record {
       count = c .before .before .before .decimal .result;
       fewest = c .before .before .before .decimal .ensures .1 .0;
-      is = c .say .ensures ∙ ap (typed _ _) (c .before .before .before .decimal .ensures .1 .1)
+      is = c .say .ensures ∙ ap (typed _ _) (c .before .before .before .decimal .ensures .1 .1);
     }
 
 pub decimal-spec : {M : Type 1} → statement M
