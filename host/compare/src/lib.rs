@@ -2,13 +2,14 @@
 //! alike, written the same bytes, and hold the same log and tables.
 //!
 //! `pair` takes one input to both, `sources` has the inputs, `shrink` cuts a failing run down, `text`
-//! reads and writes runs as scripts.
+//! reads and writes runs as scripts, `tell` says what the script program must print of one.
 
 #![forbid(unsafe_code)]
 
 pub mod pair;
 pub mod shrink;
 pub mod sources;
+pub mod tell;
 pub mod text;
 
 use programs::Program;

@@ -95,7 +95,7 @@ fn random(asked: &Asked, met: &mut Met) -> Result<(), String> {
 
 /// A script in a file.
 fn given(path: &str, met: &mut Met) -> Result<(), String> {
-    let script = std::fs::read_to_string(path).map_err(|error| format!("{path}: {error}\n"))?;
+    let script = std::fs::read(path).map_err(|error| format!("{path}: {error}\n"))?;
     let inputs = text::read(&script).map_err(|error| format!("{path}: {error}\n"))?;
     match run::<Proved>(sources::Fixed::new(&inputs), met) {
         (_, None) => Ok(()),

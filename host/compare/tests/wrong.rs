@@ -86,7 +86,7 @@ fn a_mute_station_is_found() {
     let script = found::<Wrong<MUTE>>();
     assert_eq!(script.lines().filter(|line| line.starts_with("message 010001020200")).count(), 1);
     assert!(!script.contains("offer"), "{script}");
-    assert_eq!(text::read(&script).map(|inputs| text::write(&inputs)), Ok(script));
+    assert_eq!(text::read(script.as_bytes()).map(|inputs| text::write(&inputs)), Ok(script));
 }
 
 #[test]

@@ -1,0 +1,108 @@
+-- Fields at places of a line. Assumes nothing.
+use Prim.Native.Nat.{ℕ, zero, suc, _-_, _<_, _≤_}
+use mathlib.Core.Path.{_≡_, refl, sym, ap, _∙_}
+use mathlib.Core.Bool.{Bool, true, false}
+use mathlib.Core.List.{List, [], _∷_}
+use mathlib.Core.Option.{Option, none, some}
+use native.Mathlib.Omega.{arith}
+use lib.ListN.{length, take, drop}
+use Rattle.rules.specs.Script.{sameList}
+use Rattle.rules.proofs.Tests.{no-some}
+use Rattle.fields.specs.declared.Name.{Name}
+use Rattle.fields.specs.Names.{nameOf}
+use Rattle.lines.specs.Words.{word, rest, noWord, decimal, mask}
+use Rattle.lines.specs.Script.{says, flawOf, fieldOf, fields, plain, unlabelled, Got, got, wrong, onto, reads}
+use Rattle.lines.specs.Places.{WordOf, small, Holds, readsAt, Field}
+use Rattle.lines.specs.declared.Flaw.{Flaw}
+use Rattle.lines.specs.declared.Flaw.the-variants as flaw
+use Rattle.lines.specs.declared.parts.Sort as sorts
+use Rattle.lines.specs.declared.parts.Sort.the-variants.{Number, Name as Named, Mask}
+use Rattle.lines.specs.declared.parts.Place.{Place}
+use Rattle.lines.specs.declared.parts.Place.the-variants.{At, Wrong}
+use Rattle.lines.specs.declared.text.Span.{Span}
+use Rattle.lines.proofs.Runs.{word-none, word-some}
+
+pub label-yes : (l s : List ℕ) → sameList (word s) l ≡ true → unlabelled l s ≡ rest s
+unfolding unlabelled
+label-yes l s e = rw (e, unlabelled)
+
+pub label-no : (l s : List ℕ) → sameList (word s) l ≡ false → unlabelled l s ≡ s
+unfolding unlabelled
+label-no l s e = rw (e, unlabelled)
+
+-- no tag below 2 or above 8 has a label, or a limit of its own
+pub field-plain : (t : ℕ) → (t ≡ 2 → ⊥) → (t ≡ 3 → ⊥) → (t ≡ 4 → ⊥) → (t ≡ 5 → ⊥) → (t ≡ 6 → ⊥) → (t ≡ 7 → ⊥) → (t ≡ 8 → ⊥) → fieldOf t ≡ plain
+unfolding fieldOf
+field-plain zero a b c d e f g = refl
+field-plain (suc zero) a b c d e f g = refl
+field-plain (suc (suc zero)) a b c d e f g = absurd (a refl)
+field-plain (suc (suc (suc zero))) a b c d e f g = absurd (b refl)
+field-plain (suc (suc (suc (suc zero)))) a b c d e f g = absurd (c refl)
+field-plain (suc (suc (suc (suc (suc zero))))) a b c d e f g = absurd (d refl)
+field-plain (suc (suc (suc (suc (suc (suc zero)))))) a b c d e f g = absurd (e refl)
+field-plain (suc (suc (suc (suc (suc (suc (suc zero))))))) a b c d e f g = absurd (f refl)
+field-plain (suc (suc (suc (suc (suc (suc (suc (suc zero)))))))) a b c d e f g = absurd (g refl)
+field-plain (suc (suc (suc (suc (suc (suc (suc (suc (suc t))))))))) a b c d e f g = refl
+
+-- a number as a name
+pub small-is : (n : Name) → n ≡ small (n .fourth) → nameOf n ≡ n .fourth
+unfolding nameOf
+small-is n e = ap nameOf e ∙ small-name (n .fourth)
+  where
+  small-name : (v : ℕ) → nameOf (small v) ≡ v
+  small-name v = omega arith
+
+pub holds-zero : (x : sorts.Sort) → Holds x (small 0)
+holds-zero (Number most) = (refl, omega arith)
+holds-zero Named = tt
+holds-zero Mask = (refl, omega arith)
+
+pub ends-none : (s : List ℕ) → noWord s ≡ true → reads [] s ≡ got []
+unfolding reads
+ends-none s e = rw (e, reads)
+
+pub ends-extra : (s : List ℕ) → noWord s ≡ false → reads [] s ≡ wrong flaw.Extra
+unfolding reads
+ends-extra s e = rw (e, reads)
+
+module _ (t : ℕ) (s : List ℕ) (ts : List ℕ) where
+  abbrev r : List ℕ
+  r = unlabelled (fieldOf t .label) s
+
+  reads-missing : noWord r ≡ true → reads (t ∷ ts) s ≡ wrong flaw.Missing
+  unfolding reads
+  reads-missing e = rw (e, reads)
+
+  reads-not : noWord r ≡ false → says (fieldOf t .sort) (word r) ≡ none → reads (t ∷ ts) s ≡ wrong (flawOf (fieldOf t .sort))
+  unfolding reads
+  reads-not e f = rw (e, f, reads)
+
+  reads-is : (v : ℕ) → noWord r ≡ false → says (fieldOf t .sort) (word r) ≡ some v → reads (t ∷ ts) s ≡ onto v (reads ts (rest r))
+  unfolding reads
+  reads-is v e f = rw (e, f, reads)
+
+-- something is wrong, here or before
+pub field-wrong : (s : List ℕ) (p : Place) (t : ℕ) (n : Name) (q : Place) (f : Flaw) → n ≡ small 0 → q ≡ Wrong f
+    → ((ts : List ℕ) → readsAt (t ∷ ts) s p ≡ wrong f) → Field s p t n q
+unfolding onto
+field-wrong s p t n q f en eq h =
+    rw (en, eq) (record { goes = λ ts. h ts; inside = tt; holds = holds-zero (fieldOf t .sort) })
+
+module _ (s : List ℕ) (at t : ℕ) (w : Span) (r : WordOf s (unlabelled (fieldOf t .label) (drop at s)) w) where
+  pub field-missing : w .start ≡ w .end → (ts : List ℕ) → reads (t ∷ ts) (drop at s) ≡ wrong flaw.Missing
+  field-missing e ts = reads-missing t (drop at s) ts (word-none r e)
+
+  module _ (n : w .start ≡ w .end → ⊥) where
+    abbrev here : List ℕ
+    here = take (w .end - w .start) (drop (w .start) s)
+
+    pub field-not : says (fieldOf t .sort) here ≡ none → (ts : List ℕ) → reads (t ∷ ts) (drop at s) ≡ wrong (flawOf (fieldOf t .sort))
+    field-not e ts = reads-not t (drop at s) ts (word-some r n) (rw (r .is) at e)
+
+    pub field-is : (x : Name) → says (fieldOf t .sort) here ≡ some (nameOf x) → Holds (fieldOf t .sort) x → Field s (At at) t x (At (w .end))
+    field-is x e h =
+        record {
+          goes = λ ts. reads-is t (drop at s) ts (nameOf x) (word-some r n) (rw (r .is) at e) ∙ ap (λ (l : List ℕ). onto (nameOf x) (reads ts l)) (sym (r .after));
+          inside = r .high;
+          holds = h;
+        }

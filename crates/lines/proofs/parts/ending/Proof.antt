@@ -1,0 +1,36 @@
+-- `lines::parts::ending` meets its contract. Assumes nothing.
+use Rattle.lines.proofs.Fields.{ends-none, ends-extra}
+use lib.ListN.{drop}
+use Rattle.lines.proofs.Runs.{word-none, word-some}
+use Rattle.lines.specs.Script.{reads, wrong, got}
+use Rattle.lines.specs.Places.{Inside, readsAt}
+use mathlib.Core.Path.{_≡_, refl, sym, ap, _∙_}
+use mathlib.Core.List.{[]}
+use native.Mathlib.Omega.{arith}
+use borrow.Author.Needs.{needs}
+use Rattle.lines.proofs.parts.ending.Statement.{statement}
+use Rattle.lines.proofs.parts.ending.Tie as tie
+
+enum-known-place : tie.Need-enum-known-place
+enum-known-place c = search needs
+
+enum-told : tie.Need-enum-told
+enum-told c = search needs
+
+returns : tie.Need-returns
+returns c = search needs
+
+word-requires : tie.Need-word-requires
+word-requires c κs = rw (c .before .place .given .1) at (c .before .before .before .before .pre)
+
+returns-2 : tie.Need-returns-2
+returns-2 c =
+    rw (c .before .before .before .before .place .given .1) (sym (ends-extra (drop _ _) (word-some (c .before .before .word .ensures) (λ e. omega (arith, e, c .if1 .taken)))))
+
+returns-3 : tie.Need-returns-3
+returns-3 c =
+    rw (c .before .before .before .before .place .given .1) (sym (ends-none (drop _ _) (word-none (c .before .before .word .ensures) (omega (arith, (c .before .before .word .ensures) .low, c .if1 .left)))))
+
+pub ending-spec : {M : Type 1} → statement M
+ending-spec =
+    tie.close (tie.spec enum-known-place enum-told returns word-requires returns-2 returns-3)

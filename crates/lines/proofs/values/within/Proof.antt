@@ -1,0 +1,13 @@
+-- `lines::values::within` meets its contract. Assumes nothing.
+use mathlib.Core.Path.{refl}
+use Rattle.rules.specs.Lists.{within}
+use borrow.Author.Needs.{needs}
+use Rattle.lines.proofs.values.within.Statement.{statement}
+use Rattle.lines.proofs.values.within.Tie as tie
+
+returns : tie.Need-returns
+unfolding within
+returns c = refl
+
+pub within-spec : {M : Type 1} → statement M
+within-spec = tie.close (tie.spec returns)

@@ -1,0 +1,93 @@
+-- What the code answers, in the words of the definitions. Assumes nothing.
+use Prim.Native.Nat.{ℕ, _-_, _≤_}
+use mathlib.Core.Path.{_≡_}
+use mathlib.Core.Bool.{Bool, true, false}
+use mathlib.Core.List.{List, [], _∷_}
+use mathlib.Core.Option.{Option, none, some}
+use lib.ListN.{length, take, drop}
+use lib.Dec.{leb}
+use Rattle.fields.specs.Names.{nameOf}
+use Rattle.outgoing.specs.Wrote.{wrote}
+use Rattle.lines.specs.Words.{word, pairs}
+use Rattle.lines.specs.Script.{Got, got, wrong, hex, Meaning, blank, fresh, tick, message, offer, log, state, bad}
+use Rattle.lines.specs.declared.Flaw.the-variants.{Long}
+use Rattle.lines.specs.declared.parts.Place.{Place}
+use Rattle.lines.specs.declared.parts.Place.the-variants.{At, Wrong}
+use Rattle.lines.specs.declared.Line.{Line}
+use Rattle.lines.specs.declared.Line.the-variants.{Blank, Fresh, Tick, Message, Offer, Log, State, Bad}
+
+-- the answer to a line that means m, with a buffer of so much room, and what it leaves of the buffer
+unfoldable pub answer : ℕ → Meaning → Line
+answer room blank = Blank
+answer room (fresh n d own) = Fresh n d own
+answer room (tick k) = Tick k
+answer room (message bs) = elim (leb (length bs) room) [ true ↦ Message (length bs) | false ↦ Bad Long ]
+answer room (offer bs) = elim (leb (length bs) room) [ true ↦ Offer (length bs) | false ↦ Bad Long ]
+answer room log = Log
+answer room state = State
+answer room (bad f) = Bad f
+
+-- the bytes of a message or an offered name stand at the buffer's start, if there is room; all else is as it was
+unfoldable pub fill : List ℕ → List ℕ → List ℕ
+unfolding wrote
+fill o bs = elim (leb (length bs) (length o)) [ true ↦ wrote o 0 bs | false ↦ o ]
+
+unfoldable pub left : List ℕ → Meaning → List ℕ
+unfolding fill
+left o blank = o
+left o (fresh n d own) = o
+left o (tick k) = o
+left o (message bs) = fill o bs
+left o (offer bs) = fill o bs
+left o log = o
+left o state = o
+left o (bad f) = o
+
+-- a line that leaves the buffer alone, whatever its room
+pub record Says (m : Meaning) (r : Line) : Type 0 where
+  pub is : (room : ℕ) → r ≡ answer room m
+  pub still : (o : List ℕ) → left o m ≡ o
+
+-- a message or an offered name of these bytes; the log or the state
+abbrev pub given : Bool → List ℕ → Meaning
+given true bs = offer bs
+given false bs = message bs
+
+abbrev pub asked : Bool → Meaning
+asked true = state
+asked false = log
+
+-- a word of hex and no other, or what is wrong; how many bytes it says, where there is room, and what they leave of the buffer
+abbrev pub HexAt : List ℕ → ℕ → Place → Type 0
+HexAt s at (At i) = hex (drop at s) ≡ got (pairs (word (drop at s)))
+HexAt s at (Wrong f) = hex (drop at s) ≡ wrong f
+
+abbrev pub hexPlace : ℕ → Got → Place
+hexPlace room (got bs) = elim (leb (length bs) room) [ true ↦ At (length bs) | false ↦ Wrong Long ]
+hexPlace room (wrong f) = Wrong f
+
+abbrev pub hexLeft : List ℕ → Got → List ℕ
+hexLeft o (got bs) = fill o bs
+hexLeft o (wrong f) = o
+
+pub record HexRead (g : Got) (o o′ : List ℕ) (r : Place) : Type 0 where
+  pub is : r ≡ hexPlace (length o) g
+  pub out : o′ ≡ hexLeft o g
+
+-- how many bytes of the buffer a line fills
+abbrev pub filled : Line → ℕ
+filled Blank = 0
+filled (Fresh n d own) = 0
+filled (Tick k) = 0
+filled (Message k) = k
+filled (Offer k) = k
+filled Log = 0
+filled State = 0
+filled (Bad f) = 0
+
+-- reading a line that means m into the buffer o leaves the buffer o′ and answers r
+pub record Reads (m : Meaning) (o o′ : List ℕ) (r : Line) : Type 0 where
+  pub is : r ≡ answer (length o) m
+  pub out : o′ ≡ left o m
+  pub fits : filled r ≤ length o
+  pub kept : length o′ ≡ length o

@@ -1,0 +1,174 @@
+-- docs/SCRIPT.md, 'Lines': the fields, the first words, and what a line means. Assumes nothing.
+use Prim.Native.Nat.{ℕ, _-_, _^_}
+use Prim.Native.String.{String}
+use mathlib.Core.Bool.{Bool, true, false}
+use mathlib.Core.List.{List, [], _∷_}
+use mathlib.Core.Option.{Option, none, some}
+use lib.ListN.{length, getD}
+use Rattle.rules.specs.Messages.{write, rowOf}
+use Rattle.rules.specs.Script.{sameList}
+use Rattle.lines.specs.Words.{bytes, word, rest, noWord, decimal, pairs, isBytes, name, mask}
+use Rattle.lines.specs.declared.Flaw.{Flaw}
+use Rattle.lines.specs.declared.Flaw.the-variants as flaw
+use Rattle.lines.specs.declared.parts.Sort.{Sort}
+use Rattle.lines.specs.declared.parts.Sort.the-variants.{Number, Name, Mask}
+
+-- ---- fields
+
+-- what a word says as a field of a sort, and what is wrong with a word that says nothing
+unfoldable pub says : Sort → List ℕ → Option ℕ
+unfolding decimal name mask
+says (Number most) w = decimal most w
+says Name w = name w
+says Mask w = mask w
+
+unfoldable pub flawOf : Sort → Flaw
+flawOf (Number most) = flaw.Number
+flawOf Name = flaw.Name
+flawOf Mask = flaw.Mask
+
+-- a field: the word in small letters that may stand before it, and its sort
+pub record Field : Type 0 where
+  pub label : List ℕ
+  pub sort : Sort
+
+unfoldable pub labelled : String → Sort → Field
+unfolding bytes
+labelled t x = record { label = bytes t; sort = x }
+
+-- "N, D, OWN and K are below 2^64, a view, a height and a certificate view below 2^32, a station below 256"
+unfoldable pub below : ℕ → Sort
+below limit = Number (limit - 1)
+
+unfoldable pub plain : Field
+unfolding labelled below
+plain = labelled "" (below (2 ^ 64))
+
+-- the fields of a message by their tags on the wire; those of `fresh` and `tick` have tag 0
+unfoldable pub fields : List Field
+unfolding plain labelled below
+fields =
+    plain ∷ plain ∷ labelled "view" (below (2 ^ 32)) ∷ labelled "height" (below (2 ^ 32)) ∷ labelled "name" Name
+    ∷ labelled "parent" Name ∷ labelled "certificate" (below (2 ^ 32)) ∷ labelled "mask" Mask ∷ labelled "author" (below (2 ^ 8)) ∷ []
+
+unfoldable pub fieldOf : ℕ → Field
+unfolding fields plain
+fieldOf t = getD fields t plain
+
+-- ---- reading
+
+-- the numbers or the bytes that some words say, or what is wrong
+pub data Got : Type 0 where
+  got : List ℕ → Got
+  wrong : Flaw → Got
+
+unfoldable pub onto : ℕ → Got → Got
+onto v (got vs) = got (v ∷ vs)
+onto v (wrong f) = wrong f
+
+-- "may be left out, each by itself"
+unfoldable pub unlabelled : List ℕ → List ℕ → List ℕ
+unfolding sameList word rest
+unlabelled l s = elim (sameList (word s) l) [ true ↦ rest s | false ↦ s ]
+
+-- these fields, and then no word
+unfoldable pub reads : List ℕ → List ℕ → Got
+unfolding noWord unlabelled fieldOf word rest says flawOf onto
+reads [] s = elim (noWord s) [ true ↦ got [] | false ↦ wrong flaw.Extra ]
+reads (t ∷ ts) s =
+    let r = unlabelled (fieldOf t .label) s in
+    elim (noWord r) [
+      | true ↦ wrong flaw.Missing
+      | false ↦ elim (says (fieldOf t .sort) (word r)) [ none ↦ wrong (flawOf (fieldOf t .sort)) | some v ↦ onto v (reads ts (rest r)) ]
+    ]
+
+-- one word of bytes in hex, and then no word
+unfoldable pub hex : List ℕ → Got
+unfolding noWord isBytes pairs word rest
+hex s =
+    elim (noWord s) [
+      | true ↦ wrong flaw.Missing
+      | false ↦ elim (isBytes (word s)) [
+        | false ↦ wrong flaw.Hex
+        | true ↦ elim (noWord (rest s)) [ true ↦ got (pairs (word s)) | false ↦ wrong flaw.Extra ]
+      ]
+    ]
+
+-- ---- what a line means
+
+pub data Meaning : Type 0 where
+  blank : Meaning
+  fresh : (n delay own : ℕ) → Meaning
+  tick : (count : ℕ) → Meaning
+  message : List ℕ → Meaning
+  offer : List ℕ → Meaning
+  log : Meaning
+  state : Meaning
+  bad : Flaw → Meaning
+
+unfoldable pub meant : (List ℕ → Meaning) → Got → Meaning
+meant f (got vs) = f vs
+meant f (wrong e) = bad e
+
+-- a message in words: the fields of its kind
+unfoldable pub spoken : ℕ → List ℕ → Meaning
+unfolding rowOf meant reads write
+spoken k s =
+    elim (rowOf k) [
+      | none ↦ bad flaw.Word
+      | some row ↦ meant (λ vs. message (write (row .make (λ i. getD vs i 0)))) (reads (row .tags) s)
+    ]
+
+unfoldable pub freshened : List ℕ → Meaning
+unfolding meant reads
+freshened s = meant (λ vs. fresh (getD vs 0 0) (getD vs 1 0) (getD vs 2 0)) (reads (0 ∷ 0 ∷ 0 ∷ []) s)
+
+-- "`tick`: one tick of the clock; `tick K`: K ticks"
+unfoldable pub ticked : List ℕ → Meaning
+unfolding noWord meant reads
+ticked s = elim (noWord s) [ true ↦ tick 1 | false ↦ meant (λ vs. tick (getD vs 0 0)) (reads (0 ∷ []) s) ]
+
+unfoldable pub alone : Meaning → List ℕ → Meaning
+unfolding meant reads
+alone m s = meant (λ _. m) (reads [] s)
+
+unfoldable pub hexed : (List ℕ → Meaning) → List ℕ → Meaning
+unfolding meant hex
+hexed f s = meant f (hex s)
+
+-- a first word, and what it makes of the words behind it
+pub record Order : Type 0 where
+  pub first : List ℕ
+  pub means : List ℕ → Meaning
+
+unfoldable pub order : String → (List ℕ → Meaning) → Order
+unfolding bytes
+order t f = record { first = bytes t; means = f }
+
+unfoldable pub orders : List Order
+unfolding order spoken freshened ticked alone hexed
+orders =
+    order "new-view" (spoken 1)
+    ∷ order "propose" (spoken 2)
+    ∷ order "vote" (spoken 3)
+    ∷ order "blame" (spoken 4)
+    ∷ order "blame-set" (spoken 5)
+    ∷ order "status" (spoken 6)
+    ∷ order "fresh" freshened
+    ∷ order "tick" ticked
+    ∷ order "message" (hexed message)
+    ∷ order "offer" (hexed offer)
+    ∷ order "log" (alone log)
+    ∷ order "state" (alone state)
+    ∷ []
+
+-- the order of a first word, "a line that is none of these is said to be so"
+unfoldable pub ordered : List Order → List ℕ → List ℕ → Meaning
+unfolding sameList
+ordered [] w s = bad flaw.Word
+ordered (o ∷ os) w s = elim (sameList (o .first) w) [ true ↦ o .means s | false ↦ ordered os w s ]
+
+-- "a line without a word is passed over"
+unfoldable pub lineOf : List ℕ → Meaning
+unfolding noWord ordered orders word rest
+lineOf s = elim (noWord s) [ true ↦ blank | false ↦ ordered orders (word s) (rest s) ]

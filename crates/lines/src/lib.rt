@@ -1,0 +1,188 @@
+// What a line of a script means, read from its bytes. docs/SCRIPT.md has the form, specs/Script.antt says it exactly.
+use kinds::Heard;
+use parts::Place;
+ghost use mathlib.Core.Path.{_≡_};
+ghost use Prim.Native.Nat.{_≤_};
+ghost use lib.ListN.{length, drop};
+ghost use Rattle.lines.specs.Script.{lineOf, spoken, freshened, ticked, hex, hexed, alone};
+ghost use Rattle.lines.specs.Answers.{Reads, Says, HexAt, HexRead, given, asked};
+
+mod kinds;
+mod parts;
+mod text;
+mod values;
+
+// What is wrong with a line: the first word is unknown; a word is missing; a word is too many; a number, hex, a name or a mask isn't
+// one, or is too large for its field; the bytes have no room.
+pub enum Flaw {
+    Word,
+    Missing,
+    Extra,
+    Number,
+    Hex,
+    Name,
+    Mask,
+    Long,
+}
+
+// What a line asks for. The bytes of a message or an offered name stand at the start of the lent buffer.
+pub enum Line {
+    Blank,
+    Fresh { n: u64, delay: u64, own: u64 },
+    Tick { count: u64 },
+    Message { len: usize },
+    Offer { len: usize },
+    Log,
+    State,
+    Bad(Flaw),
+}
+
+// Reads a line: any bytes, any buffer.
+pub fn read_line(line: &[u8], bytes: &mut [u8]) -> Line
+    ensures { λ r. ⌜ Reads (lineOf (now (line .entry))) (now (bytes .entry)) (now (bytes .exit)) r ⌝ }
+{
+    let first = text::word(line, 0);
+    let start = first.start;
+    let at = first.end;
+    if start == at {
+        return Line::Blank;
+    }
+    let kind = text::which(
+        b"new-view propose vote blame blame-set status fresh tick message offer log state",
+        &line[start..at],
+    );
+    match kind {
+        1..=6 => spoken(line, at, kind, bytes),
+        7 => fresh(line, at),
+        8 => tick(line, at),
+        9 => hexed(line, at, false, bytes),
+        10 => hexed(line, at, true, bytes),
+        11 => alone(line, at, false),
+        12 => alone(line, at, true),
+        _ => Line::Bad(Flaw::Word),
+    }
+}
+
+// A line of one word: whether it asks for the state, or for the log.
+fn alone(line: &[u8], at: usize, state: bool) -> Line
+    requires { ⌜ at ≤ length (now line) ⌝ }
+    ensures { λ r. ⌜ Says (alone (asked state) (drop at (now (line .entry)))) r ⌝ }
+{
+    if let Place::Wrong(flaw) = parts::ending(line, Place::At(at)) {
+        return Line::Bad(flaw);
+    }
+    if state {
+        return Line::State;
+    }
+    Line::Log
+}
+
+// A fresh store.
+fn fresh(line: &[u8], at: usize) -> Line
+    requires { ⌜ at ≤ length (now line) ⌝ }
+    ensures { λ r. ⌜ Says (freshened (drop at (now (line .entry)))) r ⌝ }
+{
+    let n = parts::field(line, Place::At(at), 0);
+    let at_delay = n.next;
+    let delay = parts::field(line, at_delay, 0);
+    let at_own = delay.next;
+    let own = parts::field(line, at_own, 0);
+    let at_end = own.next;
+    if let Place::Wrong(flaw) = parts::ending(line, at_end) {
+        return Line::Bad(flaw);
+    }
+    Line::Fresh {
+        n: n.value.fourth,
+        delay: delay.value.fourth,
+        own: own.value.fourth,
+    }
+}
+
+// One tick, or as many as are said.
+fn tick(line: &[u8], at: usize) -> Line
+    requires { ⌜ at ≤ length (now line) ⌝ }
+    ensures { λ r. ⌜ Says (ticked (drop at (now (line .entry)))) r ⌝ }
+{
+    let word = text::word(line, at);
+    if word.start == word.end {
+        return Line::Tick { count: 1 };
+    }
+    let count = parts::field(line, Place::At(at), 0);
+    let at_end = count.next;
+    if let Place::Wrong(flaw) = parts::ending(line, at_end) {
+        return Line::Bad(flaw);
+    }
+    Line::Tick {
+        count: count.value.fourth,
+    }
+}
+
+// Whether a word of bytes in hex stands at a place, and no word behind it.
+fn holds_hex(line: &[u8], at: usize) -> Place
+    requires { ⌜ at ≤ length (now line) ⌝ }
+    ensures { λ r. ⌜ HexAt (now (line .entry)) at r ⌝ }
+{
+    let word = text::word(line, at);
+    let start = word.start;
+    let end = word.end;
+    if start == end {
+        return Place::Wrong(Flaw::Missing);
+    }
+    if !values::is_bytes(&line[start..end]) {
+        return Place::Wrong(Flaw::Hex);
+    }
+    parts::ending(line, Place::At(end))
+}
+
+// The bytes that are said in hex, written to the buffer: how many they are.
+fn hex(line: &[u8], at: usize, bytes: &mut [u8]) -> Place
+    requires { ⌜ at ≤ length (now line) ⌝ }
+    ensures { λ r. ⌜ HexRead (hex (drop at (now (line .entry)))) (now (bytes .entry)) (now (bytes .exit)) r ⌝ }
+{
+    if let Place::Wrong(flaw) = holds_hex(line, at) {
+        return Place::Wrong(flaw);
+    }
+    let word = text::word(line, at);
+    let start = word.start;
+    let end = word.end;
+    let len = (end - start) / 2;
+    if bytes.len() < len {
+        return Place::Wrong(Flaw::Long);
+    }
+    values::write_bytes(&line[start..end], bytes);
+    Place::At(len)
+}
+
+// An offered name or a message in hex.
+fn hexed(line: &[u8], at: usize, offered: bool, bytes: &mut [u8]) -> Line
+    requires { ⌜ at ≤ length (now line) ⌝ }
+    ensures { λ r. ⌜ Reads (hexed (given offered) (drop at (now (line .entry)))) (now (bytes .entry)) (now (bytes .exit)) r ⌝ }
+{
+    match hex(line, at, bytes) {
+        Place::Wrong(flaw) => Line::Bad(flaw),
+        Place::At(len) => {
+            if offered {
+                return Line::Offer { len };
+            }
+            Line::Message { len }
+        }
+    }
+}
+
+// A message in words, written to the buffer.
+fn spoken(line: &[u8], at: usize, kind: usize, bytes: &mut [u8]) -> Line
+    requires { ⌜ (at ≤ length (now line)) × (1 ≤ kind) × (kind ≤ 6) ⌝ }
+    ensures { λ r. ⌜ Reads (spoken kind (drop at (now (line .entry)))) (now (bytes .entry)) (now (bytes .exit)) r ⌝ }
+{
+    match kinds::said(line, at, kind) {
+        Heard::Wrong(flaw) => Line::Bad(flaw),
+        Heard::Is(message) => {
+            if bytes.len() < outgoing::size(message) {
+                return Line::Bad(Flaw::Long);
+            }
+            Line::Message {
+                len: outgoing::write_message(bytes, 0, message),
+            }
+        }
+    }
+}

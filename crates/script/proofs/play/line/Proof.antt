@@ -1,0 +1,135 @@
+-- `script::play::line` is safe: the bytes of a message or of an offered name lie in the buffer. Assumes nothing.
+use Prim.Native.Nat.{ℕ, _≤_}
+use mathlib.Core.Path.{_≡_, sym}
+use native.Mathlib.Omega.{arith}
+use lib.Seq.{length-take-le}
+use Rattle.lines.specs.Answers.{filled}
+use Rattle.lines.specs.declared.Line.{Line}
+use borrow.Author.Needs.{needs}
+use Rattle.script.proofs.play.line.Statement.{statement}
+use Rattle.script.proofs.play.line.Tie as tie
+
+-- what fits the buffer, before and after
+within : {r line : Line} {room room′ : ℕ} → r ≡ line → filled r ≤ room → room′ ≡ room → filled line ≤ room′
+within e f k = omega (arith, rw e at f)
+
+slice-aggregate-read-line : tie.Need-slice-aggregate-read-line
+slice-aggregate-read-line c = search needs
+
+read-line-requires : tie.Need-read-line-requires
+read-line-requires c κs = search needs
+
+enum-told : tie.Need-enum-told
+enum-told c = search needs
+
+enum-known-n : tie.Need-enum-known-n
+enum-known-n c = search needs
+
+fresh-requires : tie.Need-fresh-requires
+fresh-requires c κs = search needs
+
+enum-known-count : tie.Need-enum-known-count
+enum-known-count c = search needs
+
+ticks-requires : tie.Need-ticks-requires
+ticks-requires c κs = search needs
+
+enum-known-len : tie.Need-enum-known-len
+enum-known-len c = search needs
+
+array-share-prefix-bytes : tie.Need-array-share-prefix-bytes
+array-share-prefix-bytes c = within (c .before .before .len .given .1) (c .before .before .before .before .before .read-line .ensures .fits) (c .before .before .before .before .before .read-line .ensures .kept)
+
+slice-aggregate-message : tie.Need-slice-aggregate-message
+slice-aggregate-message c = sym (length-take-le _ _ (within (c .before .before .before .len .given .1) (c .before .before .before .before .before .before .read-line .ensures .fits) (c .before .before .before .before .before .before .read-line .ensures .kept)))
+
+message-requires : tie.Need-message-requires
+message-requires c κs = search needs
+
+enum-known-len-2 : tie.Need-enum-known-len-2
+enum-known-len-2 c = search needs
+
+array-share-prefix-bytes-2 : tie.Need-array-share-prefix-bytes-2
+array-share-prefix-bytes-2 c = within (c .before .before .len2 .given .1) (c .before .before .before .before .before .read-line .ensures .fits) (c .before .before .before .before .before .read-line .ensures .kept)
+
+slice-aggregate-offer : tie.Need-slice-aggregate-offer
+slice-aggregate-offer c = sym (length-take-le _ _ (within (c .before .before .before .len2 .given .1) (c .before .before .before .before .before .before .read-line .ensures .fits) (c .before .before .before .before .before .before .read-line .ensures .kept)))
+
+offer-requires : tie.Need-offer-requires
+offer-requires c κs = search needs
+
+enum-told-2 : tie.Need-enum-told-2
+enum-told-2 c = search needs
+
+log-requires : tie.Need-log-requires
+log-requires c κs = search needs
+
+enum-told-3 : tie.Need-enum-told-3
+enum-told-3 c = search needs
+
+state-requires : tie.Need-state-requires
+state-requires c κs = search needs
+
+enum-known-flaw : tie.Need-enum-known-flaw
+enum-known-flaw c = search needs
+
+bad-requires : tie.Need-bad-requires
+bad-requires c κs = search needs
+
+returns : tie.Need-returns
+returns c = search needs
+
+returns-2 : tie.Need-returns-2
+returns-2 c = search needs
+
+returns-3 : tie.Need-returns-3
+returns-3 c = search needs
+
+returns-4 : tie.Need-returns-4
+returns-4 c = search needs
+
+returns-5 : tie.Need-returns-5
+returns-5 c = search needs
+
+returns-6 : tie.Need-returns-6
+returns-6 c = search needs
+
+returns-7 : tie.Need-returns-7
+returns-7 c = search needs
+
+returns-8 : tie.Need-returns-8
+returns-8 c = search needs
+
+pub line-spec : {M : Type 1} → statement M
+line-spec =
+    tie.close
+    (tie.spec
+    slice-aggregate-read-line
+    read-line-requires
+    enum-told
+    enum-known-n
+    fresh-requires
+    enum-known-count
+    ticks-requires
+    enum-known-len
+    array-share-prefix-bytes
+    slice-aggregate-message
+    message-requires
+    enum-known-len-2
+    array-share-prefix-bytes-2
+    slice-aggregate-offer
+    offer-requires
+    enum-told-2
+    log-requires
+    enum-told-3
+    state-requires
+    enum-known-flaw
+    bad-requires
+    returns
+    returns-2
+    returns-3
+    returns-4
+    returns-5
+    returns-6
+    returns-7
+    returns-8)

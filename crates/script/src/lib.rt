@@ -1,0 +1,107 @@
+// A script from standard input, played to one station; docs/SCRIPT.md has its form.
+use crate::stored::Store;
+use libc::STDIN_FILENO;
+
+mod outgoing;
+mod play;
+mod show;
+mod stored;
+mod words;
+
+// The most bytes of a line, without its end.
+const LONGEST: usize = 4096;
+
+// How far the script is read: bytes of the line so far, 4,097 where it is too long; lines that ended, and the bad ones of them.
+struct Progress {
+    used: usize,
+    lines: u64,
+    bad: u64,
+}
+
+// One more, up to the largest number.
+fn next(count: u64) -> u64 {
+    if count < u64::MAX { count + 1 } else { count }
+}
+
+// A byte of a line is kept, if there is room.
+fn kept(line: &mut [u8; LONGEST], so_far: Progress, byte: u8) -> Progress {
+    let mut progress = so_far;
+    let used = so_far.used;
+    if used < LONGEST {
+        line[used] = byte;
+        progress.used = used + 1;
+    } else {
+        progress.used = LONGEST + 1;
+    }
+    progress
+}
+
+// Plays the first bytes of a line's buffer, and says whether they were a line.
+fn played(store: &mut Store, line: &[u8], used: usize, number: u64) -> bool {
+    if line.len() < used {
+        show::long(number);
+        return false;
+    }
+    play::line(store, &line[..used], number)
+}
+
+// The line ends.
+fn ended(store: &mut Store, line: &[u8; LONGEST], so_far: Progress) -> Progress {
+    let number = next(so_far.lines);
+    let bad = if played(store, line, so_far.used, number) {
+        so_far.bad
+    } else {
+        next(so_far.bad)
+    };
+    Progress {
+        used: 0,
+        lines: number,
+        bad,
+    }
+}
+
+// A piece of the script: lines, and parts of lines.
+fn read_on(
+    store: &mut Store,
+    line: &mut [u8; LONGEST],
+    piece: &[u8],
+    so_far: Progress,
+) -> Progress {
+    let mut progress = so_far;
+    let mut i = 0;
+    while i < piece.len() {
+        if piece[i] == b'\n' {
+            progress = ended(store, line, progress);
+        } else {
+            progress = kept(line, progress, piece[i]);
+        }
+        i += 1;
+    }
+    progress
+}
+
+// The whole script, a piece at a time. The turns are counted down from a number that no input uses up.
+pub fn run() {
+    let mut store = [0u8; store::LENGTH];
+    let mut line = io::buffer();
+    let mut progress = Progress {
+        used: 0,
+        lines: 0,
+        bad: 0,
+    };
+    let mut turns = u64::MAX;
+    while turns > 0 {
+        let mut piece = io::large_buffer();
+        let got = libc::read(STDIN_FILENO, &mut piece);
+        let n = io::count(got, &piece);
+        if n == 0 {
+            break;
+        }
+        progress = read_on(&mut store, &mut line, &piece[..n], progress);
+        turns -= 1;
+    }
+    if progress.used != 0 {
+        progress = ended(&mut store, &line, progress);
+    }
+    show::end_of_script(progress.lines, progress.bad);
+}

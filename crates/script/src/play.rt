@@ -1,0 +1,152 @@
+// What each line does to the station.
+use crate::show;
+use crate::show::Out;
+use crate::stored;
+use crate::stored::Store;
+use crate::words;
+use lines::Line;
+use page::Page;
+use settings::Settings;
+
+// Plays a line, and says whether it was one. The bytes of any line of 4,096 have room.
+pub fn line(store: &mut Store, line: &[u8], number: u64) -> bool {
+    let mut bytes = [0u8; 2048];
+    match lines::read_line(line, &mut bytes) {
+        Line::Blank => true,
+        Line::Fresh { n, delay, own } => {
+            fresh(store, number, n, delay, own);
+            true
+        }
+        Line::Tick { count } => {
+            ticks(store, number, count);
+            true
+        }
+        Line::Message { len } => {
+            message(store, number, &bytes[..len]);
+            true
+        }
+        Line::Offer { len } => {
+            offer(store, number, &bytes[..len]);
+            true
+        }
+        Line::Log => {
+            stored::log(number, store);
+            true
+        }
+        Line::State => {
+            stored::state(number, store);
+            true
+        }
+        Line::Bad(flaw) => {
+            show::bad(number, flaw);
+            false
+        }
+    }
+}
+
+// Prints the answer to a line.
+fn answered(number: u64, what: &[u8], answer: u64, out: &Out) {
+    let mut page = io::buffer();
+    let started = show::start(&mut page, 0, number, what);
+    let end = show::answer(&mut page, started, answer, out);
+    page::finish(&page, end);
+}
+
+// A fresh store, which writes nothing out.
+fn fresh(store: &mut Store, number: u64, n: u64, delay: u64, own: u64) {
+    let answer = station::station_fresh(store, n, delay, own);
+    let out = [0u8; Settings::LEAST_OUT];
+    answered(number, b"fresh", answer, &out);
+}
+
+// A message is handed over.
+fn message(store: &mut Store, number: u64, message: &[u8]) {
+    let mut out = [0u8; Settings::LEAST_OUT];
+    let answer = station::station_step(store, message, &mut out);
+    answered(number, b"message", answer, &out);
+}
+
+// A name is offered.
+fn offer(store: &mut Store, number: u64, name: &[u8]) {
+    let mut out = [0u8; Settings::LEAST_OUT];
+    let answer = station::station_offer(store, name, &mut out);
+    answered(number, b"offer", answer, &out);
+}
+
+// How far a line of ticks is: what the page has, the clock up to which ticks are told, and whether one was refused.
+struct Ticking {
+    at: usize,
+    told: u64,
+    refused: bool,
+}
+
+// Ticks, until one is refused.
+fn ticks(store: &mut Store, number: u64, count: u64) {
+    let mut page = io::buffer();
+    let mut out = [0u8; Settings::LEAST_OUT];
+    let mut so_far = Ticking {
+        at: 0,
+        told: stored::clock(store),
+        refused: false,
+    };
+    let mut left = count;
+    while left > 0 {
+        so_far = tick(store, &mut out, &mut page, number, so_far);
+        if so_far.refused {
+            break;
+        }
+        left -= 1;
+    }
+    let end = quiet(
+        &mut page,
+        so_far.at,
+        number,
+        so_far.told,
+        stored::clock(store),
+    );
+    page::finish(&page, end);
+}
+
+// One tick. What it says is told at once, and before it the ticks that said nothing.
+fn tick(
+    store: &mut Store,
+    out: &mut Out,
+    page: &mut Page,
+    number: u64,
+    so_far: Ticking,
+) -> Ticking {
+    let before = stored::clock(store);
+    let answer = station::station_tick(store, out);
+    if answer == 0 {
+        return so_far;
+    }
+    let caught_up = quiet(page, so_far.at, number, so_far.told, before);
+    let named = name_tick(page, caught_up, number, before + 1);
+    let at = show::answer(page, named, answer, out);
+    Ticking {
+        at,
+        told: stored::clock(store),
+        refused: show::refusal(answer) != 0,
+    }
+}
+
+// A tick, by the clock that it leads to.
+fn name_tick(page: &mut Page, at: usize, number: u64, clock: u64) -> usize {
+    let started = show::start(page, at, number, b"tick ");
+    page::decimal(page, started, clock)
+}
+
+// Ticks that said nothing: those behind one clock, up to another.
+fn quiet(page: &mut Page, at: usize, number: u64, from: u64, to: u64) -> usize {
+    if to <= from {
+        return at;
+    }
+    if to - from == 1 {
+        let named = name_tick(page, at, number, to);
+        return page::say(page, named, b": 0 done, 0 bytes\n");
+    }
+    let started = show::start(page, at, number, b"ticks ");
+    let first = page::decimal(page, started, from + 1);
+    let last = words::number(page, first, b" to ", to);
+    page::say(page, last, b": 0 done, 0 bytes each\n")
+}

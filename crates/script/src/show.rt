@@ -1,0 +1,104 @@
+// What is printed of each line: what it was, and the answer or what is wrong with it.
+use crate::outgoing;
+use crate::words;
+use lines::Flaw;
+use page::Page;
+use settings::Settings;
+
+// An out buffer of the least length that a station takes.
+pub type Out = [u8; Settings::LEAST_OUT];
+
+// What each answer's number is multiplied by, for a count of bytes beside it.
+const UNIT: u64 = 4_294_967_296;
+
+// The line's number, and what it is.
+pub fn start(page: &mut Page, at: usize, line: u64, what: &[u8]) -> usize {
+    let numbered = words::number(page, at, b"line ", line);
+    let marked = page::say(page, numbered, b": ");
+    page::say(page, marked, what)
+}
+
+// The reasons of refusals, in 01's words.
+pub fn reason(page: &mut Page, at: usize, refusal: u64) -> usize {
+    match refusal {
+        1 => page::say(
+            page,
+            at,
+            b" store not of its exact length, offered name not 32 bytes, or out buffer too short\n",
+        ),
+        2 => page::say(page, at, b" store not well formed\n"),
+        3 => page::say(page, at, b" already stopped\n"),
+        4 => page::say(page, at, b" unreadable message\n"),
+        5 => page::say(page, at, b" message not allowed\n"),
+        6 => page::say(page, at, b" no record free for what this input must add\n"),
+        7 => page::say(
+            page,
+            at,
+            b" a due commit differs from the log at a height\n",
+        ),
+        8 => page::say(page, at, b" tick at clock 4,000,000,000\n"),
+        9 => page::say(page, at, b" offer not to be taken\n"),
+        _ => page::say(page, at, b" bad settings for a fresh store\n"),
+    }
+}
+
+// The refusal of an answer; 0 is done.
+pub fn refusal(answer: u64) -> u64 {
+    answer / UNIT
+}
+
+// A refusal's number and reason.
+pub fn refused(page: &mut Page, at: usize, refusal: u64) -> usize {
+    let numbered = words::number(page, at, b": ", refusal);
+    reason(page, numbered, refusal)
+}
+
+// An answer: a refusal, or how many bytes were written and what they say.
+pub fn answer(page: &mut Page, at: usize, answer: u64, out: &Out) -> usize {
+    let number = refusal(answer);
+    if number != 0 {
+        return refused(page, at, number);
+    }
+    let count = answer % UNIT;
+    let counted = words::number(page, at, b": 0 done, ", count);
+    let told = page::say(page, counted, b" bytes\n");
+    outgoing::first(page, told, out, count as usize)
+}
+
+// What is wrong with a line.
+fn flaw(page: &mut Page, at: usize, flaw: Flaw) -> usize {
+    match flaw {
+        Flaw::Word => page::say(page, at, b"the first word is not known\n"),
+        Flaw::Missing => page::say(page, at, b"a word is missing\n"),
+        Flaw::Extra => page::say(page, at, b"a word too many\n"),
+        Flaw::Number => page::say(page, at, b"not a decimal number, or too large\n"),
+        Flaw::Hex => page::say(page, at, b"not hex digits in pairs\n"),
+        Flaw::Name => page::say(page, at, b"not a name of 1 to 64 hex digits\n"),
+        Flaw::Mask => page::say(page, at, b"not a mask of station numbers joined by +\n"),
+        Flaw::Long => page::say(page, at, b"too many bytes\n"),
+    }
+}
+
+// A line that is none.
+pub fn bad(line: u64, wrong: Flaw) {
+    let mut page = io::buffer();
+    let started = start(&mut page, 0, line, b"not taken: ");
+    let end = flaw(&mut page, started, wrong);
+    page::finish(&page, end);
+}
+
+// A line that is too long.
+pub fn long(line: u64) {
+    let mut page = io::buffer();
+    let end = start(&mut page, 0, line, b"not taken: longer than 4,096 bytes\n");
+    page::finish(&page, end);
+}
+
+// The count of the lines and of the bad ones.
+pub fn end_of_script(lines: u64, bad: u64) {
+    let mut page = io::buffer();
+    let counted = words::number(&mut page, 0, b"end of script: ", lines);
+    let marked = words::number(&mut page, counted, b" lines, ", bad);
+    let end = page::say(&mut page, marked, b" bad\n");
+    page::finish(&page, end);
+}

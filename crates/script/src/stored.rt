@@ -1,0 +1,117 @@
+// The log and the state, as the store has them.
+ghost use Prim.Native.Nat.{_^_, _<_};
+ghost use Rattle.rules.specs.Limits.{mostStatements};
+use crate::show;
+use crate::words;
+use page::Page;
+use settings::Settings;
+use store::Cause;
+use store::Phase;
+use store::Station;
+use store::Tally;
+
+// A store of the exact length.
+pub type Store = [u8; store::LENGTH];
+
+// A clock as a word, with its bound.
+fn wide(clock: u32) -> u64
+    ensures { λ r. ⌜ r < 2 ^ 32 ⌝ }
+{
+    clock as u64
+}
+
+// The clock of a store.
+pub fn clock(store: &Store) -> u64
+    ensures { λ r. ⌜ r < 2 ^ 32 ⌝ }
+{
+    let station = Station::load(store);
+    wide(station.clock)
+}
+
+// The log, lowest height first.
+pub fn log(line: u64, store: &Store) {
+    let mut page = io::buffer();
+    let started = show::start(&mut page, 0, line, b"log");
+    let end = logged(&mut page, started, store);
+    page::finish(&page, end);
+}
+
+// The log of a store that is well formed.
+fn logged(page: &mut Page, at: usize, store: &Store) -> usize {
+    if !formed::well_formed(store) {
+        return show::refused(page, at, 2);
+    }
+    let station = Station::load(store);
+    let count = station.logged;
+    let counted = words::number(page, at, b": ", count as u64);
+    let told = page::say(page, counted, b" logged\n");
+    entries(page, told, store, count)
+}
+
+// The entries of the log.
+fn entries(page: &mut Page, at: usize, store: &Store, count: usize) -> usize {
+    let mut end = at;
+    let mut i: usize = 0;
+    while i < count {
+        if Settings::MOST_STATEMENTS <= i {
+            break;
+        }
+        end = entry(page, end, store, i);
+        i += 1;
+    }
+    end
+}
+
+// The entry at height i + 1.
+fn entry(page: &mut Page, at: usize, store: &Store, i: usize) -> usize
+    requires { ⌜ i < mostStatements ⌝ }
+{
+    let indented = page::say(page, at, b"  ");
+    let name = store::name_at(store, i);
+    let said = words::committed(page, indented, i as u64 + 1, name);
+    page::put(page, said, b'\n')
+}
+
+// The state: phase, view, entry and clock; then the lock as the status that says it.
+pub fn state(line: u64, store: &Store) {
+    let mut page = io::buffer();
+    let started = show::start(&mut page, 0, line, b"state");
+    let end = standing(&mut page, started, store);
+    page::finish(&page, end);
+}
+
+// The state of a store that is well formed.
+fn standing(page: &mut Page, at: usize, store: &Store) -> usize {
+    if !formed::well_formed(store) {
+        return show::refused(page, at, 2);
+    }
+    let station = Station::load(store);
+    let kind = station.phase;
+    let phased = phase(page, at, kind, station.view as u64);
+    let entered = words::number(page, phased, b", entered at ", station.entry as u64);
+    let timed = words::number(page, entered, b", clock ", station.clock as u64);
+    lock(page, timed, station.lock)
+}
+
+// The phase, of a view.
+fn phase(page: &mut Page, at: usize, phase: Phase, view: u64) -> usize {
+    match phase {
+        Phase::InView => words::number(page, at, b": in view ", view),
+        Phase::Waiting(quit) => {
+            let said = words::number(page, at, b": waiting after view ", view);
+            words::number(page, said, b", quit at ", quit as u64)
+        }
+        Phase::Stopped(cause) => match cause {
+            Cause::Full => words::number(page, at, b": stopped, full, in view ", view),
+            Cause::Split => words::number(page, at, b": stopped, split, in view ", view),
+            Cause::Clock => words::number(page, at, b": stopped, clock, in view ", view),
+        },
+    }
+}
+
+// The lock.
+fn lock(page: &mut Page, at: usize, lock: Tally) -> usize {
+    let started = page::say(page, at, b"\n  lock: ");
+    let said = words::status(page, started, lock.height, lock.name, lock.view, lock.mask);
+    page::put(page, said, b'\n')
+}

@@ -1,0 +1,43 @@
+#!/bin/bash
+# The script program against the second program, which says to the byte what must be printed: of the test scripts, and of
+# random runs as compare prints them. Then printed messages are handed over again, in words and in hex; and README's run.
+set -euo pipefail
+cd "$(dirname "$0")/.."
+export CARGO_NET_OFFLINE=true
+[ -e target/archive/libstation.a ] || tools/archive station >/dev/null
+(cd host && cargo build --release -j1 --quiet -p compare --bins)
+tell=target/host/release/tell
+place=target/tests/scripts
+rm -rf "$place"
+mkdir -p "$place"
+
+# the second program doesn't say what is wrong with a bad line, nor the mask of a lock
+comparable() { sed -E 's/(not taken: ).*/\1/; s/^(  lock: .* mask) .*/\1/' "$1"; }
+scripts=0
+for crate in crates/play crates/script_*; do
+    "$tell" "$crate/stdin" | diff - <(comparable "$crate/stdout")
+    scripts=$((scripts + 1))
+done
+echo "$scripts test scripts print what the second program says"
+
+for seed in $(seq 1 20); do
+    "$tell" --run "$seed" >"$place/run.txt"
+    tools/play "$place/run.txt" >"$place/played.txt"
+    "$tell" "$place/run.txt" | diff - "$place/played.txt"
+    cat "$place/played.txt" >>"$place/all.txt"
+done
+echo "20 random runs print what the second program says"
+
+# printed messages as lines of a script: the words, and the bytes behind the field's head, each to a fresh station
+grep -E '^  to ' "$place/all.txt" | head -n 2000 >"$place/messages.txt"
+sed -E 's/^  to [a-z0-9]+: /fresh 3 2 0\n/' "$place/messages.txt" >"$place/words.txt"
+sed -E 's/^  to (all: .* # 10.{4}|[0-9]+: .* # 11.{6})/fresh 3 2 0\nmessage /' "$place/messages.txt" >"$place/hex.txt"
+for form in words hex; do tools/play "$place/$form.txt" >"$place/$form.played"; done
+cmp "$place/words.played" "$place/hex.played"
+tail -n 1 "$place/words.played" | grep -q ' 0 bad$'
+echo "$(wc -l <"$place/messages.txt") printed messages are taken again, in words and in hex alike"
+
+# README shows the first script, and what it prints with the hex cut short
+sed -n '/`examples\/first.txt`:$/,/^It prints/{/^    \|^$/{s/^    //;p}}' README.md | sed '1d;$d' | diff - examples/first.txt
+tools/play examples/first.txt | sed -E 's/( # .{12}).*/\1../' | diff <(sed -n '/^It prints the following/,/^Any message/s/^    //p' README.md) -
+echo "README's run is as it says"
