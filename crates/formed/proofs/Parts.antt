@@ -7,7 +7,7 @@ use native.Mathlib.Omega.{arith}
 use native.Mathlib.Numerals.{add-one}
 use lib.ListN.{length}
 use lib.Dec.{leb, ltb, eqb}
-use borrow.Author.Tests.{lt-ltb, ltb-true, leb-true, ne-eqb, eq-eqb, not-true, not-false}
+use borrow.Author.Tests.{lt-ltb, ltb-true, leb-true, ne-eqb, eq-eqb}
 use Rattle.rules.specs.Limits.{lastClock, firstView, lastView}
 use Rattle.rules.specs.Lists.{all, any, within}
 use Rattle.rules.specs.Sizes as sizes
@@ -29,7 +29,6 @@ use Rattle.settings.specs.declared.Made.{Made}
 use Rattle.settings.specs.declared.Made.the-variants.{Good, Bad}
 use Rattle.wire.specs.Meaning.{statementOf}
 use Rattle.wire.specs.declared.Statement.{Statement}
-use Rattle.store.specs.Layout.{statementTable, placeOf}
 use Rattle.store.specs.Decode.{rows, voteOf, statementAt, voteAt, blameAt, blames, stateFrom}
 use Rattle.store.specs.Meaning.{courseOf, tallyOf, headerOf}
 use Rattle.store.specs.declared.Phase.{Phase}

@@ -1,6 +1,6 @@
 -- Marks of records: noted one by one, and records whose mark is not met again. Assumes nothing.
-use Prim.Native.Nat.{ℕ, suc, _+_, _-_, _*_, _^_, _<_, _≤_}
-use mathlib.Core.Path.{_≡_, sym, ap, _∙_}
+use Prim.Native.Nat.{ℕ, _+_, _-_, _*_, _^_, _<_, _≤_}
+use mathlib.Core.Path.{_≡_, sym, _∙_}
 use mathlib.Core.Bool.{Bool, true, false, _&&_}
 use mathlib.Core.List.{List}
 use native.Mathlib.Omega.{arith}
@@ -16,7 +16,7 @@ use Rattle.rules.proofs.Tests.{and-left, and-right}
 use Rattle.fields.specs.Places.{Bytes, number}
 use Rattle.fields.proofs.Laws.{number-lt, number-split}
 use Rattle.fields.proofs.Differ.{digit-low}
-use Rattle.store.specs.Layout.{statementTable, tallyTable, placeOf}
+use Rattle.store.specs.Layout.{statementTable, tallyTable}
 use Rattle.store.specs.Decode.{rows, nth, statementAt, tallyAt}
 use Rattle.formed.specs.Lent.{Marked}
 use Rattle.formed.proofs.Walks.{any-fewer}

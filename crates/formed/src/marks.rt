@@ -5,30 +5,21 @@ ghost use Prim.Native.Nat.{_+_, _-_, _*_, _≤_, _<_};
 ghost use lib.ListN.{length};
 ghost use lib.Dec.{eqb};
 ghost use Rattle.rules.specs.Lists.{any};
-ghost use Rattle.fields.specs.Places.{number};
 ghost use Rattle.store.specs.Decode.{rows, nth};
 ghost use Rattle.formed.specs.Lent.{Marked};
 
 // Where a mark is in a record that begins with a view, a height and a name.
 const MARK: usize = 36;
 
-// The mark of the record at a place.
-fn mark_at(store: &[u8], at: usize) -> u32
-    requires { ⌜ at + 40 ≤ length (now store) ⌝ }
-    ensures { λ r. ⌜ r ≡ number (now (store .entry)) (at + 36) 4 ⌝ }
-{
-    fields::get(store, at + MARK, 4) as u32
-}
-
 // The marks of a table's records in use.
 pub fn marks_of(store: &[u8], base: usize, size: usize, count: usize) -> [u32; 256]
-    requires { ⌜ (count ≤ 256) × (40 ≤ size) × (base + size * count ≤ length (now store)) ⌝ }
+    requires { ⌜ (count ≤ 256) × (42 ≤ size) × (base + size * count ≤ length (now store)) ⌝ }
     ensures { λ r. ⌜ Marked (now (store .entry)) base size count r ⌝ }
 {
     let mut marks: [u32; 256] = [0; 256];
     let mut i: usize = 0;
     while i < count {
-        marks[i] = mark_at(store, base + size * i);
+        marks[i] = fields::get(store, base + size * i + MARK, 4) as u32;
         i += 1;
     }
     marks

@@ -9,7 +9,6 @@ use native.Mathlib.Nat.{sub-zero}
 use native.Mathlib.Omega.{arith}
 use mathlib.Core.Path.{_≡_, _∙_, sym}
 use Prim.Native.Nat.{_≤_, _-_}
-use borrow.Author.Needs.{needs}
 use Rattle.commit.proofs.find_block.Statement.{statement}
 use Rattle.commit.proofs.find_block.Tie as tie
 

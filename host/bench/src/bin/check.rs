@@ -1,4 +1,5 @@
-//! How long the check of a store takes, in the proved station and written again in plain Rust: empty, half full, full.
+//! How long the check of a store takes, in the proved station and written again in plain Rust by the same methods: empty,
+//! half full, full, and full of names that end alike.
 //! An empty message is refused with 4 right after the check, so the call's time is the check's. Both checks are then
 //! held against each other on stores with one byte changed.
 
@@ -122,20 +123,24 @@ impl Look<'_> {
 
     fn all_tallied(&self) -> bool {
         let mut begin = 0;
-        (0..self.statements).all(|i| match self.tallied(begin, STATEMENTS + STATEMENT * i) {
-            Some(own) => {
-                begin = own;
-                true
-            }
-            None => false,
+        (0..self.statements).all(|i| {
+            let own = self.tallied(begin, STATEMENTS + STATEMENT * i);
+            begin = own.unwrap_or(0);
+            own.is_some()
         })
     }
 
     /// Whether no two records of a table are the same: compared only where the ends of their names are.
-    fn distinct(&self, base: usize, size: usize, count: usize, same: impl Fn(usize, usize) -> bool) -> bool {
+    fn distinct(
+        &self,
+        base: usize,
+        size: usize,
+        count: usize,
+        same: impl Fn(usize, usize) -> bool,
+    ) -> bool {
         let mut marks = [0; 256];
-        for i in 0..count {
-            marks[i] = four(self.s, base + size * i + 36);
+        for (i, mark) in marks.iter_mut().enumerate().take(count) {
+            *mark = four(self.s, base + size * i + 36);
         }
         (0..count).all(|i| {
             let mark = marks[i];
@@ -208,8 +213,9 @@ fn put(s: &mut [u8], at: usize, width: usize, value: usize) {
     s[at..at + width].copy_from_slice(&value.to_be_bytes()[8 - width..]);
 }
 
-/// A store of a chain of view 1, all of it logged, with tallies of made-up names besides.
-fn store(blocks: usize, tallies: usize) -> Vec<u8> {
+/// A store of a chain of view 1, all of it logged, with tallies of made-up names besides. A name is a number that ends so
+/// many bytes before the name does: at 4 all names end alike.
+fn store(blocks: usize, tallies: usize, ends: usize) -> Vec<u8> {
     let mut s = Station::fresh(3, 2, 2).unwrap().store().to_vec();
     for height in 0..=blocks {
         if tallies == 0 {
@@ -218,24 +224,24 @@ fn store(blocks: usize, tallies: usize) -> Vec<u8> {
         let at = TALLIES + TALLY * height;
         put(&mut s, at, 4, 1);
         put(&mut s, at + 4, 4, height);
-        put(&mut s, at + 32, 8, height);
+        put(&mut s, at + 32 - ends, 8, height);
         put(&mut s, at + 40, 2, 3);
         if height > 0 {
             let at = STATEMENTS + STATEMENT * (height - 1);
             put(&mut s, at, 4, 1);
             put(&mut s, at + 4, 4, height);
-            put(&mut s, at + 32, 8, height);
+            put(&mut s, at + 32 - ends, 8, height);
             put(&mut s, at + 40, 2, 0x0201);
             put(&mut s, at + 42, 2, 3);
-            put(&mut s, at + 68, 8, height - 1);
-            put(&mut s, LOG + 32 * height - 8, 8, height);
+            put(&mut s, at + 68 - ends, 8, height - 1);
+            put(&mut s, LOG + 32 * height - 8 - ends, 8, height);
         }
     }
     for i in blocks + 1..tallies {
         let at = TALLIES + TALLY * i;
         put(&mut s, at, 4, 1);
         put(&mut s, at + 4, 4, 1000 + i);
-        put(&mut s, at + 32, 8, 1000 + i);
+        put(&mut s, at + 32 - ends, 8, 1000 + i);
     }
     put(&mut s, 62, 2, blocks);
     put(&mut s, 64, 2, tallies);
@@ -258,9 +264,12 @@ fn least(mut call: impl FnMut() -> bool) -> f64 {
 
 fn main() {
     println!("| store | proved, µs | plain Rust, µs | ratio |\n|---|---|---|---|");
-    for (what, s) in
-        [("empty", store(0, 0)), ("half full", store(64, 128)), ("full", store(128, 256))]
-    {
+    for (what, s) in [
+        ("empty", store(0, 0, 0)),
+        ("half full", store(64, 128, 0)),
+        ("full", store(128, 256, 0)),
+        ("full, names that end alike", store(128, 256, 4)),
+    ] {
         let mut station = Station::from_store(&s).expect("a store of ours");
         assert!(well_formed(&s));
         let proved = least(|| station.step(&[]).is_ok());
@@ -268,7 +277,7 @@ fn main() {
         println!("| {what} | {proved:.2} | {plain:.2} | {:.2} |", proved / plain);
     }
     let (mut seed, mut tried, mut differ) = (1u64, 0, 0);
-    for base in [store(0, 0), store(9, 20), store(128, 256)] {
+    for base in [store(0, 0, 0), store(9, 20, 4), store(128, 256, 0)] {
         let mut s = base.clone();
         for at in 0..STORE_LENGTH {
             seed = seed

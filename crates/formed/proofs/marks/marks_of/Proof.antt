@@ -1,6 +1,6 @@
 -- `formed::marks::marks_of` meets its contract. Assumes nothing.
 use Prim.Native.Nat.{_-_, _≤_}
-use mathlib.Core.Path.{_≡_, refl, sym, ap, _∙_}
+use mathlib.Core.Path.{_≡_, refl}
 use native.Mathlib.Omega.{arith}
 use lib.ListN.{length, length-set}
 use Rattle.formed.specs.Lent.{Marked}
@@ -21,20 +21,28 @@ loop-holds : tie.Need-loop-holds Inv-loop μ-loop
 loop-holds c =
     (omega arith, refl, λ k l. absurd (omega arith))
 
-mul-mark-at : tie.Need-mul-mark-at Inv-loop μ-loop
-mul-mark-at c =
+mul-get : tie.Need-mul-get Inv-loop μ-loop
+mul-get c =
     let a = c .before .before .before .args in
     omega (arith, record-within (a .base) (a .size) (c .before .loop .i) (a .count) _ (c .loop-test .taken) (c .before .before .before .pre .2))
 
-add-mark-at : tie.Need-add-mark-at Inv-loop μ-loop
-add-mark-at c =
+add-get : tie.Need-add-get Inv-loop μ-loop
+add-get c =
     let a = c .before .before .before .args in
     omega (arith, record-within (a .base) (a .size) (c .before .loop .i) (a .count) _ (c .loop-test .taken) (c .before .before .before .pre .2))
 
-mark-at-requires : tie.Need-mark-at-requires Inv-loop μ-loop
-mark-at-requires c κs =
+add-get-2 : tie.Need-add-get-2 Inv-loop μ-loop
+add-get-2 c =
     let a = c .before .before .before .args in
     omega (arith, record-within (a .base) (a .size) (c .before .loop .i) (a .count) _ (c .loop-test .taken) (c .before .before .before .pre .2))
+
+get-requires : tie.Need-get-requires Inv-loop μ-loop
+get-requires c κs =
+    let a = c .before .before .before .args in
+    omega (arith, record-within (a .base) (a .size) (c .before .loop .i) (a .count) _ (c .loop-test .taken) (c .before .before .before .pre .2))
+
+cast-marks : tie.Need-cast-marks Inv-loop μ-loop
+cast-marks c = search needs
 
 mul-marks : tie.Need-mul-marks Inv-loop μ-loop
 mul-marks c = search needs
@@ -51,7 +59,7 @@ loop-less c = search needs
 loop-again : tie.Need-loop-again Inv-loop μ-loop
 loop-again c =
     let l = c .before .before .loop in
-    (omega arith, simp length-set (l .inv .1), marked-more _ _ _ (l .i) _ (l .marks) (omega arith) (c .mark-at .ensures) (l .inv .2))
+    (omega arith, simp length-set (l .inv .1), marked-more _ _ _ (l .i) _ (l .marks) (omega arith) (c .get .ensures .0) (l .inv .2))
 
 returns : tie.Need-returns Inv-loop μ-loop
 returns c =
@@ -64,9 +72,11 @@ marks-of-spec =
     Inv-loop
     μ-loop
     loop-holds
-    mul-mark-at
-    add-mark-at
-    mark-at-requires
+    mul-get
+    add-get
+    add-get-2
+    get-requires
+    cast-marks
     mul-marks
     array-write-marks
     add-i
