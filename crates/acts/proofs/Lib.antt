@@ -6,3 +6,4 @@ pub mod Blames
 pub mod Places
 pub mod Votes
 pub mod Statements
+pub mod Plans

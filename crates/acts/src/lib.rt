@@ -5,6 +5,7 @@ ghost use mathlib.Core.List.{[], _∷_};
 ghost use mathlib.Core.Option.{none};
 ghost use Prim.Native.Nat.{_+_, _^_, _≤_, _<_};
 ghost use lib.ListN.{length};
+ghost use Rattle.rules.specs.Limits.{mostTallies};
 ghost use Rattle.rules.specs.Messages.{viewAllowed, toAll, blameSet, outgoing};
 ghost use Rattle.rules.specs.Words.{message as said, join, joinCertificate};
 ghost use Rattle.rules.specs.Inputs as inputs;
@@ -13,10 +14,12 @@ ghost use Rattle.wire.specs.Meaning.{statementOf, messageOf, Writable, Linked};
 ghost use Rattle.wire.specs.Wrote.{Says};
 ghost use Rattle.store.specs.Layout.{tallyTable, countOf};
 ghost use Rattle.store.specs.Decode.{stateOf, tallies, Form, Left};
+ghost use Rattle.store.specs.Changes.{certifying};
 ghost use Rattle.store.specs.Meaning.{tallyOf};
 ghost use Rattle.search.specs.Lookups.{Certifies};
 ghost use Rattle.kept.specs.Said.{Sendable};
-ghost use Rattle.acts.specs.Works.{Formed, Works};
+ghost use Rattle.acts.specs.Works.{Formed, Works, Tried};
+ghost use Rattle.acts.specs.Plans.{certifiedAt, needed};
 ghost use Rattle.acts.specs.Answers.{answered, Stands};
 use settings::Settings;
 use store::Found;
@@ -115,21 +118,52 @@ fn certificate_missing(store: &[u8], tally: Tally) -> usize
     missing(store, tally)
 }
 
-// Whether a vote or a status fits.
-pub fn tally_fits(store: &[u8], tally: Tally) -> bool
+// The place of a certificate's tally. Genesis has none in view 0, and nothing is searched.
+fn find_certificate(store: &[u8], certificate: Tally) -> Found
     requires { ⌜ Form (now store) ⌝ }
-    ensures { λ r. ⌜ r ≡ hasRoom (inputs.tallied (tallyOf tally) (stateOf (now (store .entry))) .now) ⌝ }
+    ensures { λ r. ⌜ r ≡ certifiedAt (tallyOf certificate) (tallies (now (store .entry))) ⌝ }
 {
-    let station = Station::load(store);
-    station.tallies + certificate_missing(store, tally) <= Settings::MOST_TALLIES
+    if certificate.view == 0 {
+        return Found::Nothing;
+    }
+    store::find_tally(store, certificate)
 }
 
-// A vote or a status joins its tally.
-pub fn tallied(store: &mut [u8], tally: Tally)
-    requires { ⌜ (Form (now store)) × (hasRoom (inputs.tallied (tallyOf tally) (stateOf (now store)) .now) ≡ true) ⌝ }
-    ensures { λ _. ⌜ Left (now (store .exit)) (inputs.tallied (tallyOf tally) (stateOf (now (store .entry))) .now) ⌝ }
+// How many records a certificate needs by the place of its tally: none where it is there, nor for genesis in view 0.
+fn needed(certificate: Tally, place: Found) -> usize
+    ensures { λ r. ⌜ r ≡ needed (tallyOf certificate) place ⌝ }
 {
-    store::join_certificate(store, tally);
+    if certificate.view == 0 {
+        return 0;
+    }
+    match place {
+        Found::At(_) => 0,
+        Found::Nothing => 1,
+    }
+}
+
+// A certificate's mask joins its tally as it was found.
+fn join_certified(store: &mut [u8], certificate: Tally, place: Found)
+    requires { ⌜ (Form (now store)) × (length (joinCertificate (tallyOf certificate) (tallies (now store))) ≤ mostTallies) × (place ≡ certifiedAt (tallyOf certificate) (tallies (now store))) ⌝ }
+    ensures { λ _. ⌜ Left (now (store .exit)) (certifying (tallyOf certificate) (stateOf (now (store .entry)))) ⌝ }
+{
+    if certificate.view != 0 {
+        store::join_found(store, certificate, place);
+    }
+}
+
+// A vote or a status joins its tally, if the record that it may need is free; if not, nothing changes.
+pub fn tallied(store: &mut [u8], tally: Tally) -> bool
+    requires { ⌜ Form (now store) ⌝ }
+    ensures { λ r. ⌜ Tried (inputs.tallied (tallyOf tally) (stateOf (now (store .entry))) .now) (stateOf (now (store .entry))) (now (store .exit)) r ⌝ }
+{
+    let place = find_certificate(store, tally);
+    let station = Station::load(store);
+    if Settings::MOST_TALLIES < station.tallies + needed(tally, place) {
+        return false;
+    }
+    join_certified(store, tally, place);
+    true
 }
 
 // Sends two statements to all, the earlier first, and quits.

@@ -13,8 +13,8 @@ use Rattle.station.proofs.stated.Tie as tie
 statement-fits-requires : tie.Need-statement-fits-requires
 statement-fits-requires c κs = search needs
 
-stop-full-requires : tie.Need-stop-full-requires
-stop-full-requires c κs = search needs
+stop-requires : tie.Need-stop-requires
+stop-requires c κs = search needs
 
 same-length : tie.Need-same-length
 same-length c = search needs
@@ -23,7 +23,7 @@ returns : tie.Need-returns
 returns c =
     let a = c .before .before .before .before .before .before .before .before .before .args in
     let s = stateOf (a .store .now) in
-    full-answers s (inputs.statement (statementOf (a .x) none) s) (sym (c .before .before .before .before .before .statement-fits .ensures) ∙ not-true _ (c .before .before .before .before .if1 .taken)) (c .before .before .stop-full .ensures) (a .out .now)
+    full-answers s (inputs.statement (statementOf (a .x) none) s) (sym (c .before .before .before .before .before .statement-fits .ensures) ∙ not-true _ (c .before .before .before .before .if1 .taken)) (c .before .before .stop .ensures) (a .out .now)
 
 statement-requires : tie.Need-statement-requires
 statement-requires c κs =
@@ -46,7 +46,7 @@ stated-spec =
     tie.close
     (tie.spec
     statement-fits-requires
-    stop-full-requires
+    stop-requires
     same-length
     returns
     statement-requires
