@@ -139,10 +139,11 @@ fn stated(store: &mut [u8], out: &mut [u8], x: Statement) -> u64
     requires { ⌜ (Formed (now store)) × (Sendable (stateOf (now store) .settings) (said (statementOf x none))) × (200 ≤ length (now out)) ⌝ }
     ensures { λ r. ⌜ Answers (ifRoom (stateOf (now (store .entry))) (inputs.statement (statementOf x none) (stateOf (now (store .entry))))) (now (out .entry)) (now (store .exit)) (now (out .exit)) r ⌝ }
 {
-    if !acts::statement_fits(store, x) {
+    let plan = acts::planned(store, x);
+    if !acts::fits(plan) {
         return stop(store, 6, Cause::Full);
     }
-    acts::statement(store, out, 0, x) as u64
+    acts::statement(store, out, 0, x, plan) as u64
 }
 
 // A vote or a status.
@@ -295,7 +296,7 @@ fn next_fits(store: &[u8]) -> bool
         return true;
     }
     let x = turns::own_new_view(store);
-    acts::statement_fits(store, x)
+    acts::fits(acts::planned(store, x))
 }
 
 // What follows the commits of a tick: blame, the leader's new-view, entering a view.
