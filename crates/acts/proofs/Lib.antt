@@ -5,4 +5,5 @@ pub mod Answers
 pub mod Blames
 pub mod Places
 pub mod Votes
+pub mod Plans
 pub mod Statements

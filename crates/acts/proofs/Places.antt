@@ -2,7 +2,7 @@
 use Prim.Native.Nat.{ℕ, zero, suc, _+_, _≤_, _<_}
 use mathlib.Core.Path.{_≡_, refl, sym, ap, _∙_, subst}
 use mathlib.Core.Bool.{Bool, true, not}
-use mathlib.Core.List.{List}
+use mathlib.Core.List.{List, [], _∷_}
 use mathlib.Core.Option.{Option, none}
 use native.Mathlib.Omega.{arith}
 use native.Mathlib.Nat.{add-zero, zero-add}
@@ -20,7 +20,8 @@ use Rattle.wire.specs.Meaning.{statementOf, Linked}
 use Rattle.wire.specs.declared.Statement as code
 use Rattle.store.specs.Layout.{statementTable, countOf}
 use Rattle.store.specs.Decode.{rows, statementAt, statements, tallies, stateFrom, stateOf, Left}
-use Rattle.store.specs.Changes.{firstFrom, joining, noting}
+use Rattle.store.specs.Changes.{pick, firstFrom, blockAt, joining, noting}
+use Rattle.store.specs.declared.Found.{Found}
 use Rattle.store.specs.declared.Found.the-variants.{At}
 use Rattle.store.proofs.Rows.{rows-all}
 use Rattle.store.proofs.Searches.{alter-found}
@@ -66,6 +67,14 @@ sendable-certifies g x m = certifies-allowed g (statementOf x none) (m .isAllowe
 pub sendable-linked : (g : Settings) (x : code.Statement) → Sendable g (message (statementOf x none)) → Linked x
 unfolding statementOf
 sendable-linked g x m = sendable-certifies g x m .view
+
+-- ---- a block by its place
+
+-- whatever mask it comes with
+own-place : (x : Statement) (m i : ℕ) (us : List Tally) → firstFrom (sameBlock (ownBlock x 0)) i us ≡ firstFrom (sameBlock (ownBlock x m)) i us
+unfolding firstFrom sameBlock ownBlock
+own-place x m i [] = refl
+own-place x m i (u ∷ us) = ap (pick (sameBlock (ownBlock x 0) u) (At i)) (own-place x m (suc i) us)
 
 -- ---- the statement at a place
 
@@ -135,3 +144,10 @@ module _ {b : List ℕ} (k : Formed b) {i : ℕ} {x : code.Statement} (t : Stand
       let r : tallies b₁ ≡ tallies b = ap (λ (z : State). z .tallies) (l .is) in
       let n = there-length (ownBlock X m) (s .tallies) (place-own m) in
       rw (r, e) (omega (arith, formed-parts k .fewTallies))
+
+  -- and its tally is where it was found
+  pub place-found : {b₁ : List ℕ} (c m : ℕ) (u : Tally) (r : Found) → u ≡ ownBlock X m → r ≡ blockAt (ownBlock X 0) (tallies b) → Left b₁ (noting i c (stateOf b)) → r ≡ blockAt u (tallies b₁)
+  unfolding noting withTables stateOf stateFrom
+  place-found {b₁} c m u r e d l =
+      let q : tallies b₁ ≡ tallies b = ap (λ (z : State). z .tallies) (l .is) in
+      rw (q, e) (d ∙ own-place X m 0 (tallies b))

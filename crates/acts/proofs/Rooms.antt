@@ -19,6 +19,9 @@ use Rattle.rules.specs.WellFormed.{talliesThere}
 use Rattle.rules.proofs.Tests.{by-bool, no-bool, eqb-self}
 use Rattle.rules.proofs.Truths.{and-2, and-6}
 use Rattle.rules.proofs.Allowed.{allowed-rights}
+use Rattle.store.specs.Changes.{pick, firstFrom, blockAt}
+use Rattle.store.specs.declared.Found.{Found}
+use Rattle.store.specs.declared.Found.the-variants.{At, Nothing}
 use Rattle.kept.specs.Parts.{Formed, WellFormed}
 use Rattle.kept.specs.Said.{Sendable}
 use Rattle.kept.proofs.Lists.{all-mem, any-find, any-cong}
@@ -36,39 +39,44 @@ module _ (t : Tally) where
   there-length [] h = no-bool (sym h)
   there-length (u ∷ us) h = by-bool (sameBlock t u) (λ q. rw (q, join)) (λ q. rw (q, join) (ap suc (there-length us (rw (q, any) at h))))
 
-  pub new-length : (us : List Tally) → any (sameBlock t) us ≡ false → length (join t us) ≡ suc (length us)
-  unfolding any join
-  new-length [] h = refl
-  new-length (u ∷ us) h = by-bool (sameBlock t u) (λ q. no-bool (rw (q, any) at h)) (λ q. rw (q, join) (ap suc (new-length us (rw (q, any) at h))))
+  -- by its place: none is added where it is there, else one
+  abbrev pub Adds : List Tally → Found → Type 0
+  Adds us Nothing = length (join t us) ≡ suc (length us)
+  Adds us (At j) = length (join t us) ≡ length us
+
+  pub adds : (i : ℕ) (us : List Tally) → Adds us (firstFrom (sameBlock t) i us)
+  unfolding firstFrom join
+  adds i [] = refl
+  adds i (u ∷ us) = go (sameBlock t u) (firstFrom (sameBlock t) (suc i) us) refl (adds (suc i) us)
+    where
+      go : (b : Bool) (r : Found) → sameBlock t u ≡ b → Adds us r → Adds (u ∷ us) (pick b (At i) r)
+      go true r e h = rw (e, join)
+      go false Nothing e h = rw (e, join) (ap suc h)
+      go false (At j) e h = rw (e, join) (ap suc h)
 
   pub join-grows : (us : List Tally) → length us ≤ length (join t us)
-  join-grows us = by-bool (any (sameBlock t) us) (λ q. omega (arith, there-length us q)) (λ q. omega (arith, new-length us q))
+  join-grows us = go (blockAt t us) (adds 0 us)
+    where
+      go : (r : Found) → Adds us r → length us ≤ length (join t us)
+      go Nothing h = omega arith
+      go (At j) h = omega arith
 
-  -- other blocks are there as before
-  join-others : (x : Tally) (us : List Tally) → sameBlock x t ≡ false → any (sameBlock x) (join t us) ≡ any (sameBlock x) us
-  unfolding any join
-  join-others x [] n = rw (n, any)
-  join-others x (u ∷ us) n =
-      by-bool (sameBlock t u) (λ q. rw (q, join, any, block-grown x u (t .mask)))
-      (λ q. by-bool (sameBlock x u) (λ r. rw (q, join, r, any)) (λ r. rw (q, join, r, any) (join-others x us n)))
+  -- other blocks stay where they are
+  join-others : (x : Tally) (i : ℕ) (us : List Tally) → sameBlock x t ≡ false → firstFrom (sameBlock x) i (join t us) ≡ firstFrom (sameBlock x) i us
+  unfolding firstFrom join
+  join-others x i [] n = rw n
+  join-others x i (u ∷ us) n =
+      by-bool (sameBlock t u) (λ q. rw (q, join, block-grown x u (t .mask)))
+      (λ q. by-bool (sameBlock x u) (λ r. rw (q, join, r)) (λ r. rw (q, join, r) (join-others x (suc i) us n)))
 
 module _ (t : Tally) (us : List Tally) where
   pub certificate-there : (eqb (t .view) 0 || any (sameBlock t) us) ≡ true → length (joinCertificate t us) ≡ length us
   unfolding joinCertificate
   certificate-there h = by-bool (eqb (t .view) 0) (λ q. rw (q, joinCertificate)) (λ q. rw (q, joinCertificate) (there-length t us (rw q at h)))
 
-  certificate-others : (x : Tally) → sameBlock x t ≡ false → any (sameBlock x) (joinCertificate t us) ≡ any (sameBlock x) us
+  pub certificate-others : (x : Tally) → sameBlock x t ≡ false → blockAt x (joinCertificate t us) ≡ blockAt x us
   unfolding joinCertificate
-  certificate-others x n = by-bool (eqb (t .view) 0) (λ q. rw (q, joinCertificate)) (λ q. rw (q, joinCertificate) (join-others t x us n))
-
-  -- two blocks need what each of them needs
-  pub both-length : (x : Tally) → sameBlock x t ≡ false
-      → length us + length (join x (joinCertificate t us)) ≡ length (joinCertificate t us) + length (join x us)
-  both-length x n =
-      let o = certificate-others x n in
-      by-bool (any (sameBlock x) us)
-      (λ q. omega (arith, there-length x us q, there-length x (joinCertificate t us) (o ∙ q)))
-      (λ q. omega (arith, new-length x us q, new-length x (joinCertificate t us) (o ∙ q)))
+  certificate-others x n = by-bool (eqb (t .view) 0) (λ q. rw (q, joinCertificate)) (λ q. rw (q, joinCertificate) (join-others t x 0 us n))
 
 -- ---- a statement's two blocks
 

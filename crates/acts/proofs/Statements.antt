@@ -19,7 +19,7 @@ use Rattle.wire.specs.declared.Statement as code
 use Rattle.wire.specs.declared.Message.the-variants.{Stated}
 use Rattle.store.specs.Layout.{statementTable, tallyTable, countOf}
 use Rattle.store.specs.Decode.{statementAt, statements, tallies, stateFrom, stateOf, Left}
-use Rattle.store.specs.Changes.{firstFrom, joining, certifying, storing}
+use Rattle.store.specs.Changes.{firstFrom, blockAt, joining, Joined, certifying, storing}
 use Rattle.store.specs.declared.Found.{Found}
 use Rattle.store.specs.declared.Found.the-variants.{At, Nothing}
 use Rattle.store.proofs.Rows.{rows-at}
@@ -27,11 +27,15 @@ use Rattle.store.proofs.Searches.{found-any, missing-any}
 use Rattle.search.specs.Finds.{foundIn, Inside, Finds}
 use Rattle.search.proofs.Searches.{found-first}
 use Rattle.kept.specs.Said.{Sendable}
+use Rattle.rules.proofs.Allowed.{view-within}
+use Rattle.kept.proofs.Statements.{stated}
 use Rattle.acts.specs.Answers.{Stands}
+use Rattle.acts.specs.Plans.{certifiedAt, needed, Newly, Stored}
 use Rattle.acts.specs.Works.{Formed}
 use Rattle.acts.proofs.Works.{count-statements, count-tallies, formed-parts}
-use Rattle.acts.proofs.Rooms.{repeat-length, join-grows, both-length, own-differs, room-parts, stored-room}
-use Rattle.acts.proofs.Answers.{handled-statement, new-room}
+use Rattle.acts.proofs.Rooms.{repeat-length, join-grows, certificate-others, own-differs, room-parts, stored-room}
+use Rattle.acts.proofs.Answers.{handled-statement}
+use Rattle.acts.proofs.Plans.{block-adds, certificate-adds}
 
 -- ---- as the code has it
 
@@ -74,57 +78,85 @@ module _ (b : List ℕ) (x : Statement) (r : Found) where
     pub conflict-none : r ≡ Nothing → first (conflict x) (stateOf b .statements) ≡ none
     conflict-none q = sym (found .is) ∙ ap (foundIn (statementAt b)) q
 
--- ---- the records that a new one needs
+-- ---- a new one, with its certificate t and its own block u
 
-module _ (b : List ℕ) (x : Statement) (m : Sendable (stateOf b .settings) (message x)) (new : any (sameStatement x) (stateOf b .statements) ≡ false) where
-  -- p statements and q tallies are there; its certificate needs i tallies more, its own block j
-  pub new-fits : (t u : Tally) (p q i j : ℕ) → t ≡ certificate x → u ≡ ownBlock x 0 → p ≡ countOf statementTable b → q ≡ countOf tallyTable b
-      → countOf tallyTable b + i ≡ length (joinCertificate t (tallies b)) → countOf tallyTable b + j ≡ length (join u (tallies b))
-      → (ltb p mostStatements && leb (q + (i + j)) mostTallies) ≡ hasRoom (statement x (stateOf b) .now)
-  unfolding stateOf stateFrom
-  new-fits t u p q i j et eu ep eq ei ej =
-      let s = stateOf b in
-      let ts = s .tallies in
-      let c = ei ∙ ap (λ (v : Tally). length (joinCertificate v ts)) et in
-      let o = ej ∙ ap (λ (v : Tally). length (join v ts)) eu in
-      let d = both-length (certificate x) ts (ownBlock x 0) (own-differs (s .settings) x m) in
-      let n : q + (i + j) ≡ length (join (ownBlock x 0) (joinCertificate (certificate x) ts)) = omega (arith, count-tallies b) in
-      ap (λ (k : ℕ). ltb k mostStatements && leb (q + (i + j)) mostTallies) (ep ∙ sym (count-statements b)) ∙ stored-room s x (q + (i + j)) n ∙ sym (new-room x s new)
+module _ (b : List ℕ) (x : Statement) (m : Sendable (stateOf b .settings) (message x)) (t u : Tally) (et : t ≡ certificate x) (eu : u ≡ ownBlock x 0) where
+  module _ (q : Found) (eq : q ≡ blockAt u (tallies b)) where
+    -- the certificate leaves its own block's tally where it is
+    own-stays : q ≡ blockAt u (joinCertificate t (tallies b))
+    own-stays = eq ∙ sym (certificate-others t (tallies b) u (rw (et, eu) (own-differs (stateOf b .settings) x m)))
 
--- ---- a new one is stored
+    own-view : u .view ≡ 0 → ⊥
+    unfolding ownBlock
+    own-view z = omega (arith, view-within (x .view) (stated (stateOf b .settings) x m .view) .0, ap (λ (v : Tally). v .view) eu)
 
-module _ (b : List ℕ) (x : Statement) (room : hasRoom (stored x (stateOf b)) ≡ true) (t u : Tally) (et : t ≡ certificate x) (eu : u ≡ ownBlock x 0) where
-  few : (length (stateOf b .statements) < mostStatements) × (length (join u (joinCertificate t (stateOf b .tallies))) ≤ mostTallies)
-  unfolding stored withTables
-  few =
-      let r = room-parts (stored x (stateOf b)) room in
-      (omega (arith, r .0, length-append (stateOf b .statements) (x ∷ [])), rw (et, eu) (r .1))
+    -- i statements and j tallies are there; its certificate needs k tallies more, its own block l
+    pub new-fits : (p : Found) → p ≡ certifiedAt t (tallies b) → (i j k l : ℕ) → i ≡ countOf statementTable b → j ≡ countOf tallyTable b → k ≡ needed t p → l ≡ needed u q
+        → (ltb i mostStatements && leb (j + (k + l)) mostTallies) ≡ hasRoom (stored x (stateOf b))
+    unfolding stateOf stateFrom
+    new-fits p ep i j k l ei ej ek el =
+        let s = stateOf b in
+        let n : j + (k + l) ≡ length (join u (joinCertificate t (s .tallies))) =
+        omega (arith, count-tallies b, certificate-adds t (s .tallies) p ep, block-adds u (joinCertificate t (s .tallies)) q own-view own-stays) in
+        ap (λ (h : ℕ). ltb h mostStatements && leb (j + (k + l)) mostTallies) (ei ∙ sym (count-statements b))
+        ∙ stored-room s x (j + (k + l)) (n ∙ ap₂ (λ (v w : Tally). length (join w (joinCertificate v (s .tallies)))) et eu)
 
-  pub certificate-fits : length (joinCertificate t (tallies b)) ≤ mostTallies
-  unfolding stateOf stateFrom
-  certificate-fits = omega (arith, few .1, join-grows u (joinCertificate t (tallies b)))
+    pub new-found : (p : Found) → p ≡ certifiedAt t (tallies b) → any (sameStatement x) (stateOf b .statements) ≡ false → hasRoom (stored x (stateOf b)) ≡ true
+        → Newly x (stateOf b) p q
+    unfolding stateOf stateFrom
+    new-found p ep n h = record { isNew = n; room = h; certified = rw (← et) ep; own = rw (← eu) eq }
 
-  module _ {b₁ : List ℕ} (l : Left b₁ (certifying t (stateOf b))) where
-    pub own-fits : length (join u (tallies b₁)) ≤ mostTallies
-    unfolding certifying withTables stateOf stateFrom
-    own-fits = let e : tallies b₁ ≡ joinCertificate t (tallies b) = ap (λ (s : State). s .tallies) (l .is) in rw e (few .1)
+  -- ---- it is stored
 
-    module _ {b₂ : List ℕ} (m : Left b₂ (joining u (stateOf b₁))) where
-      pub one-more-fits : countOf statementTable b₂ < mostStatements
-      unfolding joining certifying withTables
-      one-more-fits =
-          let e : stateOf b₂ .statements ≡ stateOf b .statements = ap (λ (s : State). s .statements) (m .is ∙ ap (joining u) (l .is)) in
-          omega (arith, count-statements b₂, ap length e, few .0)
+  module _ {p q : Found} (k : Newly x (stateOf b) p q) where
+    few : (length (stateOf b .statements) < mostStatements) × (length (join u (joinCertificate t (stateOf b .tallies))) ≤ mostTallies)
+    unfolding stored withTables
+    few =
+        let r = room-parts (stored x (stateOf b)) (k .room) in
+        (omega (arith, r .0, length-append (stateOf b .statements) (x ∷ [])), rw (et, eu) (r .1))
 
-      pub stored-left : {b₃ : List ℕ} → Left b₃ (storing x (stateOf b₂)) → Left b₃ (stored x (stateOf b))
-      unfolding storing joining certifying stored withTables
-      stored-left h =
-          record {
-            form = h .form;
-            is =
-                h .is ∙ ap (storing x) (m .is ∙ ap (joining u) (l .is))
-                ∙ ap₂ (λ (v w : Tally). withTables (stateOf b .statements ++ x ∷ []) (join w (joinCertificate v (stateOf b .tallies))) (stateOf b)) et eu;
-          }
+    pub certificate-fits : length (joinCertificate t (tallies b)) ≤ mostTallies
+    unfolding stateOf stateFrom
+    certificate-fits = omega (arith, few .1, join-grows u (joinCertificate t (tallies b)))
+
+    pub certificate-found : p ≡ certifiedAt t (tallies b)
+    unfolding stateOf stateFrom
+    certificate-found = rw et (k .certified)
+
+    module _ {b₁ : List ℕ} (l : Left b₁ (certifying t (stateOf b))) where
+      certified-tallies : tallies b₁ ≡ joinCertificate t (tallies b)
+      unfolding certifying withTables stateOf stateFrom
+      certified-tallies = ap (λ (s : State). s .tallies) (l .is)
+
+      pub own-fits : length (join u (tallies b₁)) ≤ mostTallies
+      unfolding stateOf stateFrom
+      own-fits = rw certified-tallies (few .1)
+
+      pub own-found : q ≡ blockAt u (tallies b₁)
+      unfolding stateOf stateFrom
+      own-found = rw certified-tallies (own-stays q (rw eu (k .own)))
+
+      module _ {b₂ : List ℕ} {i : ℕ} (h : Joined u (stateOf b₁) b₂ i) where
+        pub one-more-fits : countOf statementTable b₂ < mostStatements
+        unfolding joining certifying withTables
+        one-more-fits =
+            let e : stateOf b₂ .statements ≡ stateOf b .statements = ap (λ (s : State). s .statements) (h .left .is ∙ ap (joining u) (l .is)) in
+            omega (arith, count-statements b₂, ap length e, few .0)
+
+        pub new-stored : {b₃ : List ℕ} → Left b₃ (storing x (stateOf b₂)) → Stored x (stateOf b) b₃ i
+        unfolding storing joining certifying stored withTables stateOf stateFrom
+        new-stored {b₃} g =
+            let e : tallies b₃ ≡ tallies b₂ = ap (λ (s : State). s .tallies) (g .is) in
+            record {
+              left =
+                  record {
+                    form = g .form;
+                    is =
+                        g .is ∙ ap (storing x) (h .left .is ∙ ap (joining u) (l .is))
+                        ∙ ap₂ (λ (v w : Tally). withTables (stateOf b .statements ++ x ∷ []) (join w (joinCertificate v (stateOf b .tallies))) (stateOf b)) et eu;
+                  };
+              place = h .place ∙ ap₂ blockAt eu (sym e);
+            }
 
 at-place : (b : List ℕ) (d : Statement) (i : ℕ) → i < countOf statementTable b → getD (stateOf b .statements) i d ≡ statementAt b i
 unfolding stateOf stateFrom statements

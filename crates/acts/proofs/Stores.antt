@@ -1,39 +1,32 @@
 -- What a store's bytes say of the state that it holds: phase, blame masks, counts. Assumes nothing.
-use Prim.Native.Nat.{ℕ, suc, _+_, _-_, _^_, _<_}
+use Prim.Native.Nat.{ℕ, suc, _-_, _^_, _<_}
 use mathlib.Core.Path.{_≡_, refl, sym, ap, _∙_}
 use mathlib.Core.Bool.{Bool, true, false}
 use mathlib.Core.List.{List, []}
 use native.Mathlib.Omega.{arith}
 use native.Mathlib.Nat.{zero-add}
 use lib.Dec.{eqb}
-use borrow.Author.Tests.{eq-eqb}
-use lib.ListN.{length, getD}
+use lib.ListN.{getD}
 use Rattle.rules.specs.Limits.{lastView}
 use Rattle.rules.specs.Messages.{viewAllowed}
 use Rattle.rules.specs.Sizes.{quorum}
 use Rattle.rules.specs.Words as words
-use Rattle.rules.specs.Words.{Tally, sameBlock, join, joinCertificate, State, inView, waiting, stopped}
+use Rattle.rules.specs.Words.{State, inView, waiting, stopped}
 use Rattle.rules.specs.Inputs.{saying, withPhase, isIn, quit, blamesOf, blameFull}
 use Rattle.rules.proofs.Allowed.{view-within}
 use Rattle.fields.specs.Records.{fields}
 use Rattle.settings.specs.Made.{settingsOf}
-use Rattle.store.specs.Layout.{headerFormat, tallyTable, countOf}
-use Rattle.store.specs.Decode.{phaseNumber, rows, tallyAt, blameAt, blames, tallies, stateFrom, stateOf, Left}
-use Rattle.store.specs.Changes.{firstFrom}
+use Rattle.store.specs.Layout.{headerFormat}
+use Rattle.store.specs.Decode.{phaseNumber, rows, blameAt, blames, stateFrom, stateOf, Left}
 use Rattle.store.specs.Meaning.{courseOf, headerOf}
 use Rattle.store.specs.declared.Station.{Station}
-use Rattle.store.specs.declared.Found.{Found}
-use Rattle.store.specs.declared.Found.the-variants.{At, Nothing}
 use Rattle.store.specs.declared.Phase.{Phase}
 use Rattle.store.specs.declared.Phase.the-variants.{InView, Waiting, Stopped}
 use Rattle.store.proofs.Loaded.{loaded-settings, loaded-phase, loaded-view, loaded-clock}
-use Rattle.store.proofs.Searches.{found-any, missing-any}
-use Rattle.store.proofs.Joining.{certificate-joins}
-use Rattle.store.proofs.Rows.{rows-at, rows-length}
+use Rattle.store.proofs.Rows.{rows-at}
 use Rattle.kept.proofs.Facts.{clocks-of}
 use Rattle.acts.specs.Works.{Formed}
 use Rattle.acts.proofs.Works.{formed-parts}
-use Rattle.acts.proofs.Rooms.{there-length, new-length}
 
 -- ---- the phase
 
@@ -86,26 +79,3 @@ module _ {b : List ℕ} (k : Formed b) (s : Station) (e : headerOf s ≡ fields 
   pub quit-left : {b′ : List ℕ} → Left b′ (withPhase (waiting (s .clock)) (stateOf b)) → Left b′ (quit [] (stateOf b) .now)
   unfolding quit saying
   quit-left l = record { form = l .form; is = l .is ∙ ap (λ (q : ℕ). withPhase (waiting q) (stateOf b)) (loaded-clock s b e) }
-
--- ---- the records that a block needs
-
-module _ (b : List ℕ) (t : Tally) where
-  module _ (r : Found) (e : r ≡ firstFrom (sameBlock t) 0 (tallies b)) where
-    pub needs-none : (j : ℕ) → r ≡ At j → countOf tallyTable b + 0 ≡ length (join t (tallies b))
-    unfolding tallies
-    needs-none j q =
-        let n = countOf tallyTable b in
-        omega (arith, there-length t (tallies b) (found-any (sameBlock t) (tallyAt b) n r e j q), rows-length (tallyAt b) 0 n)
-
-    pub needs-one : r ≡ Nothing → countOf tallyTable b + 1 ≡ length (join t (tallies b))
-    unfolding tallies
-    needs-one q =
-        let n = countOf tallyTable b in
-        omega (arith, new-length t (tallies b) (missing-any (sameBlock t) (tallyAt b) n r e q), rows-length (tallyAt b) 0 n)
-
-  pub genesis-needs-none : t .view ≡ 0 → countOf tallyTable b + 0 ≡ length (joinCertificate t (tallies b))
-  unfolding joinCertificate tallies
-  genesis-needs-none q = let n = countOf tallyTable b in rw (eq-eqb (t .view) 0 q, joinCertificate) (omega (arith, rows-length (tallyAt b) 0 n))
-
-  pub certificate-needs : (t .view ≡ 0 → ⊥) → length (join t (tallies b)) ≡ length (joinCertificate t (tallies b))
-  certificate-needs d = sym (ap length (certificate-joins t (tallies b) d))

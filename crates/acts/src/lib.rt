@@ -5,18 +5,19 @@ ghost use mathlib.Core.List.{[], _∷_};
 ghost use mathlib.Core.Option.{none};
 ghost use Prim.Native.Nat.{_+_, _^_, _≤_, _<_};
 ghost use lib.ListN.{length};
+ghost use Rattle.rules.specs.Limits.{mostTallies};
 ghost use Rattle.rules.specs.Messages.{viewAllowed, toAll, blameSet, outgoing};
-ghost use Rattle.rules.specs.Words.{message as said, join, joinCertificate};
+ghost use Rattle.rules.specs.Words.{message as said, ownBlock, joinCertificate};
 ghost use Rattle.rules.specs.Inputs as inputs;
 ghost use Rattle.rules.specs.Refusals.{hasRoom};
 ghost use Rattle.wire.specs.Meaning.{statementOf, messageOf, Writable, Linked};
 ghost use Rattle.outgoing.specs.Wrote.{Says};
-ghost use Rattle.store.specs.Layout.{tallyTable, countOf};
 ghost use Rattle.store.specs.Decode.{stateOf, tallies, Form, Left};
+ghost use Rattle.store.specs.Changes.{blockAt, certifying};
 ghost use Rattle.store.specs.Meaning.{tallyOf};
-ghost use Rattle.search.specs.Lookups.{Certifies};
 ghost use Rattle.kept.specs.Said.{Sendable};
-ghost use Rattle.acts.specs.Works.{Formed, Works};
+ghost use Rattle.acts.specs.Works.{Formed, Works, Tried};
+ghost use Rattle.acts.specs.Plans.{certifiedAt, needed, planned, fits, Newly, Stored};
 ghost use Rattle.acts.specs.Answers.{answered, Stands};
 use settings::Settings;
 use store::Found;
@@ -25,6 +26,14 @@ use store::Station;
 use store::Tally;
 use wire::Message;
 use wire::Statement;
+
+// What comes of a statement: a repeat; a new one, with the places of the tallies of its certificate and of its own block;
+// or that no record is free.
+pub enum Plan {
+    Repeat,
+    New(Found, Found),
+    Full,
+}
 
 // Whether the station is in a view.
 pub fn is_in(store: &[u8], view: u32) -> bool
@@ -93,43 +102,52 @@ pub fn blaming(store: &mut [u8], out: &mut [u8], at: usize, view: u32, mask: u16
     quit_with_set(store, out, at, view)
 }
 
-// How many records a block's tally needs: none where it is there.
-fn missing(store: &[u8], tally: Tally) -> usize
+// The place of a certificate's tally. Genesis has none in view 0, and nothing is searched.
+fn find_certificate(store: &[u8], certificate: Tally) -> Found
     requires { ⌜ Form (now store) ⌝ }
-    ensures { λ r. ⌜ (countOf tallyTable (now (store .entry)) + r ≡ length (join (tallyOf tally) (tallies (now (store .entry))))) × (r ≤ 1) ⌝ }
+    ensures { λ r. ⌜ r ≡ certifiedAt (tallyOf certificate) (tallies (now (store .entry))) ⌝ }
 {
-    match store::find_tally(store, tally) {
+    if certificate.view == 0 {
+        return Found::Nothing;
+    }
+    store::find_tally(store, certificate)
+}
+
+// How many records a tally needs by its place: none where it is there, nor for genesis in view 0.
+fn needed(tally: Tally, place: Found) -> usize
+    ensures { λ r. ⌜ r ≡ needed (tallyOf tally) place ⌝ }
+{
+    if tally.view == 0 {
+        return 0;
+    }
+    match place {
         Found::At(_) => 0,
         Found::Nothing => 1,
     }
 }
 
-// The same of a certificate: genesis needs none in view 0.
-fn certificate_missing(store: &[u8], tally: Tally) -> usize
-    requires { ⌜ Form (now store) ⌝ }
-    ensures { λ r. ⌜ (countOf tallyTable (now (store .entry)) + r ≡ length (joinCertificate (tallyOf tally) (tallies (now (store .entry))))) × (r ≤ 1) ⌝ }
+// A certificate's mask joins its tally as it was found.
+fn join_certified(store: &mut [u8], certificate: Tally, place: Found)
+    requires { ⌜ (Form (now store)) × (length (joinCertificate (tallyOf certificate) (tallies (now store))) ≤ mostTallies) × (place ≡ certifiedAt (tallyOf certificate) (tallies (now store))) ⌝ }
+    ensures { λ _. ⌜ Left (now (store .exit)) (certifying (tallyOf certificate) (stateOf (now (store .entry)))) ⌝ }
 {
-    if tally.view == 0 {
-        return 0;
+    if certificate.view != 0 {
+        store::join_found(store, certificate, place);
     }
-    missing(store, tally)
 }
 
-// Whether a vote or a status fits.
-pub fn tally_fits(store: &[u8], tally: Tally) -> bool
+// A vote or a status joins its tally, if the record that it may need is free; if not, nothing changes.
+pub fn tallied(store: &mut [u8], tally: Tally) -> bool
     requires { ⌜ Form (now store) ⌝ }
-    ensures { λ r. ⌜ r ≡ hasRoom (inputs.tallied (tallyOf tally) (stateOf (now (store .entry))) .now) ⌝ }
+    ensures { λ r. ⌜ Tried (inputs.tallied (tallyOf tally) (stateOf (now (store .entry))) .now) (stateOf (now (store .entry))) (now (store .exit)) r ⌝ }
 {
+    let place = find_certificate(store, tally);
     let station = Station::load(store);
-    station.tallies + certificate_missing(store, tally) <= Settings::MOST_TALLIES
-}
-
-// A vote or a status joins its tally.
-pub fn tallied(store: &mut [u8], tally: Tally)
-    requires { ⌜ (Form (now store)) × (hasRoom (inputs.tallied (tallyOf tally) (stateOf (now store)) .now) ≡ true) ⌝ }
-    ensures { λ _. ⌜ Left (now (store .exit)) (inputs.tallied (tallyOf tally) (stateOf (now (store .entry))) .now) ⌝ }
-{
-    store::join_certificate(store, tally);
+    if Settings::MOST_TALLIES < station.tallies + needed(tally, place) {
+        return false;
+    }
+    join_certified(store, tally, place);
+    true
 }
 
 // Sends two statements to all, the earlier first, and quits.
@@ -147,9 +165,16 @@ pub fn quit_with_pair(
     send_both(out, at, Message::Stated(first), Message::Stated(second))
 }
 
-// Votes for the statement at a place, unless its certificate ranks below the lock.
-pub fn voting(store: &mut [u8], out: &mut [u8], at: usize, place: usize, x: Statement) -> usize
-    requires { ⌜ (Formed (now store)) × (Stands (now store) place x) × (at + 160 ≤ length (now out)) ⌝ }
+// Votes for the statement at a place, with its own block's tally as found, unless its certificate ranks below the lock.
+pub fn voting(
+    store: &mut [u8],
+    out: &mut [u8],
+    at: usize,
+    place: usize,
+    x: Statement,
+    tally: Found,
+) -> usize
+    requires { ⌜ (Formed (now store)) × (Stands (now store) place x) × (tally ≡ blockAt (ownBlock (statementOf x none) 0) (tallies (now store))) × (at + 160 ≤ length (now out)) ⌝ }
     ensures { λ r. ⌜ Works (inputs.voting (statementOf x none) (stateOf (now (store .entry)))) (now (out .entry)) at (now (store .exit)) (now (out .exit)) r ⌝ }
 {
     let station = Station::load(store);
@@ -160,7 +185,11 @@ pub fn voting(store: &mut [u8], out: &mut [u8], at: usize, place: usize, x: Stat
     let settings = station.settings;
     let own = settings.own;
     store::note_vote(store, place, station.clock);
-    store::join_tally(store, search::own_block(x, settings::only(own) as u16));
+    store::join_found(
+        store,
+        search::own_block(x, settings::only(own) as u16),
+        tally,
+    );
     let name = x.name;
     let vote = Message::Vote {
         view: x.view,
@@ -171,34 +200,60 @@ pub fn voting(store: &mut [u8], out: &mut [u8], at: usize, place: usize, x: Stat
     send_both(out, at, Message::Stated(x), vote)
 }
 
-// Whether a statement fits.
-pub fn statement_fits(store: &[u8], x: Statement) -> bool
+// What comes of a statement, by one search each for it and its two tallies.
+pub fn planned(store: &[u8], x: Statement) -> Plan
     requires { ⌜ (Formed (now store)) × (Sendable (stateOf (now store) .settings) (said (statementOf x none))) ⌝ }
-    ensures { λ r. ⌜ r ≡ hasRoom (inputs.statement (statementOf x none) (stateOf (now (store .entry))) .now) ⌝ }
+    ensures { λ r. ⌜ r ≡ planned (statementOf x none) (stateOf (now (store .entry))) ⌝ }
 {
     let Found::Nothing = store::find_statement(store, x) else {
-        return true;
+        return Plan::Repeat;
     };
+    let certificate = search::certificate(x);
+    let certified = find_certificate(store, certificate);
+    let block = search::own_block(x, 0);
+    let own = store::find_tally(store, block);
+    let records = needed(certificate, certified) + needed(block, own);
     let station = Station::load(store);
-    let certified = certificate_missing(store, search::certificate(x));
-    let needed = certified + missing(store, search::own_block(x, 0));
-    (station.statements < Settings::MOST_STATEMENTS)
-        & (station.tallies + needed <= Settings::MOST_TALLIES)
+    let has_room = (station.statements < Settings::MOST_STATEMENTS)
+        & (station.tallies + records <= Settings::MOST_TALLIES);
+    if !has_room {
+        return Plan::Full;
+    }
+    Plan::New(certified, own)
 }
 
-// A new statement is stored, and the tallies of its two blocks are opened.
-fn store_new(store: &mut [u8], x: Statement)
-    requires { ⌜ (Form (now store)) × (Certifies (statementOf x none)) × (hasRoom (inputs.stored (statementOf x none) (stateOf (now store))) ≡ true) ⌝ }
-    ensures { λ _. ⌜ Left (now (store .exit)) (inputs.stored (statementOf x none) (stateOf (now (store .entry)))) ⌝ }
+// Whether there is room for what comes of a statement.
+pub fn fits(plan: Plan) -> bool
+    ensures { λ r. ⌜ r ≡ fits plan ⌝ }
 {
-    store::join_certificate(store, search::certificate(x));
-    store::join_tally(store, search::own_block(x, 0));
+    match plan {
+        Plan::Repeat => true,
+        Plan::New(_, _) => true,
+        Plan::Full => false,
+    }
+}
+
+// A new statement is stored, and the tallies of its two blocks are opened as they were found; gives back where its own now stands.
+fn store_new(store: &mut [u8], x: Statement, certified: Found, own: Found) -> usize
+    requires { ⌜ (Form (now store)) × (Sendable (stateOf (now store) .settings) (said (statementOf x none))) × (Newly (statementOf x none) (stateOf (now store)) certified own) ⌝ }
+    ensures { λ r. ⌜ Stored (statementOf x none) (stateOf (now (store .entry))) (now (store .exit)) r ⌝ }
+{
+    join_certified(store, search::certificate(x), certified);
+    let opened = store::join_found(store, search::own_block(x, 0), own);
     store::append_statement(store, x);
+    opened
 }
 
 // What a statement that was just stored makes the station do: nothing outside its view, else quit on a conflict, or vote.
-fn answer(store: &mut [u8], out: &mut [u8], at: usize, place: usize, x: Statement) -> usize
-    requires { ⌜ (Formed (now store)) × (Stands (now store) place x) × (at + 200 ≤ length (now out)) ⌝ }
+fn answer(
+    store: &mut [u8],
+    out: &mut [u8],
+    at: usize,
+    place: usize,
+    x: Statement,
+    tally: Found,
+) -> usize
+    requires { ⌜ (Formed (now store)) × (Stands (now store) place x) × (tally ≡ blockAt (ownBlock (statementOf x none) 0) (tallies (now store))) × (at + 200 ≤ length (now out)) ⌝ }
     ensures { λ r. ⌜ Works (answered (statementOf x none) (stateOf (now (store .entry)))) (now (out .entry)) at (now (store .exit)) (now (out .exit)) r ⌝ }
 {
     if !is_in(store, x.view) {
@@ -209,25 +264,26 @@ fn answer(store: &mut [u8], out: &mut [u8], at: usize, place: usize, x: Statemen
             let earlier = store::statement_at(store, i);
             quit_with_pair(store, out, at, earlier, x)
         }
-        Found::Nothing => voting(store, out, at, place, x),
+        Found::Nothing => voting(store, out, at, place, x, tally),
     }
 }
 
-// A statement that fits: a repeat joins its certificate, a new one is stored and answered.
-pub fn statement(store: &mut [u8], out: &mut [u8], at: usize, x: Statement) -> usize
-    requires { ⌜ (Formed (now store)) × (Sendable (stateOf (now store) .settings) (said (statementOf x none))) × (hasRoom (inputs.statement (statementOf x none) (stateOf (now store)) .now) ≡ true) × (at + 200 ≤ length (now out)) ⌝ }
+// A statement that fits, by its plan: a repeat joins its certificate, a new one is stored and answered. No full plan comes here.
+pub fn statement(store: &mut [u8], out: &mut [u8], at: usize, x: Statement, plan: Plan) -> usize
+    requires { ⌜ (Formed (now store)) × (Sendable (stateOf (now store) .settings) (said (statementOf x none))) × (hasRoom (inputs.statement (statementOf x none) (stateOf (now store)) .now) ≡ true) × (plan ≡ planned (statementOf x none) (stateOf (now store))) × (at + 200 ≤ length (now out)) ⌝ }
     ensures { λ r. ⌜ Works (inputs.statement (statementOf x none) (stateOf (now (store .entry)))) (now (out .entry)) at (now (store .exit)) (now (out .exit)) r ⌝ }
 {
-    match store::find_statement(store, x) {
-        Found::At(_) => {
+    match plan {
+        Plan::Repeat => {
             store::join_certificate(store, search::certificate(x));
             at
         }
-        Found::Nothing => {
+        Plan::New(certified, own) => {
             let station = Station::load(store);
             let place = station.statements;
-            store_new(store, x);
-            answer(store, out, at, place, x)
+            let opened = store_new(store, x, certified, own);
+            answer(store, out, at, place, x, Found::At(opened))
         }
+        Plan::Full => at,
     }
 }

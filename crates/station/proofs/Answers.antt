@@ -6,9 +6,8 @@ use native.Mathlib.Nat.{add-zero}
 use native.Mathlib.Omega.{arith}
 use lib.ListN.{length}
 use Rattle.rules.specs.Messages.{outgoing}
-use Rattle.rules.specs.Words.{State, full, stopped}
-use Rattle.rules.specs.Inputs.{withPhase}
-use Rattle.rules.specs.Refusals.{Outcome, refused, stopping, result}
+use Rattle.rules.specs.Words.{State}
+use Rattle.rules.specs.Refusals.{Outcome, refused, result}
 use Rattle.outgoing.specs.Wrote.{wrote}
 use Rattle.outgoing.proofs.Writing.{wrote-prefix}
 use Rattle.store.specs.Decode.{stateOf, Form, Left}
@@ -35,7 +34,3 @@ refused-short k s = omega arith
 
 pub refused-answers : (k : ℕ) {b : List ℕ} {r : ℕ} → Form b → r ≡ k * 2 ^ 32 → Mutely (refused k (stateOf b)) b r
 refused-answers k f e = refused-mutely k (record { form = f; is = refl }) e
-
-pub stopping-answers : (s : State) {b′ : List ℕ} {r : ℕ} → Left b′ (withPhase (stopped full) s) → r ≡ 6 * 2 ^ 32 → Mutely (stopping 6 full s) b′ r
-unfolding stopping
-stopping-answers s l e = refused-mutely 6 l e

@@ -1,9 +1,8 @@
 -- An outcome where there is room, and where there is none. Assumes nothing.
 use Prim.Native.Nat.{ℕ}
-use mathlib.Core.Path.{_≡_, refl, sym, ap, _∙_}
+use mathlib.Core.Path.{_≡_, sym, _∙_, subst}
 use mathlib.Core.Bool.{Bool, true, false, _&&_}
 use mathlib.Core.List.{List}
-use native.Mathlib.Nat.{zero-add}
 use borrow.Author.Tests.{le-leb}
 use Rattle.rules.specs.Limits.{mostStatements, mostTallies}
 use Rattle.rules.specs.Words.{State, full, Tally}
@@ -12,10 +11,9 @@ use Rattle.rules.specs.Refusals.{done, stopping, hasRoom, ifRoom, result}
 use Rattle.rules.proofs.Tests.{by-bool}
 use Rattle.rules.proofs.Truths.{both}
 use Rattle.store.specs.Decode.{stateOf, Left}
-use Rattle.acts.specs.Works.{Formed, Works}
+use Rattle.acts.specs.Works.{Formed, Works, fitting, Tried}
 use Rattle.acts.proofs.Works.{formed-parts, works-none}
 use Rattle.station.specs.Answers.{Answers, Mutely}
-use Rattle.station.proofs.Answers.{answers-is}
 
 module _ (s : State) (w : Work) where
   -- there is room, and the work is done
@@ -28,9 +26,21 @@ module _ (s : State) (w : Work) where
   unfolding ifRoom
   full-answers q k o = rw (q, ifRoom) (k o)
 
-pub tallied-answers : (t : Tally) (s : State) {b′ : List ℕ} → hasRoom (tallied t s .now) ≡ true → Left b′ (tallied t s .now) → Mutely (ifRoom s (tallied t s)) b′ 0
-unfolding tallied saying
-tallied-answers t s q l o = room-answers s (tallied t s) q (works-none o 0 l)
+-- a vote or a status found room, or the station stops
+module _ (t : Tally) (s : State) {b′ : List ℕ} {f : Bool} (k : Tried (tallied t s .now) s b′ f) where
+  pub tallied-answers : f ≡ true → Mutely (ifRoom s (tallied t s)) b′ 0
+  unfolding fitting tallied saying
+  tallied-answers q o =
+      let h : hasRoom (tallied t s .now) ≡ true = sym (k .room) ∙ q in
+      let l : Left b′ (tallied t s .now) = rw (h, fitting) at (k .left) in
+      room-answers s (tallied t s) h (works-none o 0 l)
+
+  pub tallied-stops : f ≡ false → {b″ : List ℕ} {r : ℕ} → Mutely (stopping 6 full (stateOf b′)) b″ r → Mutely (ifRoom s (tallied t s)) b″ r
+  unfolding fitting
+  tallied-stops q {b″} {r} a =
+      let h : hasRoom (tallied t s .now) ≡ false = sym (k .room) ∙ q in
+      let l : Left b′ s = rw (h, fitting) at (k .left) in
+      full-answers s (tallied t s) h (subst (λ (z : State). Mutely (stopping 6 full z) b″ r) (l .is) a)
 
 -- a blame needs no record
 blaming-room : (v m : ℕ) (s : State) → hasRoom s ≡ true → hasRoom (blaming v m s .now) ≡ true

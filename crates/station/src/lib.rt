@@ -7,7 +7,7 @@ ghost use lib.ListN.{length};
 ghost use Rattle.rules.specs.Limits.{mostStations, leastOut};
 ghost use Rattle.rules.specs.Sizes.{only};
 ghost use Rattle.rules.specs.Messages.{viewAllowed};
-ghost use Rattle.rules.specs.Words.{full, message as said};
+ghost use Rattle.rules.specs.Words.{message as said};
 ghost use Rattle.rules.specs.Inputs as inputs;
 ghost use Rattle.rules.specs.Refusals.{stopping, hasRoom, ifRoom, running, tick};
 ghost use Rattle.fields.specs.Names.{nameOf};
@@ -125,13 +125,13 @@ fn barred(store: &[u8], out: &[u8]) -> u64
     0
 }
 
-// No record is free: the station stops.
-fn stop_full(store: &mut [u8]) -> u64
-    requires { ⌜ Form (now store) ⌝ }
-    ensures { λ r. ⌜ Mutely (stopping 6 full (stateOf (now (store .entry)))) (now (store .exit)) r ⌝ }
+// The station stops for a cause.
+fn stop(store: &mut [u8], number: u64, cause: Cause) -> u64
+    requires { ⌜ (Form (now store)) × (number < 2 ^ 32) ⌝ }
+    ensures { λ r. ⌜ Mutely (stopping number (causeOf cause) (stateOf (now (store .entry)))) (now (store .exit)) r ⌝ }
 {
-    store::set_phase(store, Phase::Stopped(Cause::Full));
-    refuse(6)
+    store::set_phase(store, Phase::Stopped(cause));
+    refuse(number)
 }
 
 // A statement that may be sent.
@@ -139,10 +139,11 @@ fn stated(store: &mut [u8], out: &mut [u8], x: Statement) -> u64
     requires { ⌜ (Formed (now store)) × (Sendable (stateOf (now store) .settings) (said (statementOf x none))) × (200 ≤ length (now out)) ⌝ }
     ensures { λ r. ⌜ Answers (ifRoom (stateOf (now (store .entry))) (inputs.statement (statementOf x none) (stateOf (now (store .entry))))) (now (out .entry)) (now (store .exit)) (now (out .exit)) r ⌝ }
 {
-    if !acts::statement_fits(store, x) {
-        return stop_full(store);
+    let plan = acts::planned(store, x);
+    if !acts::fits(plan) {
+        return stop(store, 6, Cause::Full);
     }
-    acts::statement(store, out, 0, x) as u64
+    acts::statement(store, out, 0, x, plan) as u64
 }
 
 // A vote or a status.
@@ -150,10 +151,9 @@ fn counted(store: &mut [u8], tally: Tally) -> u64
     requires { ⌜ Form (now store) ⌝ }
     ensures { λ r. ⌜ Mutely (ifRoom (stateOf (now (store .entry))) (inputs.tallied (tallyOf tally) (stateOf (now (store .entry))))) (now (store .exit)) r ⌝ }
 {
-    if !acts::tally_fits(store, tally) {
-        return stop_full(store);
+    if !acts::tallied(store, tally) {
+        return stop(store, 6, Cause::Full);
     }
-    acts::tallied(store, tally);
     0
 }
 
@@ -274,15 +274,6 @@ fn offered(store: &[u8], name: Name) -> Offer
     extended(store, name)
 }
 
-// The station stops for a cause.
-fn stop(store: &mut [u8], number: u64, cause: Cause) -> u64
-    requires { ⌜ (Form (now store)) × (number < 2 ^ 32) ⌝ }
-    ensures { λ r. ⌜ Mutely (stopping number (causeOf cause) (stateOf (now (store .entry)))) (now (store .exit)) r ⌝ }
-{
-    store::set_phase(store, Phase::Stopped(cause));
-    refuse(number)
-}
-
 // Whether the next clock is the leader's moment to make a new-view.
 fn leads_next(store: &[u8]) -> bool
     requires { ⌜ Formed (now store) ⌝ }
@@ -305,7 +296,7 @@ fn next_fits(store: &[u8]) -> bool
         return true;
     }
     let x = turns::own_new_view(store);
-    acts::statement_fits(store, x)
+    acts::fits(acts::planned(store, x))
 }
 
 // What follows the commits of a tick: blame, the leader's new-view, entering a view.
@@ -343,7 +334,7 @@ fn ticked(store: &mut [u8], out: &mut [u8]) -> u64
         return stop(store, 7, Cause::Split);
     };
     if !next_fits(store) {
-        return stop_full(store);
+        return stop(store, 6, Cause::Full);
     }
     turning(store, out, station.clock + 1, &gained, len) as u64
 }

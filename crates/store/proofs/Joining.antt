@@ -10,11 +10,11 @@ use Rattle.rules.specs.Words.{Tally, sameBlock, join, joinCertificate, State}
 use Rattle.rules.specs.Inputs.{withTables}
 use Rattle.store.specs.Layout.{tallyTable, countOf}
 use Rattle.store.specs.Decode.{tallyAt, tallies, stateFrom, stateOf, Left}
-use Rattle.store.specs.Changes.{firstFrom, growing, opening, joining, certifying}
+use Rattle.store.specs.Changes.{firstFrom, growing, opening, joining, Joined, certifying}
 use Rattle.store.specs.declared.Found.{Found}
 use Rattle.store.specs.declared.Found.the-variants.{At, Nothing}
 use Rattle.store.proofs.Rows.{rows-length}
-use Rattle.store.proofs.Searches.{found-within, join-found, join-missing}
+use Rattle.store.proofs.Searches.{found-within, join-found, join-missing, joined-found, joined-missing}
 
 module _ (b : List ℕ) (t : Tally) (r : Found) (e : r ≡ firstFrom (sameBlock t) 0 (tallies b)) where
   pub place-within : (j : ℕ) → r ≡ At j → j < countOf tallyTable b
@@ -27,13 +27,29 @@ module _ (b : List ℕ) (t : Tally) (r : Found) (e : r ≡ firstFrom (sameBlock 
       let n = ap length (join-missing t (tallies b) (sym e ∙ q)) in
       omega (arith, length-append (tallies b) (t ∷ []), rows-length (tallyAt b) 0 (countOf tallyTable b))
 
-  pub joined-there : (j : ℕ) → r ≡ At j → {b′ : List ℕ} → Left b′ (growing j (t .mask) (stateOf b)) → Left b′ (joining t (stateOf b))
+  grown-joins : (j : ℕ) → r ≡ At j → {b′ : List ℕ} → Left b′ (growing j (t .mask) (stateOf b)) → Left b′ (joining t (stateOf b))
   unfolding growing joining stateOf stateFrom
-  joined-there j q h = rw (join-found t (tallies b) j (sym e ∙ q)) h
+  grown-joins j q h = rw (join-found t (tallies b) j (sym e ∙ q)) h
 
-  pub joined-new : r ≡ Nothing → {b′ : List ℕ} → Left b′ (opening t (stateOf b)) → Left b′ (joining t (stateOf b))
+  opened-joins : r ≡ Nothing → {b′ : List ℕ} → Left b′ (opening t (stateOf b)) → Left b′ (joining t (stateOf b))
   unfolding opening joining stateOf stateFrom
-  joined-new q h = rw (join-missing t (tallies b) (sym e ∙ q)) h
+  opened-joins q h = rw (join-missing t (tallies b) (sym e ∙ q)) h
+
+  -- so it stands there now
+  pub joined-there : (j : ℕ) → r ≡ At j → {b′ : List ℕ} → Left b′ (growing j (t .mask) (stateOf b)) → Joined t (stateOf b) b′ j
+  unfolding joining stateOf stateFrom withTables
+  joined-there j q {b′} h =
+      let l = grown-joins j q h in
+      let e′ : tallies b′ ≡ join t (tallies b) = ap (λ (s : State). s .tallies) (l .is) in
+      record { left = l; place = sym (ap (firstFrom (sameBlock t) 0) e′ ∙ joined-found t (tallies b) j (sym e ∙ q)) }
+
+  pub joined-new : r ≡ Nothing → {b′ : List ℕ} {i : ℕ} → i ≡ countOf tallyTable b → Left b′ (opening t (stateOf b)) → Joined t (stateOf b) b′ i
+  unfolding joining stateOf stateFrom withTables tallies
+  joined-new q {b′} {i} d h =
+      let l = opened-joins q h in
+      let e′ : tallies b′ ≡ join t (tallies b) = ap (λ (s : State). s .tallies) (l .is) in
+      let n : i ≡ length (tallies b) = d ∙ sym (rows-length (tallyAt b) 0 (countOf tallyTable b)) in
+      record { left = l; place = ap At n ∙ sym (ap (firstFrom (sameBlock t) 0) e′ ∙ joined-missing t (tallies b) (sym e ∙ q)) }
 
 pub certificate-joins : (t : Tally) (us : List Tally) → (t .view ≡ 0 → ⊥) → joinCertificate t us ≡ join t us
 unfolding joinCertificate

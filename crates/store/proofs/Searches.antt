@@ -6,12 +6,13 @@ use mathlib.Core.List.{List, [], _∷_, _++_}
 use mathlib.Core.Option.{none, some}
 use native.Mathlib.Omega.{arith}
 use native.Mathlib.Numerals.{add-one}
-use native.Mathlib.Nat.{add-zero}
+use native.Mathlib.Nat.{add-zero, zero-add}
 use lib.Dec.{eqb}
+use lib.ListN.{length}
 use borrow.Author.Tests.{eqb-true, eqb-false, eq-eqb, ne-eqb, not-true, not-false}
 use Rattle.rules.specs.Lists.{iff, first, any, alter}
 use Rattle.rules.specs.Words.{Statement, sameStatement, Tally, sameBlock, grown, join}
-use Rattle.rules.proofs.Tests.{by-bool}
+use Rattle.rules.proofs.Tests.{by-bool, eqb-self}
 use Rattle.fields.specs.Places.{number, Bytes}
 use Rattle.fields.proofs.Laws.{number-lt, number-split}
 use Rattle.fields.proofs.Differ.{digit-high, digit-low}
@@ -117,6 +118,27 @@ module _ (t : Tally) where
 
   pub join-missing : (us : List Tally) → firstFrom (sameBlock t) 0 us ≡ Nothing → join t us ≡ us ++ t ∷ []
   join-missing us q = subst (Joins 0 us) q (joins 0 us)
+
+  -- where a block's tally stands once it is joined: where it was found, or behind the others
+  abbrev Stays : ℕ → List Tally → Found → Type 0
+  Stays i us Nothing = firstFrom (sameBlock t) i (join t us) ≡ At (i + length us)
+  Stays i us (At j) = firstFrom (sameBlock t) i (join t us) ≡ At j
+
+  stays : (i : ℕ) (us : List Tally) → Stays i us (firstFrom (sameBlock t) i us)
+  unfolding firstFrom join sameBlock grown
+  stays i [] = rw (eqb-self (t .view), eqb-self (t .height), eqb-self (t .name)) (ap At (sym (add-zero i)))
+  stays i (u ∷ us) = go (sameBlock t u) (firstFrom (sameBlock t) (suc i) us) refl (stays (suc i) us)
+    where
+      go : (b : Bool) (r : Found) → sameBlock t u ≡ b → Stays (suc i) us r → Stays i (u ∷ us) (pick b (At i) r)
+      go true r e h = rw (e, join, e)
+      go false Nothing e h = rw (e, join, e) (h ∙ ap At (omega arith))
+      go false (At j) e h = rw (e, join, e) h
+
+  pub joined-found : (us : List Tally) (j : ℕ) → firstFrom (sameBlock t) 0 us ≡ At j → firstFrom (sameBlock t) 0 (join t us) ≡ At j
+  joined-found us j q = subst (Stays 0 us) q (stays 0 us)
+
+  pub joined-missing : (us : List Tally) → firstFrom (sameBlock t) 0 us ≡ Nothing → firstFrom (sameBlock t) 0 (join t us) ≡ At (length us)
+  joined-missing us q = subst (Stays 0 us) q (stays 0 us) ∙ ap At (zero-add (length us))
 
 -- ---- view and height as one number
 

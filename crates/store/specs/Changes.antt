@@ -1,9 +1,11 @@
 -- The changes of a state that single writes make, and the place of the first record that matches. Assumes nothing.
 use Prim.Native.Nat.{ℕ, zero, suc}
+use mathlib.Core.Path.{_≡_}
 use mathlib.Core.Bool.{Bool, true, false}
 use mathlib.Core.List.{List, [], _∷_, _++_}
-use Rattle.rules.specs.Words.{Statement, Tally, grown, join, joinCertificate, State}
+use Rattle.rules.specs.Words.{Statement, Tally, sameBlock, grown, join, joinCertificate, State}
 use Rattle.rules.specs.Inputs.{withTables, withLog, noted}
+use Rattle.store.specs.Decode.{tallies, Left}
 use Rattle.store.specs.declared.Found.{Found}
 use Rattle.store.specs.declared.Found.the-variants.{At, Nothing}
 
@@ -15,6 +17,10 @@ pick false a b = b
 unfoldable pub firstFrom : {A : Type 0} → (A → Bool) → ℕ → List A → Found
 firstFrom p i [] = Nothing
 firstFrom p i (x ∷ xs) = pick (p x) (At i) (firstFrom p (suc i) xs)
+
+-- the place of a block's tally
+abbrev pub blockAt : Tally → List Tally → Found
+blockAt t us = firstFrom (sameBlock t) 0 us
 
 -- the record at place i, changed
 unfoldable pub changeAt : {A : Type 0} → (A → A) → ℕ → List A → List A
@@ -36,6 +42,11 @@ opening t s = withTables (s .statements) (s .tallies ++ t ∷ []) s
 unfoldable pub joining : Tally → State → State
 unfolding withTables join
 joining t s = withTables (s .statements) (join t (s .tallies)) s
+
+-- that is done, and the tally stands at place i now
+pub record Joined (t : Tally) (s : State) (b′ : List ℕ) (i : ℕ) : Type 0 where
+  pub left : Left b′ (joining t s)
+  pub place : At i ≡ blockAt t (tallies b′)
 
 -- the same, but that genesis "has no tally" in view 0
 unfoldable pub certifying : Tally → State → State

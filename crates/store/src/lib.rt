@@ -18,7 +18,7 @@ ghost use Rattle.store.specs.Layout.{headerFormat, statementFormat, tall
 ghost use Rattle.store.specs.Decode.{phaseOf, phaseNumber, kindNumber, statementValues, tallyFrom, tallyValues, statementAt, tallyAt, blameAt, nameAt, kindAt, voteAt, statements, tallies, stateOf, headerValues, Form, Left};
 ghost use Rattle.store.specs.Meaning.{courseOf, tallyOf, headerOf};
 ghost use Rattle.store.specs.Fresh.{answer, freshly};
-ghost use Rattle.store.specs.Changes.{firstFrom, growing, opening, joining, certifying, storing, noting, appending};
+ghost use Rattle.store.specs.Changes.{firstFrom, blockAt, growing, opening, joining, Joined, certifying, storing, noting, appending};
 use fields::Name;
 use settings::Made;
 use settings::Settings;
@@ -321,7 +321,7 @@ fn is_tally(store: &[u8], i: usize, tally: Tally) -> bool
 // The place of the first tally of the same block.
 pub fn find_tally(store: &[u8], tally: Tally) -> Found
     requires { ⌜ Form (now store) ⌝ }
-    ensures { λ r. ⌜ r ≡ firstFrom (sameBlock (tallyOf tally)) 0 (tallies (now (store .entry))) ⌝ }
+    ensures { λ r. ⌜ r ≡ blockAt (tallyOf tally) (tallies (now (store .entry))) ⌝ }
 {
     let count = get_count(store, TALLY_COUNT);
     let mut i: usize = 0;
@@ -436,14 +436,15 @@ pub fn note_vote(store: &mut [u8], i: usize, clock: u32)
     );
 }
 
-// A tally is opened behind the others.
-pub fn open_tally(store: &mut [u8], tally: Tally)
+// A tally is opened behind the others, at the place given back.
+pub fn open_tally(store: &mut [u8], tally: Tally) -> usize
     requires { ⌜ (Form (now store)) × (countOf tallyTable (now store) < mostTallies) ⌝ }
-    ensures { λ _. ⌜ Left (now (store .exit)) (opening (tallyOf tally) (stateOf (now (store .entry)))) ⌝ }
+    ensures { λ r. ⌜ (r ≡ countOf tallyTable (now (store .entry))) × (Left (now (store .exit)) (opening (tallyOf tally) (stateOf (now (store .entry))))) ⌝ }
 {
     let count = get_count(store, TALLY_COUNT);
     put_tally(store, TALLIES + TALLY_SIZE * count, tally);
     fields::put(store, TALLY_COUNT, 2, (count + 1) as u64);
+    count
 }
 
 // A mask joins tally i.
@@ -460,15 +461,27 @@ pub fn join_at(store: &mut [u8], i: usize, mask: u16)
     );
 }
 
-// A tally's mask joins the tally of its block, opened if missing.
+// A tally's mask joins the tally of its block, opened if missing, as a search found it; gives back where it now stands.
+pub fn join_found(store: &mut [u8], tally: Tally, place: Found) -> usize
+    requires { ⌜ (Form (now store)) × (length (join (tallyOf tally) (tallies (now store))) ≤ mostTallies) × (place ≡ blockAt (tallyOf tally) (tallies (now store))) ⌝ }
+    ensures { λ r. ⌜ Joined (tallyOf tally) (stateOf (now (store .entry))) (now (store .exit)) r ⌝ }
+{
+    match place {
+        Found::At(i) => {
+            join_at(store, i, tally.mask);
+            i
+        }
+        Found::Nothing => open_tally(store, tally),
+    }
+}
+
+// The same, with the search.
 pub fn join_tally(store: &mut [u8], tally: Tally)
     requires { ⌜ (Form (now store)) × (length (join (tallyOf tally) (tallies (now store))) ≤ mostTallies) ⌝ }
     ensures { λ _. ⌜ Left (now (store .exit)) (joining (tallyOf tally) (stateOf (now (store .entry)))) ⌝ }
 {
-    match find_tally(store, tally) {
-        Found::At(i) => join_at(store, i, tally.mask),
-        Found::Nothing => open_tally(store, tally),
-    }
+    let place = find_tally(store, tally);
+    join_found(store, tally, place);
 }
 
 // The same of a certificate: genesis has no tally in view 0.

@@ -35,7 +35,6 @@ use Rattle.kept.proofs.Ticks.{leads-own}
 use Rattle.acts.specs.Works.{Formed}
 use Rattle.acts.proofs.Works.{formed-parts}
 use Rattle.acts.proofs.Votes.{loaded-own}
-use Rattle.acts.proofs.Rooms.{room-made}
 use Rattle.acts.proofs.Answers.{handled-statement}
 
 -- ---- the new-view that is made
@@ -88,12 +87,6 @@ module _ (s : State) where
   unfolding lead statementOf
   lead-now q x m =
       ap (λ (f : State → Work). f s) (sym (handled-statement (statementOf x none) refl)) ∙ ap (λ (n : Message). handled n s) m ∙ rw (q, lead)
-
-pub never-fits : {b : List ℕ} → Formed b → leadsNow (stateOf b) ≡ false → true ≡ hasRoom (lead (stateOf b) .now)
-unfolding saying
-never-fits {b} k q =
-    let w = formed-parts k in
-    sym (ap (λ (v : Work). hasRoom (v .now)) (sym (lead-never (stateOf b) q)) ∙ room-made (stateOf b) (w .fewStatements) (w .fewTallies))
 
 pub now-fits : (s : State) (x : Statement) → leadsNow s ≡ true → message (statementOf x none) ≡ ownNewView s
     → hasRoom (statement (statementOf x none) s .now) ≡ hasRoom (lead s .now)

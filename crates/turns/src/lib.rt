@@ -148,18 +148,6 @@ pub fn own_new_view(store: &[u8]) -> Statement
     }
 }
 
-// Whether there is room for the leader's new-view, if it makes one now.
-pub fn lead_fits(store: &[u8]) -> bool
-    requires { ⌜ Formed (now store) ⌝ }
-    ensures { λ r. ⌜ r ≡ hasRoom (inputs.lead (stateOf (now (store .entry))) .now) ⌝ }
-{
-    if !leads_now(store) {
-        return true;
-    }
-    let x = own_new_view(store);
-    acts::statement_fits(store, x)
-}
-
 // At its moment the leader makes a new-view, handled as received.
 pub fn lead(store: &mut [u8], out: &mut [u8], at: usize) -> usize
     requires { ⌜ (Formed (now store)) × (hasRoom (inputs.lead (stateOf (now store)) .now) ≡ true) × (at + 200 ≤ length (now out)) ⌝ }
@@ -169,7 +157,8 @@ pub fn lead(store: &mut [u8], out: &mut [u8], at: usize) -> usize
         return at;
     }
     let x = own_new_view(store);
-    acts::statement(store, out, at, x)
+    let plan = acts::planned(store, x);
+    acts::statement(store, out, at, x, plan)
 }
 
 // The next view is entered, with the highest certificate as its lock, which goes to the new leader.
@@ -224,7 +213,8 @@ fn vote_in_order(store: &mut [u8], out: &mut [u8], at: usize, order: &[u8], coun
     while j < count {
         let place = order[j] as usize;
         let x = store::statement_at(store, place);
-        next = acts::voting(store, out, next, place, x);
+        let tally = store::find_tally(store, search::own_block(x, 0));
+        next = acts::voting(store, out, next, place, x, tally);
         j += 1;
     }
     next

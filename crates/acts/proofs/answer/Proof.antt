@@ -47,7 +47,7 @@ quit-with-pair-requires c κs =
     let b = c .before .before .before .before .before .before .before .before .before .before .before .before .before .before .args .store .now in
     let g = stateOf b .settings in
     let w = conflict-within b (statementOf (c .before .before .before .before .before .before .before .before .before .before .before .before .before .before .args .x) none) (c .before .before .before .before .before .before .before .find-conflict .result) (c .before .before .before .before .before .before .before .find-conflict .ensures) _ (c .before .before .before .before .before .i .given .1) in
-    (c .before .before .before .before .before .before .before .before .before .before .before .before .before .before .pre .0, sendable-linked g (c .before .before .statement-at .result) (place-sendable (c .before .before .before .before .before .before .before .before .before .before .before .before .before .before .pre .0) (record { within = w; is = c .before .before .statement-at .ensures })), sendable-linked g (c .before .before .before .before .before .before .before .before .before .before .before .before .before .before .args .x) (place-sendable (c .before .before .before .before .before .before .before .before .before .before .before .before .before .before .pre .0) (c .before .before .before .before .before .before .before .before .before .before .before .before .before .before .pre .1)), c .before .before .before .before .before .before .before .before .before .before .before .before .before .before .pre .2)
+    (c .before .before .before .before .before .before .before .before .before .before .before .before .before .before .pre .0, sendable-linked g (c .before .before .statement-at .result) (place-sendable (c .before .before .before .before .before .before .before .before .before .before .before .before .before .before .pre .0) (record { within = w; is = c .before .before .statement-at .ensures })), sendable-linked g (c .before .before .before .before .before .before .before .before .before .before .before .before .before .before .args .x) (place-sendable (c .before .before .before .before .before .before .before .before .before .before .before .before .before .before .pre .0) (c .before .before .before .before .before .before .before .before .before .before .before .before .before .before .pre .1)), c .before .before .before .before .before .before .before .before .before .before .before .before .before .before .pre .3)
 
 enum-told : tie.Need-enum-told
 enum-told c = search needs

@@ -1,68 +1,76 @@
--- `acts::statement` meets its contract. Assumes nothing.
-use Rattle.acts.proofs.Statements.{repeat-fits, code-unvoted}
-use Rattle.acts.proofs.Statements.{is-repeat, is-new, stored-stands, statement-repeat, repeat-left}
+-- `acts::statement` meets its contract: what the plan tells. Assumes nothing.
+use Rattle.acts.proofs.Plans.{plan-tells}
+use Rattle.acts.proofs.Statements.{code-unvoted, repeat-fits, repeat-left, stored-stands, statement-repeat}
 use Rattle.acts.proofs.Answers.{statement-new, new-room}
 use Rattle.acts.proofs.Places.{sendable-certifies}
 use Rattle.acts.proofs.Works.{formed-parts, left-formed, works-is, works-none}
 use Rattle.acts.specs.Answers.{answered}
+use Rattle.acts.specs.declared.Plan.the-variants.{Repeat, New, Full}
 use Rattle.kept.proofs.Tables.{stored-formed}
+use Rattle.rules.proofs.Tests.{no-bool}
 use Rattle.store.proofs.Loaded.{loaded-statements}
 use Rattle.store.proofs.Forms.{form-long}
 use Rattle.store.specs.Meaning.{tallyOf}
 use Rattle.store.specs.Decode.{stateOf}
 use Rattle.wire.specs.Meaning.{statementOf}
-use Rattle.rules.specs.Words.{certificate}
 use mathlib.Core.Option.{none}
 use mathlib.Core.Path.{sym, ap, _∙_}
 use borrow.Author.Needs.{needs}
 use Rattle.acts.proofs.statement.Statement.{statement}
 use Rattle.acts.proofs.statement.Tie as tie
 
-find-statement-requires : tie.Need-find-statement-requires
-find-statement-requires c κs = search needs
-
 enum-told : tie.Need-enum-told
 enum-told c = search needs
 
 certificate-requires : tie.Need-certificate-requires
 certificate-requires c κs =
-    sendable-certifies (stateOf (c .before .before .before .before .before .before .before .args .store .now) .settings) (c .before .before .before .before .before .before .before .args .x) (c .before .before .before .before .before .before .before .pre .1)
+    let start = c .before .before .before .before .before in
+    sendable-certifies (stateOf (start .args .store .now) .settings) (start .args .x) (start .pre .1)
 
 join-certificate-requires : tie.Need-join-certificate-requires
 join-certificate-requires c κs =
-    let b = c .before .before .before .before .before .before .before .before .args .store .now in
-    let x = statementOf (c .before .before .before .before .before .before .before .before .args .x) none in
-    (c .before .before .before .before .before .before .before .before .pre .0 .form, repeat-fits (c .before .before .before .before .before .before .before .before .pre .0) x (tallyOf (c .certificate .result)) (c .certificate .ensures) (is-repeat b x (c .before .before .before .before .find-statement .result) (c .before .before .before .before .find-statement .ensures) _ (c .before .before .enum-told .given .1)))
+    let start = c .before .before .before .before .before .before in
+    let x = statementOf (start .args .x) none in
+    let repeats = plan-tells x (stateOf (start .args .store .now)) Repeat (sym (c .before .before .enum-told .given .1) ∙ start .pre .3) in
+    (start .pre .0 .form, repeat-fits (start .pre .0) x (tallyOf (c .certificate .result)) (c .certificate .ensures) repeats)
 
-enum-told-2 : tie.Need-enum-told-2
-enum-told-2 c = search needs
+enum-known-plan : tie.Need-enum-known-plan
+enum-known-plan c = search needs
 
 load-requires : tie.Need-load-requires
 load-requires c κs =
-    form-long _ (c .before .before .before .before .before .before .before .pre .0 .form)
+    form-long _ (c .before .before .before .before .before .before .pre .0 .form)
 
 store-new-requires : tie.Need-store-new-requires
 store-new-requires c κs =
-    let b = c .before .before .before .before .before .before .before .before .before .args .store .now in
-    let x = statementOf (c .before .before .before .before .before .before .before .before .before .args .x) none in
-    (c .before .before .before .before .before .before .before .before .before .pre .0 .form, sendable-certifies (stateOf b .settings) (c .before .before .before .before .before .before .before .before .before .args .x) (c .before .before .before .before .before .before .before .before .before .pre .1), sym (new-room x (stateOf b) (is-new b x (c .before .before .before .before .before .find-statement .result) (c .before .before .before .before .before .find-statement .ensures) (c .before .before .before .enum-told2 .given .1))) ∙ c .before .before .before .before .before .before .before .before .before .pre .2)
+    let start = c .before .before .before .before .before .before .before .before in
+    (start .pre .0 .form, start .pre .1, plan-tells (statementOf (start .args .x) none) (stateOf (start .args .store .now)) (New _ _) (sym (c .before .before .before .before .plan .given .1) ∙ start .pre .3))
 
 answer-requires : tie.Need-answer-requires
 answer-requires c κs =
-    let b = c .before .before .before .before .before .before .before .before .before .before .before .before .before .before .args .store .now in
-    let x = statementOf (c .before .before .before .before .before .before .before .before .before .before .before .before .before .before .args .x) none in
-    let n = is-new b x (c .before .before .before .before .before .before .before .before .before .before .find-statement .result) (c .before .before .before .before .before .before .before .before .before .before .find-statement .ensures) (c .before .before .before .before .before .before .before .before .enum-told2 .given .1) in
-    (left-formed (c .before .before .before .before .store-new .ensures) (stored-formed (formed-parts (c .before .before .before .before .before .before .before .before .before .before .before .before .before .before .pre .0) .formed) x (c .before .before .before .before .before .before .before .before .before .before .before .before .before .before .pre .1) (code-unvoted (c .before .before .before .before .before .before .before .before .before .before .before .before .before .before .args .x)) n), stored-stands b (c .before .before .before .before .before .before .before .before .before .before .before .before .before .before .args .x) (c .before .before .before .before .before .before .load .result .statements) (loaded-statements (c .before .before .before .before .before .before .load .result) b (c .before .before .before .before .before .before .load .ensures)) (c .before .before .before .before .store-new .ensures), c .before .before .before .before .before .before .before .before .before .before .before .before .before .before .pre .3)
+    let start = c .before .before .before .before .before .before .before .before .before .before .before .before .before in
+    let b = start .args .store .now in
+    let x = statementOf (start .args .x) none in
+    let new = plan-tells x (stateOf b) (New _ _) (sym (c .before .before .before .before .before .before .before .before .before .plan .given .1) ∙ start .pre .3) in
+    let load = c .before .before .before .before .before .before .load in
+    let stored = c .before .before .before .before .store-new .ensures in
+    (left-formed (stored .left) (stored-formed (formed-parts (start .pre .0) .formed) x (start .pre .1) (code-unvoted (start .args .x)) (new .isNew)), stored-stands b (start .args .x) (load .result .statements) (loaded-statements (load .result) b (load .ensures)) (stored .left), stored .place, start .pre .4)
+
+enum-told-2 : tie.Need-enum-told-2
+enum-told-2 c = search needs
 
 same-length : tie.Need-same-length
 same-length c = search needs
 
 returns : tie.Need-returns
 returns c =
-    let b = c .before .before .before .before .before .before .before .before .before .before .before .args .store .now in
-    let x = statementOf (c .before .before .before .before .before .before .before .before .before .before .before .args .x) none in
-    works-is (statement-repeat x (stateOf b) (is-repeat b x (c .before .before .before .before .before .before .before .find-statement .result) (c .before .before .before .before .before .before .before .find-statement .ensures) _ (c .before .before .before .before .before .enum-told .given .1)))
-    (works-none (c .before .before .before .before .before .before .before .before .before .before .before .args .out .now) (c .before .before .before .before .before .before .before .before .before .before .before .args .at) (repeat-left (c .before .before .before .before .before .before .before .before .before .before .before .pre .0) x (tallyOf (c .before .before .before .certificate .result)) (c .before .before .before .certificate .ensures) (c .before .before .join-certificate .ensures)))
+    let start = c .before .before .before .before .before .before .before .before .before in
+    let s = stateOf (start .args .store .now) in
+    let x = statementOf (start .args .x) none in
+    let certificate = c .before .before .before .certificate in
+    let repeats = plan-tells x s Repeat (sym (c .before .before .before .before .before .enum-told .given .1) ∙ start .pre .3) in
+    works-is (statement-repeat x s repeats)
+    (works-none (start .args .out .now) (start .args .at) (repeat-left (start .pre .0) x (tallyOf (certificate .result)) (certificate .ensures) (c .before .before .join-certificate .ensures)))
 
 same-length-2 : tie.Need-same-length-2
 same-length-2 c = search needs
@@ -72,25 +80,35 @@ same-length-3 c = search needs
 
 returns-2 : tie.Need-returns-2
 returns-2 c =
-    let b = c .before .before .before .before .before .before .before .before .before .before .before .before .before .before .before .before .before .before .before .args .store .now in
-    let x = statementOf (c .before .before .before .before .before .before .before .before .before .before .before .before .before .before .before .before .before .before .before .args .x) none in
-    let n = is-new b x (c .before .before .before .before .before .before .before .before .before .before .before .before .before .before .before .find-statement .result) (c .before .before .before .before .before .before .before .before .before .before .before .before .before .before .before .find-statement .ensures) (c .before .before .before .before .before .before .before .before .before .before .before .before .before .enum-told2 .given .1) in
-    works-is (ap (answered x) (c .before .before .before .before .before .before .before .before .before .store-new .ensures .is) ∙ sym (statement-new x (stateOf b) n)) (c .before .before .before .before .answer .ensures)
+    let start = c .before .before .before .before .before .before .before .before .before .before .before .before .before .before .before .before .before .before in
+    let s = stateOf (start .args .store .now) in
+    let x = statementOf (start .args .x) none in
+    let new = plan-tells x s (New _ _) (sym (c .before .before .before .before .before .before .before .before .before .before .before .before .before .before .plan .given .1) ∙ start .pre .3) in
+    works-is (ap (answered x) (c .before .before .before .before .before .before .before .before .before .store-new .ensures .left .is) ∙ sym (statement-new x s (new .isNew))) (c .before .before .before .before .answer .ensures)
+
+returns-3 : tie.Need-returns-3
+returns-3 c =
+    let start = c .before .before .before .before in
+    let s = stateOf (start .args .store .now) in
+    let x = statementOf (start .args .x) none in
+    let full = plan-tells x s Full (sym (c .enum-told2 .given .1) ∙ start .pre .3) in
+    no-bool (sym (start .pre .2) ∙ new-room x s (full .0) ∙ full .1)
 
 pub statement-spec : {M : Type 1} → statement M
 statement-spec =
     tie.close
     (tie.spec
-    find-statement-requires
     enum-told
     certificate-requires
     join-certificate-requires
-    enum-told-2
+    enum-known-plan
     load-requires
     store-new-requires
     answer-requires
+    enum-told-2
     same-length
     returns
     same-length-2
     same-length-3
-    returns-2)
+    returns-2
+    returns-3)

@@ -1,7 +1,9 @@
 -- `acts::store_new` meets its contract. Assumes nothing.
-use Rattle.acts.proofs.Statements.{certificate-fits, own-fits, one-more-fits, stored-left}
+use Rattle.acts.proofs.Statements.{certificate-fits, certificate-found, own-fits, own-found, one-more-fits, new-stored}
+use Rattle.acts.proofs.Places.{sendable-certifies}
 use Rattle.rules.specs.Words.{ownBlock}
 use Rattle.store.specs.Meaning.{tallyOf}
+use Rattle.store.specs.Decode.{stateOf}
 use Rattle.wire.specs.Meaning.{statementOf}
 use mathlib.Core.Path.{refl}
 use mathlib.Core.Option.{none}
@@ -10,38 +12,58 @@ use Rattle.acts.proofs.store_new.Statement.{statement}
 use Rattle.acts.proofs.store_new.Tie as tie
 
 certificate-requires : tie.Need-certificate-requires
-certificate-requires c κs = search needs
+certificate-requires c κs =
+    let start = c .before .before in
+    sendable-certifies (stateOf (start .args .store .now) .settings) (start .args .x) (start .pre .1)
 
-join-certificate-requires : tie.Need-join-certificate-requires
-join-certificate-requires c κs =
-    (c .before .before .before .pre .0, certificate-fits (c .before .before .before .args .store .now) (statementOf (c .before .before .before .args .x) none) (c .before .before .before .pre .2) (tallyOf (c .certificate .result)) (ownBlock (statementOf (c .before .before .before .args .x) none) 0) (c .certificate .ensures) refl)
+join-certified-requires : tie.Need-join-certified-requires
+join-certified-requires c κs =
+    let start = c .before .before .before in
+    let b = start .args .store .now in
+    let x = statementOf (start .args .x) none in
+    let t = tallyOf (c .certificate .result) in
+    (start .pre .0, certificate-fits b x (start .pre .1) t (ownBlock x 0) (c .certificate .ensures) refl (start .pre .2), certificate-found b x (start .pre .1) t (ownBlock x 0) (c .certificate .ensures) refl (start .pre .2))
 
 own-block-requires : tie.Need-own-block-requires
 own-block-requires c κs = search needs
 
-join-tally-requires : tie.Need-join-tally-requires
-join-tally-requires c κs =
-    (c .before .before .before .before .join-certificate .ensures .form, own-fits (c .before .before .before .before .before .before .before .before .args .store .now) (statementOf (c .before .before .before .before .before .before .before .before .args .x) none) (c .before .before .before .before .before .before .before .before .pre .2) (tallyOf (c .before .before .before .before .before .certificate .result)) (tallyOf (c .own-block .result)) (c .before .before .before .before .before .certificate .ensures) (c .own-block .ensures) (c .before .before .before .before .join-certificate .ensures))
+join-found-requires : tie.Need-join-found-requires
+join-found-requires c κs =
+    let start = c .before .before .before .before .before .before .before .before in
+    let b = start .args .store .now in
+    let x = statementOf (start .args .x) none in
+    let certificate = c .before .before .before .before .before .certificate in
+    let joined = c .before .before .before .before .join-certified in
+    let t = tallyOf (certificate .result) in
+    let u = tallyOf (c .own-block .result) in
+    (joined .ensures .form, own-fits b x (start .pre .1) t u (certificate .ensures) (c .own-block .ensures) (start .pre .2) (joined .ensures), own-found b x (start .pre .1) t u (certificate .ensures) (c .own-block .ensures) (start .pre .2) (joined .ensures))
 
 append-statement-requires : tie.Need-append-statement-requires
 append-statement-requires c κs =
-    (c .before .before .before .join-tally .ensures .form, one-more-fits (c .before .before .before .before .before .before .before .before .before .before .before .before .args .store .now) (statementOf (c .before .before .before .before .before .before .before .before .before .before .before .before .args .x) none) (c .before .before .before .before .before .before .before .before .before .before .before .before .pre .2) (tallyOf (c .before .before .before .before .before .before .before .before .before .certificate .result)) (tallyOf (c .before .before .before .before .own-block .result)) (c .before .before .before .before .before .before .before .before .before .certificate .ensures) (c .before .before .before .before .own-block .ensures) (c .before .before .before .before .before .before .before .before .join-certificate .ensures) (c .before .before .before .join-tally .ensures))
+    let start = c .before .before .before .before .before .before .before .before .before .before .before .before in
+    let certificate = c .before .before .before .before .before .before .before .before .before .certificate in
+    let block = c .before .before .before .before .own-block in
+    let joined = c .before .before .before .join-found in
+    (joined .ensures .left .form, one-more-fits (start .args .store .now) (statementOf (start .args .x) none) (start .pre .1) (tallyOf (certificate .result)) (tallyOf (block .result)) (certificate .ensures) (block .ensures) (start .pre .2) (c .before .before .before .before .before .before .before .before .join-certified .ensures) (joined .ensures))
 
 same-length : tie.Need-same-length
 same-length c = search needs
 
 returns : tie.Need-returns
 returns c =
-    stored-left (c .before .before .before .before .before .before .before .before .before .before .before .before .before .before .before .args .store .now) (statementOf (c .before .before .before .before .before .before .before .before .before .before .before .before .before .before .before .args .x) none) (c .before .before .before .before .before .before .before .before .before .before .before .before .before .before .before .pre .2) (tallyOf (c .before .before .before .before .before .before .before .before .before .before .before .before .certificate .result)) (tallyOf (c .before .before .before .before .before .before .before .own-block .result)) (c .before .before .before .before .before .before .before .before .before .before .before .before .certificate .ensures) (c .before .before .before .before .before .before .before .own-block .ensures) (c .before .before .before .before .before .before .before .before .before .before .before .join-certificate .ensures) (c .before .before .before .before .before .before .join-tally .ensures) (c .before .before .append-statement .ensures)
+    let start = c .before .before .before .before .before .before .before .before .before .before .before .before .before .before .before in
+    let certificate = c .before .before .before .before .before .before .before .before .before .before .before .before .certificate in
+    let block = c .before .before .before .before .before .before .before .own-block in
+    new-stored (start .args .store .now) (statementOf (start .args .x) none) (start .pre .1) (tallyOf (certificate .result)) (tallyOf (block .result)) (certificate .ensures) (block .ensures) (start .pre .2) (c .before .before .before .before .before .before .before .before .before .before .before .join-certified .ensures) (c .before .before .before .before .before .before .join-found .ensures) (c .before .before .append-statement .ensures)
 
 pub store-new-spec : {M : Type 1} → statement M
 store-new-spec =
     tie.close
     (tie.spec
     certificate-requires
-    join-certificate-requires
+    join-certified-requires
     own-block-requires
-    join-tally-requires
+    join-found-requires
     append-statement-requires
     same-length
     returns)

@@ -1,25 +1,69 @@
--- `acts::tallied` meets its contract. Assumes nothing.
-use Rattle.acts.proofs.Rooms.{room-parts}
+-- `acts::tallied` meets its contract: what was found decides. Assumes nothing.
+use Rattle.acts.proofs.Plans.{needed-few, tallied-full, tallied-fits, tallied-done}
+use Rattle.acts.specs.Plans.{needed}
+use Rattle.store.proofs.Loaded.{loaded-tallies}
+use Rattle.store.proofs.Forms.{form-long, form-tallies}
 use Rattle.store.specs.Meaning.{tallyOf}
-use Rattle.store.specs.Decode.{stateOf, stateFrom}
-use Rattle.store.specs.Changes.{certifying}
-use Rattle.rules.specs.Inputs.{saying, tallied, withTables}
+use native.Mathlib.Omega.{arith}
+use Prim.Native.Nat.{_+_}
+use mathlib.Core.Path.{ap₂}
 use borrow.Author.Needs.{needs}
 use Rattle.acts.proofs.tallied.Statement.{statement}
 use Rattle.acts.proofs.tallied.Tie as tie
 
-join-certificate-requires : tie.Need-join-certificate-requires
-unfolding tallied saying withTables stateOf stateFrom
-join-certificate-requires c κs =
-    (c .before .before .pre .0, room-parts (tallied (tallyOf (c .before .before .args .tally)) (stateOf (c .before .before .args .store .now)) .now) (c .before .before .pre .1) .1)
+find-certificate-requires : tie.Need-find-certificate-requires
+find-certificate-requires c κs = search needs
+
+load-requires : tie.Need-load-requires
+load-requires c κs =
+    form-long _ (c .before .before .before .before .pre)
+
+needed-requires : tie.Need-needed-requires
+needed-requires c κs = search needs
+
+add-if1 : tie.Need-add-if1
+add-if1 c =
+    let start = c .before .before .before .before .before .before .before in
+    let load = c .before .before .load in
+    omega (arith, loaded-tallies (load .result) (start .args .store .now) (load .ensures), form-tallies _ (start .pre), c .before .needed .ensures, needed-few (tallyOf (start .args .tally)) (c .before .before .before .before .find-certificate .result))
 
 same-length : tie.Need-same-length
 same-length c = search needs
 
 returns : tie.Need-returns
-unfolding tallied saying certifying
 returns c =
-    c .before .before .join-certificate .ensures
+    let start = c .before .before .before .before .before .before .before .before in
+    let found = c .before .before .before .before .before .find-certificate in
+    let load = c .before .before .before .load in
+    tallied-full (start .pre) (tallyOf (start .args .tally)) (found .result) (found .ensures) _ (ap₂ _+_ (loaded-tallies (load .result) (start .args .store .now) (load .ensures)) (c .before .before .needed .ensures)) (c .if1 .taken)
+
+join-certified-requires : tie.Need-join-certified-requires
+join-certified-requires c κs =
+    let start = c .before .before .before .before .before .before .before .before .before in
+    let found = c .before .before .before .before .before .before .find-certificate in
+    let load = c .before .before .before .before .load in
+    (start .pre, tallied-fits (start .pre) (tallyOf (start .args .tally)) (found .result) (found .ensures) _ (ap₂ _+_ (loaded-tallies (load .result) (start .args .store .now) (load .ensures)) (c .before .before .before .needed .ensures)) (omega (arith, c .before .if1 .left)), found .ensures)
+
+same-length-2 : tie.Need-same-length-2
+same-length-2 c = search needs
+
+returns-2 : tie.Need-returns-2
+returns-2 c =
+    let start = c .before .before .before .before .before .before .before .before .before .before .before .before in
+    let found = c .before .before .before .before .before .before .before .before .before .find-certificate in
+    let load = c .before .before .before .before .before .before .before .load in
+    tallied-done (start .pre) (tallyOf (start .args .tally)) (found .result) (found .ensures) _ (ap₂ _+_ (loaded-tallies (load .result) (start .args .store .now) (load .ensures)) (c .before .before .before .before .before .before .needed .ensures)) (omega (arith, c .before .before .before .before .if1 .left)) (c .before .before .join-certified .ensures)
 
 pub tallied-spec : {M : Type 1} → statement M
-tallied-spec = tie.close (tie.spec join-certificate-requires same-length returns)
+tallied-spec =
+    tie.close
+    (tie.spec
+    find-certificate-requires
+    load-requires
+    needed-requires
+    add-if1
+    same-length
+    returns
+    join-certified-requires
+    same-length-2
+    returns-2)

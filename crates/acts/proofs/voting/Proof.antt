@@ -1,7 +1,7 @@
 -- `acts::voting` meets its contract. Assumes nothing.
 use Rattle.fields.specs.Names.{nameOf}
 use Rattle.acts.proofs.Votes.{voting-below, voting-cast, ballot-is, loaded-own, own-small, only-small, loaded-below}
-use Rattle.acts.proofs.Places.{sendable-certifies, sendable-linked, place-sendable, place-voted, place-room}
+use Rattle.acts.proofs.Places.{sendable-certifies, sendable-linked, place-sendable, place-voted, place-room, place-found}
 use Rattle.acts.proofs.Works.{formed-parts, ballot-bytes, works-is, works-none, works-saying}
 use Rattle.kept.proofs.Facts.{clocks-of}
 use Rattle.store.proofs.Loaded.{loaded-clock}
@@ -51,19 +51,22 @@ cast-own-block c =
 own-block-requires : tie.Need-own-block-requires
 own-block-requires c κs = search needs
 
-join-tally-requires : tie.Need-join-tally-requires
-join-tally-requires c κs =
-    (c .before .before .before .before .before .note-vote .ensures .form, place-room (c .before .before .before .before .before .before .before .before .before .before .before .before .before .before .before .pre .0) (c .before .before .before .before .before .before .before .before .before .before .before .before .before .before .before .pre .1) _ _ (tallyOf (c .own-block .result)) (c .own-block .ensures) (c .before .before .before .before .before .note-vote .ensures))
+join-found-requires : tie.Need-join-found-requires
+join-found-requires c κs =
+    let p = c .before .before .before .before .before .before .before .before .before .before .before .before .before .before .before .pre in
+    let vote = c .before .before .before .before .before .note-vote in
+    let u = tallyOf (c .own-block .result) in
+    (vote .ensures .form, place-room (p .0) (p .1) _ _ u (c .own-block .ensures) (vote .ensures), place-found (p .0) (p .1) _ _ u _ (c .own-block .ensures) (p .2) (vote .ensures))
 
-cast-t23 : tie.Need-cast-t23
-cast-t23 c =
+cast-t25 : tie.Need-cast-t25
+cast-t25 c =
     record { fits = omega (arith, own-small (c .before .before .before .before .before .before .before .before .before .before .before .before .before .before .before .before .before .before .before .pre .0) (c .before .before .before .before .before .before .before .before .before .before .before .before .before .before .before .load .result) (c .before .before .before .before .before .before .before .before .before .before .before .before .before .before .before .load .ensures)) }
 
 send-both-requires : tie.Need-send-both-requires
 unfolding messageOf
 send-both-requires c κs =
     let a = c .before .before .before .before .before .before .before .before .before .before .before .before .before .before .before .before .before .before .before .before .args in
-    (sendable-linked (stateOf (a .store .now) .settings) (a .x) (place-sendable (c .before .before .before .before .before .before .before .before .before .before .before .before .before .before .before .before .before .before .before .before .pre .0) (c .before .before .before .before .before .before .before .before .before .before .before .before .before .before .before .before .before .before .before .before .pre .1)), tt, omega (arith, ballot-bytes (statementOf (a .x) none) (a .x .view) (a .x .height) (nameOf (a .x .name)) (c .before .before .before .before .before .before .before .before .before .before .before .before .before .before .before .before .load .result .settings .own), c .before .before .before .before .before .before .before .before .before .before .before .before .before .before .before .before .before .before .before .before .pre .2))
+    (sendable-linked (stateOf (a .store .now) .settings) (a .x) (place-sendable (c .before .before .before .before .before .before .before .before .before .before .before .before .before .before .before .before .before .before .before .before .pre .0) (c .before .before .before .before .before .before .before .before .before .before .before .before .before .before .before .before .before .before .before .before .pre .1)), tt, omega (arith, ballot-bytes (statementOf (a .x) none) (a .x .view) (a .x .height) (nameOf (a .x .name)) (c .before .before .before .before .before .before .before .before .before .before .before .before .before .before .before .before .load .result .settings .own), c .before .before .before .before .before .before .before .before .before .before .before .before .before .before .before .before .before .before .before .before .pre .3))
 
 same-length-2 : tie.Need-same-length-2
 same-length-2 c = search needs
@@ -80,7 +83,7 @@ returns-2 c =
     let own = loaded-own k (c .before .before .before .before .before .before .before .before .before .before .before .before .before .before .before .before .before .before .before .load .result) (c .before .before .before .before .before .before .before .before .before .before .before .before .before .before .before .before .before .before .before .load .ensures) in
     works-is (voting-cast x s (sym (loaded-below k (c .before .before .before .before .before .before .before .before .before .before .before .before .before .before .before .before .before .before .before .load .result) (c .before .before .before .before .before .before .before .before .before .before .before .before .before .before .before .before .before .before .before .load .ensures) x) ∙ sym (c .before .before .before .before .before .before .before .before .before .before .before .before .before .before .before .before .before .below-lock .ensures) ∙ c .before .before .before .before .before .before .before .before .before .before .before .before .before .before .before .before .if1 .left))
     (works-saying (ballot x s)
-    (place-voted k (c .before .before .before .before .before .before .before .before .before .before .before .before .before .before .before .before .before .before .before .before .before .before .before .pre .1) (c .before .before .before .before .before .before .before .before .before .before .before .before .before .before .before .before .before .before .before .load .result .clock) (tallyOf (c .before .before .before .before .before .before .before .before .own-block .result)) (loaded-clock (c .before .before .before .before .before .before .before .before .before .before .before .before .before .before .before .before .before .before .before .load .result) (a .store .now) (c .before .before .before .before .before .before .before .before .before .before .before .before .before .before .before .before .before .before .before .load .ensures)) (c .before .before .before .before .before .before .before .before .own-block .ensures ∙ ap (ownBlock x) (c .before .before .before .before .before .before .before .before .before .only .ensures ∙ ap only own)) (c .before .before .before .before .before .before .before .before .before .before .before .before .before .note-vote .ensures) (c .before .before .before .before .before .before .before .join-tally .ensures))
+    (place-voted k (c .before .before .before .before .before .before .before .before .before .before .before .before .before .before .before .before .before .before .before .before .before .before .before .pre .1) (c .before .before .before .before .before .before .before .before .before .before .before .before .before .before .before .before .before .before .before .load .result .clock) (tallyOf (c .before .before .before .before .before .before .before .before .own-block .result)) (loaded-clock (c .before .before .before .before .before .before .before .before .before .before .before .before .before .before .before .before .before .before .before .load .result) (a .store .now) (c .before .before .before .before .before .before .before .before .before .before .before .before .before .before .before .before .before .before .before .load .ensures)) (c .before .before .before .before .before .before .before .before .own-block .ensures ∙ ap (ownBlock x) (c .before .before .before .before .before .before .before .before .before .only .ensures ∙ ap only own)) (c .before .before .before .before .before .before .before .before .before .before .before .before .before .note-vote .ensures) (c .before .before .before .before .before .before .before .join-found .ensures .left))
     (rw (← ballot-is (a .x) s (c .before .before .before .before .before .before .before .before .before .before .before .before .before .before .before .before .before .before .before .load .result .settings .own) own) (c .before .before .send-both .ensures)))
 
 pub voting-spec : {M : Type 1} → statement M
@@ -95,8 +98,8 @@ voting-spec =
     only-requires
     cast-own-block
     own-block-requires
-    join-tally-requires
-    cast-t23
+    join-found-requires
+    cast-t25
     send-both-requires
     same-length-2
     same-length-3

@@ -1,6 +1,11 @@
 -- `station::next_fits` meets its contract: whether a statement fits is the same at every clock. Assumes nothing.
 use mathlib.Core.Path.{sym, _∙_}
+use mathlib.Core.Option.{none}
 use borrow.Author.Tests.{not-true, not-false}
+use Rattle.wire.specs.Meaning.{statementOf}
+use Rattle.store.specs.Decode.{stateOf}
+use Rattle.acts.proofs.Plans.{plan-room}
+use Rattle.acts.proofs.Works.{formed-parts}
 use Rattle.station.proofs.Turns.{later-leader, never-next, fits-next}
 use borrow.Author.Needs.{needs}
 use Rattle.station.proofs.next_fits.Statement.{statement}
@@ -17,14 +22,26 @@ own-new-view-requires : tie.Need-own-new-view-requires
 own-new-view-requires c κs =
     (c .before .before .before .pre, later-leader _ (sym (c .before .leads-next .ensures) ∙ not-false _ (c .if1 .left)))
 
-statement-fits-requires : tie.Need-statement-fits-requires
-statement-fits-requires c κs = search needs
+planned-requires : tie.Need-planned-requires
+planned-requires c κs = search needs
+
+fits-requires : tie.Need-fits-requires
+fits-requires c κs = search needs
 
 returns-2 : tie.Need-returns-2
 returns-2 c =
-    c .statement-fits .ensures ∙ fits-next _ (c .before .own-new-view .result) (sym (c .before .before .before .leads-next .ensures) ∙ not-false _ (c .before .before .if1 .left)) (c .before .own-new-view .ensures .0)
+    let start = c .before .before .before .before .before .before in
+    let own-new-view = c .before .before .own-new-view in
+    c .fits2 .ensures ∙ plan-room (statementOf (own-new-view .result) none) (stateOf (start .args .store .now)) (formed-parts (start .pre)) (c .before .planned .result) (c .before .planned .ensures)
+    ∙ fits-next _ (own-new-view .result) (sym (c .before .before .before .before .leads-next .ensures) ∙ not-false _ (c .before .before .before .if1 .left)) (own-new-view .ensures .0)
 
 pub next-fits-spec : {M : Type 1} → statement M
 next-fits-spec =
     tie.close
-    (tie.spec leads-next-requires returns own-new-view-requires statement-fits-requires returns-2)
+    (tie.spec
+    leads-next-requires
+    returns
+    own-new-view-requires
+    planned-requires
+    fits-requires
+    returns-2)

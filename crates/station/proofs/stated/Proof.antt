@@ -5,29 +5,40 @@ use borrow.Author.Tests.{not-true, not-false}
 use Rattle.rules.specs.Inputs as inputs
 use Rattle.wire.specs.Meaning.{statementOf}
 use Rattle.store.specs.Decode.{stateOf}
+use Rattle.acts.proofs.Plans.{plan-room}
+use Rattle.acts.proofs.Works.{formed-parts}
 use Rattle.station.proofs.Rooms.{room-answers, full-answers}
 use borrow.Author.Needs.{needs}
 use Rattle.station.proofs.stated.Statement.{statement}
 use Rattle.station.proofs.stated.Tie as tie
 
-statement-fits-requires : tie.Need-statement-fits-requires
-statement-fits-requires c κs = search needs
+planned-requires : tie.Need-planned-requires
+planned-requires c κs = search needs
 
-stop-full-requires : tie.Need-stop-full-requires
-stop-full-requires c κs = search needs
+fits-requires : tie.Need-fits-requires
+fits-requires c κs = search needs
+
+stop-requires : tie.Need-stop-requires
+stop-requires c κs = search needs
 
 same-length : tie.Need-same-length
 same-length c = search needs
 
 returns : tie.Need-returns
 returns c =
-    let a = c .before .before .before .before .before .before .before .before .before .args in
-    let s = stateOf (a .store .now) in
-    full-answers s (inputs.statement (statementOf (a .x) none) s) (sym (c .before .before .before .before .before .statement-fits .ensures) ∙ not-true _ (c .before .before .before .before .if1 .taken)) (c .before .before .stop-full .ensures) (a .out .now)
+    let start = c .before .before .before .before .before .before .before .before .before .before in
+    let s = stateOf (start .args .store .now) in
+    let x = statementOf (start .args .x) none in
+    let room = c .before .before .before .before .before .fits2 .ensures ∙ plan-room x s (formed-parts (start .pre .0)) (c .before .before .before .before .before .before .planned .result) (c .before .before .before .before .before .before .planned .ensures) in
+    full-answers s (inputs.statement x s) (sym room ∙ not-true _ (c .before .before .before .before .if1 .taken)) (c .before .before .stop .ensures) (start .args .out .now)
 
 statement-requires : tie.Need-statement-requires
 statement-requires c κs =
-    let p = c .before .before .before .before .before .before .before .pre in (p .0, p .1, sym (c .before .before .before .statement-fits .ensures) ∙ not-false _ (c .before .before .if1 .left), p .2)
+    let start = c .before .before .before .before .before .before .before .before in
+    let s = stateOf (start .args .store .now) in
+    let x = statementOf (start .args .x) none in
+    let room = c .before .before .before .fits2 .ensures ∙ plan-room x s (formed-parts (start .pre .0)) (c .before .before .before .before .planned .result) (c .before .before .before .before .planned .ensures) in
+    (start .pre .0, start .pre .1, sym room ∙ not-false _ (c .before .before .if1 .left), c .before .before .before .before .planned .ensures, start .pre .2)
 
 same-length-2 : tie.Need-same-length-2
 same-length-2 c = search needs
@@ -37,16 +48,19 @@ same-length-3 c = search needs
 
 returns-2 : tie.Need-returns-2
 returns-2 c =
-    let a = c .before .before .before .before .before .before .before .before .before .before .before .before .args in
-    let s = stateOf (a .store .now) in
-    room-answers s (inputs.statement (statementOf (a .x) none) s) (sym (c .before .before .before .before .before .before .before .before .statement-fits .ensures) ∙ not-false _ (c .before .before .before .before .before .before .before .if1 .left)) (c .before .before .before .before .statement .ensures)
+    let start = c .before .before .before .before .before .before .before .before .before .before .before .before .before in
+    let s = stateOf (start .args .store .now) in
+    let x = statementOf (start .args .x) none in
+    let room = c .before .before .before .before .before .before .before .before .fits2 .ensures ∙ plan-room x s (formed-parts (start .pre .0)) (c .before .before .before .before .before .before .before .before .before .planned .result) (c .before .before .before .before .before .before .before .before .before .planned .ensures) in
+    room-answers s (inputs.statement x s) (sym room ∙ not-false _ (c .before .before .before .before .before .before .before .if1 .left)) (c .before .before .before .before .statement .ensures)
 
 pub stated-spec : {M : Type 1} → statement M
 stated-spec =
     tie.close
     (tie.spec
-    statement-fits-requires
-    stop-full-requires
+    planned-requires
+    fits-requires
+    stop-requires
     same-length
     returns
     statement-requires

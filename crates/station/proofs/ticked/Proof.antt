@@ -52,15 +52,15 @@ returns-2 c =
 next-fits-requires : tie.Need-next-fits-requires
 next-fits-requires c κs = search needs
 
-stop-full-requires : tie.Need-stop-full-requires
-stop-full-requires c κs = search needs
+stop-requires-3 : tie.Need-stop-requires-3
+stop-requires-3 c κs = search needs
 
 same-length-3 : tie.Need-same-length-3
 same-length-3 c = search needs
 
 returns-3 : tie.Need-returns-3
 returns-3 c =
-    let p = c .before .before .before .before .before .before .before .before .before .before .before .before .before .before .before .before .before .before .before .before .pre in full-tick (p .0) (p .1) (c .before .before .before .before .before .before .before .before .before .before .before .before .before .before .before .before .load .result) (c .before .before .before .before .before .before .before .before .before .before .before .before .before .before .before .before .load .ensures) (c .before .before .before .before .before .before .before .before .before .before .before .before .before .before .if1 .left) (gained-by (c .before .before .before .before .before .before .before .before .before .before .before .commits .ensures) (c .before .before .before .before .before .before .before .before .len .given .1)) (c .before .before .before .before .before .next-fits .ensures) (c .before .before .before .before .if2 .taken) (c .before .before .stop-full .ensures) (c .before .before .before .before .before .before .before .before .before .before .before .before .before .before .before .before .before .before .before .before .args .out .now)
+    let p = c .before .before .before .before .before .before .before .before .before .before .before .before .before .before .before .before .before .before .before .before .pre in full-tick (p .0) (p .1) (c .before .before .before .before .before .before .before .before .before .before .before .before .before .before .before .before .load .result) (c .before .before .before .before .before .before .before .before .before .before .before .before .before .before .before .before .load .ensures) (c .before .before .before .before .before .before .before .before .before .before .before .before .before .before .if1 .left) (gained-by (c .before .before .before .before .before .before .before .before .before .before .before .commits .ensures) (c .before .before .before .before .before .before .before .before .len .given .1)) (c .before .before .before .before .before .next-fits .ensures) (c .before .before .before .before .if2 .taken) (c .before .before .stop3 .ensures) (c .before .before .before .before .before .before .before .before .before .before .before .before .before .before .before .before .before .before .before .before .args .out .now)
 
 add-turning : tie.Need-add-turning
 add-turning c =
@@ -100,7 +100,7 @@ ticked-spec =
     same-length-2
     returns-2
     next-fits-requires
-    stop-full-requires
+    stop-requires-3
     same-length-3
     returns-3
     add-turning

@@ -23,11 +23,15 @@ own-new-view-requires : tie.Need-own-new-view-requires
 own-new-view-requires c κs =
     (c .before .before .before .before .before .before .pre .0, now-leads _ (sym (c .before .before .leads-now .ensures) ∙ not-false _ (c .before .if1 .left)))
 
+planned-requires : tie.Need-planned-requires
+planned-requires c κs =
+    (c .before .before .before .before .before .before .before .before .pre .0, c .before .own-new-view .ensures .1)
+
 statement-requires : tie.Need-statement-requires
 statement-requires c κs =
-    let pre = c .before .before .before .before .before .before .before .before .before .pre in
-    let own-new-view = c .before .before .own-new-view in
-    (pre .0, own-new-view .ensures .1, now-fits _ (own-new-view .result) (sym (c .before .before .before .before .before .leads-now .ensures) ∙ not-false _ (c .before .before .before .before .if1 .left)) (own-new-view .ensures .0) ∙ pre .1, pre .2)
+    let pre = c .before .before .before .before .before .before .before .before .before .before .before .pre in
+    let own-new-view = c .before .before .before .before .own-new-view in
+    (pre .0, own-new-view .ensures .1, now-fits _ (own-new-view .result) (sym (c .before .before .before .before .before .before .before .leads-now .ensures) ∙ not-false _ (c .before .before .before .before .before .before .if1 .left)) (own-new-view .ensures .0) ∙ pre .1, c .before .before .planned .ensures, pre .2)
 
 same-length-2 : tie.Need-same-length-2
 same-length-2 c = search needs
@@ -37,8 +41,8 @@ same-length-3 c = search needs
 
 returns-2 : tie.Need-returns-2
 returns-2 c =
-    let own-new-view = c .before .before .before .before .before .before .before .own-new-view in
-    works-is (lead-now _ (sym (c .before .before .before .before .before .before .before .before .before .before .leads-now .ensures) ∙ not-false _ (c .before .before .before .before .before .before .before .before .before .if1 .left)) (own-new-view .result) (own-new-view .ensures .0)) (c .before .before .before .before .statement .ensures)
+    let own-new-view = c .before .before .before .before .before .before .before .before .before .own-new-view in
+    works-is (lead-now _ (sym (c .before .before .before .before .before .before .before .before .before .before .before .before .leads-now .ensures) ∙ not-false _ (c .before .before .before .before .before .before .before .before .before .before .before .if1 .left)) (own-new-view .result) (own-new-view .ensures .0)) (c .before .before .before .before .statement .ensures)
 
 pub lead-spec : {M : Type 1} → statement M
 lead-spec =
@@ -48,6 +52,7 @@ lead-spec =
     same-length
     returns
     own-new-view-requires
+    planned-requires
     statement-requires
     same-length-2
     same-length-3

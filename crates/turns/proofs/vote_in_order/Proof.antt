@@ -4,6 +4,7 @@ use Rattle.store.proofs.Forms.{form-long, form-statements}
 use native.Mathlib.Omega.{arith}
 use Prim.Native.Nat.{_-_}
 use mathlib.Core.Path.{sym, _∙_}
+use borrow.Author.Needs.{needs}
 use Rattle.turns.proofs.vote_in_order.Statement.{statement}
 use Rattle.turns.proofs.vote_in_order.Tie as tie
 
@@ -35,30 +36,37 @@ statement-at-requires c κs =
     let loop = c .before .before .before .loop in
     (form-long _ (loop .inv .formed .form), omega (arith, (pre .inside (loop .j) (c .before .before .loop-test .taken)), form-statements _ (pre .formed .form)))
 
+own-block-requires : tie.Need-own-block-requires Inv-loop μ-loop
+own-block-requires c κs = search needs
+
+find-tally-requires : tie.Need-find-tally-requires Inv-loop μ-loop
+find-tally-requires c κs =
+    c .before .before .before .before .before .before .loop .inv .formed .form
+
 voting-requires : tie.Need-voting-requires Inv-loop μ-loop
 voting-requires c κs =
-    let args = c .before .before .before .before .before .before .before .before .before .before .args in
-    let pre = c .before .before .before .before .before .before .before .before .before .before .pre in
-    let l = c .before .before .before .before .before .before .loop in
-    let loop-test = c .before .before .before .before .before .loop-test in
-    let statement-at = c .before .before .statement-at in
-    (l .inv .formed, voted-stands (args .store .now) (args .order .now) (args .out .now) (args .at) (args .count) (l .inv) (pre .inside (l .j) (loop-test .taken)) (statement-at .result) (statement-at .ensures), omega (arith, l .inv .ends, l .inv .long, pre .space, loop-test .taken))
+    let args = c .before .before .before .before .before .before .before .before .before .before .before .before .before .args in
+    let pre = c .before .before .before .before .before .before .before .before .before .before .before .before .before .pre in
+    let l = c .before .before .before .before .before .before .before .before .before .loop in
+    let loop-test = c .before .before .before .before .before .before .before .before .loop-test in
+    let statement-at = c .before .before .before .before .before .statement-at in
+    (l .inv .formed, voted-stands (args .store .now) (args .order .now) (args .out .now) (args .at) (args .count) (l .inv) (pre .inside (l .j) (loop-test .taken)) (statement-at .result) (statement-at .ensures), rw (← c .before .before .before .own-block .ensures) (c .before .before .find-tally .ensures), omega (arith, l .inv .ends, l .inv .long, pre .space, loop-test .taken))
 
 add-j : tie.Need-add-j Inv-loop μ-loop
 add-j c =
-    omega (arith, c .before .before .before .before .before .before .before .before .before .before .loop-test .taken, c .before .before .before .before .before .before .before .before .before .before .before .before .before .before .before .pre .few)
+    omega (arith, c .before .before .before .before .before .before .before .before .before .before .before .before .before .loop-test .taken, c .before .before .before .before .before .before .before .before .before .before .before .before .before .before .before .before .before .before .pre .few)
 
 loop-less : tie.Need-loop-less Inv-loop μ-loop
 loop-less c =
-    omega (arith, c .before .before .before .before .before .before .before .before .before .before .loop-test .taken)
+    omega (arith, c .before .before .before .before .before .before .before .before .before .before .before .before .before .loop-test .taken)
 
 loop-again : tie.Need-loop-again Inv-loop μ-loop
 loop-again c =
-    let args = c .before .before .before .before .before .before .before .before .before .before .before .before .before .before .before .args in
-    let loop = c .before .before .before .before .before .before .before .before .before .before .before .loop in
-    let loop-test = c .before .before .before .before .before .before .before .before .before .before .loop-test in
-    let statement-at = c .before .before .before .before .before .before .before .statement-at in
-    voted-next (args .store .now) (args .order .now) (args .out .now) (args .at) (args .count) (loop .inv) (c .before .before .before .before .before .before .before .before .before .before .before .before .before .before .before .pre .inside (loop .j) (loop-test .taken)) (statement-at .result) (statement-at .ensures) (loop-test .taken) (c .before .before .before .before .voting .ensures)
+    let args = c .before .before .before .before .before .before .before .before .before .before .before .before .before .before .before .before .before .before .args in
+    let loop = c .before .before .before .before .before .before .before .before .before .before .before .before .before .before .loop in
+    let loop-test = c .before .before .before .before .before .before .before .before .before .before .before .before .before .loop-test in
+    let statement-at = c .before .before .before .before .before .before .before .before .before .before .statement-at in
+    voted-next (args .store .now) (args .order .now) (args .out .now) (args .at) (args .count) (loop .inv) (c .before .before .before .before .before .before .before .before .before .before .before .before .before .before .before .before .before .before .pre .inside (loop .j) (loop-test .taken)) (statement-at .result) (statement-at .ensures) (loop-test .taken) (c .before .before .before .before .voting .ensures)
 
 same-length : tie.Need-same-length Inv-loop μ-loop
 same-length c =
@@ -83,6 +91,8 @@ vote-in-order-spec =
     shared-slice-read-place
     cast-place
     statement-at-requires
+    own-block-requires
+    find-tally-requires
     voting-requires
     add-j
     loop-less

@@ -1,0 +1,138 @@
+-- What was found before an act: the records that it needs, whether they are free, and what comes of it. Assumes nothing.
+use Prim.Native.Nat.{ℕ, _+_, _≤_, _<_}
+use mathlib.Core.Path.{_≡_, refl, sym, ap, ap₂, _∙_, subst}
+use mathlib.Core.Bool.{true, false}
+use mathlib.Core.List.{List}
+use native.Mathlib.Omega.{arith}
+use lib.Dec.{leb, eqb}
+use lib.ListN.{length}
+use borrow.Author.Tests.{eqb-true, eqb-false, eq-eqb, ne-eqb, le-leb, lt-leb}
+use Rattle.rules.specs.Limits.{mostTallies}
+use Rattle.rules.specs.Lists.{any}
+use Rattle.rules.specs.Words.{Statement, sameStatement, Tally, join, joinCertificate, State}
+use Rattle.rules.specs.Inputs.{saying, stored, statement, tallied}
+use Rattle.rules.specs.Refusals.{hasRoom}
+use Rattle.rules.proofs.Tests.{by-bool}
+use Rattle.store.specs.Layout.{tallyTable, countOf}
+use Rattle.store.specs.Decode.{tallies, stateFrom, stateOf, Form, Left}
+use Rattle.store.specs.Changes.{blockAt, certifying}
+use Rattle.store.specs.declared.Found.{Found}
+use Rattle.store.specs.declared.Found.the-variants.{At, Nothing}
+use Rattle.store.proofs.Joining.{certificate-joins}
+use Rattle.store.proofs.Forms.{form-statements}
+use Rattle.kept.specs.Parts.{WellFormed}
+use Rattle.acts.specs.Works.{fitting, Tried}
+use Rattle.acts.specs.Plans.{certifiedAt, needed, planned, fits, Newly}
+use Rattle.acts.specs.declared.Plan.{Plan}
+use Rattle.acts.specs.declared.Plan.the-variants.{Repeat, New, Full}
+use Rattle.acts.proofs.Works.{count-statements, count-tallies}
+use Rattle.acts.proofs.Rooms.{Adds, adds, tallied-room, repeat-room}
+use Rattle.acts.proofs.Answers.{new-room}
+
+-- ---- a tally
+
+module _ (t : Tally) where
+  pub certified-genesis : (us : List Tally) → t .view ≡ 0 → Nothing ≡ certifiedAt t us
+  unfolding certifiedAt
+  certified-genesis us q = rw (eq-eqb (t .view) 0 q, certifiedAt)
+
+  pub certified-block : (us : List Tally) → (t .view ≡ 0 → ⊥) → certifiedAt t us ≡ blockAt t us
+  unfolding certifiedAt
+  certified-block us d = rw (ne-eqb (t .view) 0 d, certifiedAt)
+
+  pub needed-genesis : (r : Found) → t .view ≡ 0 → 0 ≡ needed t r
+  unfolding needed
+  needed-genesis r q = rw (eq-eqb (t .view) 0 q, needed)
+
+  pub needed-none : (r : Found) → (t .view ≡ 0 → ⊥) → (j : ℕ) → r ≡ At j → 0 ≡ needed t r
+  unfolding needed
+  needed-none r d j e = sym (ap (needed t) e ∙ rw (ne-eqb (t .view) 0 d, needed))
+
+  pub needed-one : (r : Found) → (t .view ≡ 0 → ⊥) → r ≡ Nothing → 1 ≡ needed t r
+  unfolding needed
+  needed-one r d e = sym (ap (needed t) e ∙ rw (ne-eqb (t .view) 0 d, needed))
+
+  pub needed-few : (r : Found) → needed t r ≤ 1
+  unfolding needed
+  needed-few Nothing = by-bool (eqb (t .view) 0) (λ q. rw (q, needed) (omega arith)) (λ q. rw (q, needed) (omega arith))
+  needed-few (At j) = by-bool (eqb (t .view) 0) (λ q. rw (q, needed) (omega arith)) (λ q. rw (q, needed) (omega arith))
+
+  -- a block that is joined adds what it needs
+  module _ (us : List Tally) (r : Found) where
+    pub block-adds : (t .view ≡ 0 → ⊥) → r ≡ blockAt t us → length us + needed t r ≡ length (join t us)
+    block-adds d e = go r refl
+      where
+        go : (p : Found) → r ≡ p → length us + needed t r ≡ length (join t us)
+        go Nothing q = omega (arith, needed-one r d q, subst (Adds t us) (sym e ∙ q) (adds t 0 us))
+        go (At j) q = omega (arith, needed-none r d j q, subst (Adds t us) (sym e ∙ q) (adds t 0 us))
+
+    pub certificate-adds : r ≡ certifiedAt t us → length us + needed t r ≡ length (joinCertificate t us)
+    unfolding joinCertificate
+    certificate-adds e =
+        by-bool (eqb (t .view) 0) (λ q. rw (q, joinCertificate) (omega (arith, needed-genesis r (eqb-true (t .view) 0 q))))
+        (λ q. let d = eqb-false (t .view) 0 q in block-adds d (e ∙ certified-block us d) ∙ sym (ap length (certificate-joins t us d)))
+
+-- ---- a vote or a status, where k tallies would be in use
+
+module _ {b : List ℕ} (f : Form b) (t : Tally) (r : Found) (e : r ≡ certifiedAt t (tallies b)) (k : ℕ) (d : k ≡ countOf tallyTable b + needed t r) where
+  k-is : k ≡ length (joinCertificate t (tallies b))
+  unfolding stateOf stateFrom
+  k-is = omega (arith, count-tallies b, certificate-adds t (tallies b) r e)
+
+  room-by : leb k mostTallies ≡ hasRoom (tallied t (stateOf b) .now)
+  unfolding stateOf stateFrom
+  room-by = tallied-room (stateOf b) t (omega (arith, count-statements b, form-statements b f)) k k-is
+
+  pub tallied-full : mostTallies < k → Tried (tallied t (stateOf b) .now) (stateOf b) b false
+  unfolding fitting
+  tallied-full l =
+      let q : hasRoom (tallied t (stateOf b) .now) ≡ false = sym room-by ∙ lt-leb k mostTallies l in
+      record { room = sym q; left = rw (q, fitting) (record { form = f; is = refl }) }
+
+  module _ (l : k ≤ mostTallies) where
+    pub tallied-fits : length (joinCertificate t (tallies b)) ≤ mostTallies
+    tallied-fits = omega (arith, k-is)
+
+    pub tallied-done : {b′ : List ℕ} → Left b′ (certifying t (stateOf b)) → Tried (tallied t (stateOf b) .now) (stateOf b) b′ true
+    unfolding fitting certifying tallied saying
+    tallied-done h =
+        let q : hasRoom (tallied t (stateOf b) .now) ≡ true = sym room-by ∙ le-leb k mostTallies l in
+        record { room = sym q; left = rw (q, fitting) h }
+
+-- ---- a statement
+
+module _ (x : Statement) (s : State) where
+  pub planned-repeat : any (sameStatement x) (s .statements) ≡ true → Repeat ≡ planned x s
+  unfolding planned
+  planned-repeat a = rw (a, planned)
+
+  pub planned-new : {p q : Found} → Newly x s p q → New p q ≡ planned x s
+  unfolding planned
+  planned-new k = rw (k .isNew, k .room, planned) (ap₂ New (k .certified) (k .own))
+
+  pub planned-full : any (sameStatement x) (s .statements) ≡ false → hasRoom (stored x s) ≡ false → Full ≡ planned x s
+  unfolding planned
+  planned-full a h = rw (a, h, planned)
+
+  -- what a plan tells
+  abbrev Tells : Plan → Type 0
+  Tells Repeat = any (sameStatement x) (s .statements) ≡ true
+  Tells (New p q) = Newly x s p q
+  Tells Full = (any (sameStatement x) (s .statements) ≡ false) × (hasRoom (stored x s) ≡ false)
+
+  by-plan : {P : Type 0} → (Tells Repeat → P) → ((p q : Found) → Newly x s p q → P) → (Tells Full → P) → P
+  by-plan f g h =
+      by-bool (any (sameStatement x) (s .statements)) f
+      (λ a. by-bool (hasRoom (stored x s)) (λ r. g _ _ (record { isNew = a; room = r; certified = refl; own = refl })) (λ r. h (a, r)))
+
+  pub plan-tells : (r : Plan) → r ≡ planned x s → Tells r
+  plan-tells r e =
+      subst Tells (sym e)
+      (by-plan (λ a. subst Tells (planned-repeat a) a) (λ p q k. subst Tells (planned-new k) k) (λ a. subst Tells (planned-full (a .0) (a .1)) a))
+
+  pub plan-room : WellFormed s → (r : Plan) → r ≡ planned x s → fits r ≡ hasRoom (statement x s .now)
+  unfolding fits
+  plan-room w r e =
+      ap fits e
+      ∙ by-plan (λ a. ap fits (sym (planned-repeat a)) ∙ repeat-room w x a) (λ p q k. ap fits (sym (planned-new k)) ∙ sym (new-room x s (k .isNew) ∙ k .room))
+      (λ a. ap fits (sym (planned-full (a .0) (a .1))) ∙ sym (new-room x s (a .0) ∙ a .1))

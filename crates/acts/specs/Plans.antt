@@ -1,0 +1,52 @@
+-- What is found before an act: where the tallies are, whether they need records, and what comes of a statement. Assumes nothing.
+use Prim.Native.Nat.{ℕ}
+use mathlib.Core.Path.{_≡_}
+use mathlib.Core.Bool.{Bool, true, false}
+use mathlib.Core.List.{List}
+use lib.Dec.{eqb}
+use Rattle.rules.specs.Lists.{any}
+use Rattle.rules.specs.Words.{Statement, sameStatement, Tally, ownBlock, certificate, sameBlock, State}
+use Rattle.rules.specs.Inputs.{stored}
+use Rattle.rules.specs.Refusals.{hasRoom}
+use Rattle.store.specs.Decode.{tallies, Left}
+use Rattle.store.specs.Changes.{firstFrom, blockAt}
+use Rattle.store.specs.declared.Found.{Found}
+use Rattle.store.specs.declared.Found.the-variants.{At, Nothing}
+use Rattle.acts.specs.declared.Plan.{Plan}
+use Rattle.acts.specs.declared.Plan.the-variants.{Repeat, New, Full}
+
+-- the place of a certificate's tally; genesis "has no tally" in view 0
+unfoldable pub certifiedAt : Tally → List Tally → Found
+unfolding firstFrom sameBlock
+certifiedAt t us = elim (eqb (t .view) 0) [ true ↦ Nothing | false ↦ blockAt t us ]
+
+-- the records that a tally needs by its place
+unfoldable pub needed : Tally → Found → ℕ
+needed t r = elim (eqb (t .view) 0) [ true ↦ 0 | false ↦ elim r [ At j ↦ 0 | Nothing ↦ 1 ] ]
+
+-- what comes of a statement
+unfoldable pub planned : Statement → State → Plan
+unfolding any sameStatement hasRoom stored certifiedAt certificate firstFrom sameBlock ownBlock
+planned x s =
+    elim (any (sameStatement x) (s .statements)) [
+      | true ↦ Repeat
+      | false ↦ elim (hasRoom (stored x s)) [ true ↦ New (certifiedAt (certificate x) (s .tallies)) (blockAt (ownBlock x 0) (s .tallies)) | false ↦ Full ]
+    ]
+
+-- whether there is room for it
+unfoldable pub fits : Plan → Bool
+fits Repeat = true
+fits (New p q) = true
+fits Full = false
+
+-- a statement is new and has room, and its tallies are at these places
+pub record Newly (x : Statement) (s : State) (p q : Found) : Type 0 where
+  pub isNew : any (sameStatement x) (s .statements) ≡ false
+  pub room : hasRoom (stored x s) ≡ true
+  pub certified : p ≡ certifiedAt (certificate x) (s .tallies)
+  pub own : q ≡ blockAt (ownBlock x 0) (s .tallies)
+
+-- it is stored, and its own block's tally stands at place i now
+pub record Stored (x : Statement) (s : State) (b′ : List ℕ) (i : ℕ) : Type 0 where
+  pub left : Left b′ (stored x s)
+  pub place : At i ≡ blockAt (ownBlock x 0) (tallies b′)
