@@ -228,7 +228,7 @@ unfolding value
 value-last w =
     let k = length w - 16 in
     let whole : value 16 0 w ≡ value 16 0 (take k w) * 16 ^ length (drop k w) + value 16 0 (drop k w) =
-        ap (value 16 0) (sym (take-append-drop k w)) ∙ value-append 16 0 (take k w) (drop k w) ∙ value-front 16 (value 16 0 (take k w)) (drop k w) in
+    ap (value 16 0) (sym (take-append-drop k w)) ∙ value-append 16 0 (take k w) (drop k w) ∙ value-front 16 (value 16 0 (take k w)) (drop k w) in
     by-bool (leb 16 (length w))
     (λ q. let e : length (drop k w) ≡ 16 = length-drop k w ∙ omega (arith, leb-true 16 (length w) q) in rw e at whole)
     (λ q. let e : k ≡ 0 = omega (arith, leb-false 16 (length w) q) in rw e (omega arith))
@@ -243,11 +243,11 @@ name-words w n a b c h ea eb ec e1 e2 e3 e4 =
     let la : length (take a w) ≡ a = length-take-le a w (omega arith) in
     let lb : length (take b w) ≡ b = length-take-le b w (omega arith) in
     let s4 : v w ≡ v (take a w) * 2 ^ 64 + n .fourth =
-        value-last w ∙ rw (← ea) (ap (λ (x : ℕ). v (take a w) * 2 ^ 64 + x) (ap v (sym (take-all (length w - a) (drop a w) (simp length-drop (omega arith)))) ∙ sym e4)) in
+    value-last w ∙ rw (← ea) (ap (λ (x : ℕ). v (take a w) * 2 ^ 64 + x) (ap v (sym (take-all (length w - a) (drop a w) (simp length-drop (omega arith)))) ∙ sym e4)) in
     let s3 : v (take a w) ≡ v (take b w) * 2 ^ 64 + n .third =
-        value-last (take a w) ∙ rw (la, ← eb) (ap₂ (λ (x y : ℕ). x * 2 ^ 64 + y) (ap v (take-take b a w (omega arith))) (ap v (drop-take b a w) ∙ sym e3)) in
+    value-last (take a w) ∙ rw (la, ← eb) (ap₂ (λ (x y : ℕ). x * 2 ^ 64 + y) (ap v (take-take b a w (omega arith))) (ap v (drop-take b a w) ∙ sym e3)) in
     let s2 : v (take b w) ≡ v (take c w) * 2 ^ 64 + n .second =
-        value-last (take b w) ∙ rw (lb, ← ec) (ap₂ (λ (x y : ℕ). x * 2 ^ 64 + y) (ap v (take-take c b w (omega arith))) (ap v (drop-take c b w) ∙ sym e2)) in
+    value-last (take b w) ∙ rw (lb, ← ec) (ap₂ (λ (x y : ℕ). x * 2 ^ 64 + y) (ap v (take-take c b w (omega arith))) (ap v (drop-take c b w) ∙ sym e2)) in
     let s1 : v (take c w) ≡ n .first = ap (λ (k : ℕ). v (take k w)) (sym (sub-zero c)) ∙ sym e1 in
     sym (s4 ∙ ap (λ (x : ℕ). x * 2 ^ 64 + n .fourth) (s3 ∙ ap (λ (x : ℕ). x * 2 ^ 64 + n .third) (s2 ∙ ap (λ (x : ℕ). x * 2 ^ 64 + n .second) s1)))
 

@@ -12,15 +12,19 @@ use Rattle.fields.specs.declared.Name.{Name}
 use Rattle.fields.specs.Names.{nameOf}
 use Rattle.lines.specs.Words.{word, rest, noWord, decimal, mask}
 use Rattle.lines.specs.Script.{says, flawOf, fieldOf, fields, plain, unlabelled, Got, got, wrong, onto, reads}
-use Rattle.lines.specs.Places.{WordOf, small, Holds, readsAt, Field}
+use Rattle.lines.specs.Places.{WordOf, small, Holds, HoldsIn, readsAt, Field}
 use Rattle.lines.specs.declared.Flaw.{Flaw}
 use Rattle.lines.specs.declared.Flaw.the-variants as flaw
 use Rattle.lines.specs.declared.parts.Sort as sorts
-use Rattle.lines.specs.declared.parts.Sort.the-variants.{Number, Name as Named, Mask}
+use Rattle.lines.specs.declared.parts.Sort.the-variants as sort
+use Rattle.lines.specs.declared.parts.Sort.the-variants.{Number, Mask}
+use Rattle.lines.specs.declared.values.Named.{Named}
+use Rattle.lines.specs.declared.values.Named.the-variants as named
 use Rattle.lines.specs.declared.parts.Place.{Place}
 use Rattle.lines.specs.declared.parts.Place.the-variants.{At, Wrong}
 use Rattle.lines.specs.declared.text.Span.{Span}
 use Rattle.lines.proofs.Runs.{word-none, word-some}
+use Rattle.lines.proofs.Digits.{decimal-most, mask-lt}
 
 pub label-yes : (l s : List ℕ) → sameList (word s) l ≡ true → unlabelled l s ≡ rest s
 unfolding unlabelled
@@ -45,16 +49,21 @@ field-plain (suc (suc (suc (suc (suc (suc (suc (suc zero)))))))) a b c d e f g =
 field-plain (suc (suc (suc (suc (suc (suc (suc (suc (suc t))))))))) a b c d e f g = refl
 
 -- a number as a name
+pub small-name : (v : ℕ) → nameOf (small v) ≡ v
+unfolding nameOf
+small-name v = omega arith
+
 pub small-is : (n : Name) → n ≡ small (n .fourth) → nameOf n ≡ n .fourth
 unfolding nameOf
 small-is n e = ap nameOf e ∙ small-name (n .fourth)
-  where
-  small-name : (v : ℕ) → nameOf (small v) ≡ v
-  small-name v = omega arith
+
+pub holds-name : (x : Named) → HoldsIn sort.Name x
+holds-name (named.Is n) = tt
+holds-name named.Not = tt
 
 pub holds-zero : (x : sorts.Sort) → Holds x (small 0)
 holds-zero (Number most) = (refl, omega arith)
-holds-zero Named = tt
+holds-zero sort.Name = tt
 holds-zero Mask = (refl, omega arith)
 
 pub ends-none : (s : List ℕ) → noWord s ≡ true → reads [] s ≡ got []
@@ -106,3 +115,12 @@ module _ (s : List ℕ) (at t : ℕ) (w : Span) (r : WordOf s (unlabelled (field
           inside = r .high;
           holds = h;
         }
+
+-- what a word says by its sort
+pub says-number : (most : ℕ) (w : List ℕ) (v : ℕ) → decimal most w ≡ some v → (some (nameOf (small v)) ≡ says (Number most) w) × Holds (Number most) (small v)
+unfolding says
+says-number most w v e = (ap some (small-is (small v) refl) ∙ sym e, (refl, decimal-most most w v e))
+
+pub says-mask : (w : List ℕ) (v : ℕ) → mask w ≡ some v → (some (nameOf (small v)) ≡ says Mask w) × Holds Mask (small v)
+unfolding says
+says-mask w v e = (ap some (small-is (small v) refl) ∙ sym e, (refl, mask-lt w v e))

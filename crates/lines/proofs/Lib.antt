@@ -1,3 +1,5 @@
 pub mod Runs
 pub mod Digits
 pub mod Fields
+pub mod Messages
+pub mod Replies

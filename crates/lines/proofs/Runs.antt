@@ -101,7 +101,7 @@ word-runs s from w a b =
     record { low = b .low; high = b .high; is = b .is ∙ ap (front (passes Word)) (a .after); after = b .after ∙ ap (behind (passes Word)) (a .after) }
 
 module _ {s t : List ℕ} {w : Span} (r : WordOf s t w) where
-  word-length : length (word t) ≡ w .end - w .start
+  pub word-length : length (word t) ≡ w .end - w .start
   word-length =
       ap length (sym (r .is)) ∙ length-take-le (w .end - w .start) (drop (w .start) s) (simp length-drop (omega (arith, r .low, r .high)))
 

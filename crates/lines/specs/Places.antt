@@ -119,11 +119,23 @@ pub record Own (s : List ℕ) (p : Place) (k t : ℕ) (n : Name) (q : Place) : T
 -- the message of a kind and of the values by tag
 unfoldable pub makes : ℕ → (v h b p c m a : ℕ) → messages.Message
 makes k v h b p c m a =
-    elim (eqb k 1) [ true ↦ newView v h b c m a | false ↦
-    elim (eqb k 2) [ true ↦ propose v h b p m a | false ↦
-    elim (eqb k 3) [ true ↦ vote v h b a | false ↦
-    elim (eqb k 4) [ true ↦ blame v a | false ↦
-    elim (eqb k 5) [ true ↦ blameSet v m | false ↦ status h b c m ] ] ] ] ]
+    elim (eqb k 1) [
+      | true ↦ newView v h b c m a
+      | false ↦
+          elim (eqb k 2) [
+            | true ↦ propose v h b p m a
+            | false ↦
+                elim (eqb k 3) [
+                  | true ↦ vote v h b a
+                  | false ↦
+                      elim (eqb k 4) [
+                        | true ↦ blame v a
+                        | false ↦
+                            elim (eqb k 5) [ true ↦ blameSet v m | false ↦ status h b c m ]
+                      ]
+                ]
+          ]
+    ]
 
 abbrev pub heardOf : Heard → Meaning
 heardOf (heard.Is m) = message (write (messageOf m))

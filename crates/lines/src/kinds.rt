@@ -48,7 +48,16 @@ fn own(line: &[u8], place: Place, kind: usize, tag: u8) -> Part
 }
 
 // The message of a kind. A field that the kind hasn't got isn't looked at.
-fn made(kind: usize, view: u32, height: u32, name: Name, parent: Name, cert: u32, mask: u16, author: u8) -> Message
+fn made(
+    kind: usize,
+    view: u32,
+    height: u32,
+    name: Name,
+    parent: Name,
+    cert: u32,
+    mask: u16,
+    author: u8,
+) -> Message
     requires { ⌜ (1 ≤ kind) × (kind ≤ 6) ⌝ }
     ensures { λ r. ⌜ (messageOf r ≡ makes kind view height (nameOf name) (nameOf parent) cert mask author) × (Writable r) ⌝ }
 {

@@ -82,7 +82,7 @@ fn read_on(
 
 // The whole script, a piece at a time. The turns are counted down from a number that no input uses up.
 pub fn run() {
-    let mut store = [0u8; store::LENGTH];
+    let mut store = stored::no_store();
     let mut line = io::buffer();
     let mut progress = Progress {
         used: 0,

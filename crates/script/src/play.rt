@@ -6,11 +6,10 @@ use crate::stored::Store;
 use crate::words;
 use lines::Line;
 use page::Page;
-use settings::Settings;
 
 // Plays a line, and says whether it was one. The bytes of any line of 4,096 have room.
 pub fn line(store: &mut Store, line: &[u8], number: u64) -> bool {
-    let mut bytes = [0u8; 2048];
+    let mut bytes = io::buffer();
     match lines::read_line(line, &mut bytes) {
         Line::Blank => true,
         Line::Fresh { n, delay, own } => {
@@ -55,20 +54,20 @@ fn answered(number: u64, what: &[u8], answer: u64, out: &Out) {
 // A fresh store, which writes nothing out.
 fn fresh(store: &mut Store, number: u64, n: u64, delay: u64, own: u64) {
     let answer = station::station_fresh(store, n, delay, own);
-    let out = [0u8; Settings::LEAST_OUT];
+    let out = show::out_buffer();
     answered(number, b"fresh", answer, &out);
 }
 
 // A message is handed over.
 fn message(store: &mut Store, number: u64, message: &[u8]) {
-    let mut out = [0u8; Settings::LEAST_OUT];
+    let mut out = show::out_buffer();
     let answer = station::station_step(store, message, &mut out);
     answered(number, b"message", answer, &out);
 }
 
 // A name is offered.
 fn offer(store: &mut Store, number: u64, name: &[u8]) {
-    let mut out = [0u8; Settings::LEAST_OUT];
+    let mut out = show::out_buffer();
     let answer = station::station_offer(store, name, &mut out);
     answered(number, b"offer", answer, &out);
 }
@@ -83,7 +82,7 @@ struct Ticking {
 // Ticks, until one is refused.
 fn ticks(store: &mut Store, number: u64, count: u64) {
     let mut page = io::buffer();
-    let mut out = [0u8; Settings::LEAST_OUT];
+    let mut out = show::out_buffer();
     let mut so_far = Ticking {
         at: 0,
         told: stored::clock(store),

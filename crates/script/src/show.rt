@@ -1,4 +1,6 @@
 // What is printed of each line: what it was, and the answer or what is wrong with it.
+ghost use mathlib.Core.Path.{_≡_};
+ghost use lib.ListN.{length};
 use crate::outgoing;
 use crate::words;
 use lines::Flaw;
@@ -7,6 +9,13 @@ use settings::Settings;
 
 // An out buffer of the least length that a station takes.
 pub type Out = [u8; Settings::LEAST_OUT];
+
+// An out buffer. The contract gives only the length, which lending it as a slice needs.
+pub fn out_buffer() -> Out
+    ensures { λ r. ⌜ 32768 ≡ length r ⌝ }
+{
+    [0; Settings::LEAST_OUT]
+}
 
 // What each answer's number is multiplied by, for a count of bytes beside it.
 const UNIT: u64 = 4_294_967_296;

@@ -1,4 +1,6 @@
 // The log and the state, as the store has them.
+ghost use mathlib.Core.Path.{_≡_};
+ghost use lib.ListN.{length};
 ghost use Prim.Native.Nat.{_^_, _<_};
 ghost use Rattle.rules.specs.Limits.{mostStatements};
 use crate::show;
@@ -12,6 +14,13 @@ use store::Tally;
 
 // A store of the exact length.
 pub type Store = [u8; store::LENGTH];
+
+// A store of zeros, which is none that is well formed. The contract gives only the length.
+pub fn no_store() -> Store
+    ensures { λ r. ⌜ 25220 ≡ length r ⌝ }
+{
+    [0; store::LENGTH]
+}
 
 // A clock as a word, with its bound.
 fn wide(clock: u32) -> u64

@@ -1,32 +1,29 @@
+-- `lines::alone` meets its contract. Assumes nothing.
+use Rattle.lines.proofs.Replies.{says-bad, says-log, says-state, alone-good, alone-wrong}
 use borrow.Author.Needs.{needs}
 use Rattle.lines.proofs.alone.Statement.{statement}
 use Rattle.lines.proofs.alone.Tie as tie
-use Rattle.lines.proofs.alone.Reads as reads
-use Rattle.lines.proofs.alone.Lts as lts
-use Rattle.lines.proofs.parts.ending.Reads as ending-reads
 
--- src/lib.rt:71:33
 ending-requires : tie.Need-ending-requires
 ending-requires c κs = search needs
 
--- src/lib.rt:71:25
 enum-known-flaw : tie.Need-enum-known-flaw
 enum-known-flaw c = search needs
 
--- src/lib.rt:72:9
 returns : tie.Need-returns
-returns c = ?
+returns c =
+    says-bad _ _ (alone-wrong _ _ _ (c .before .before .before .ending .ensures) _ (c .before .flaw .given .1))
 
 enum-told : tie.Need-enum-told
 enum-told c = search needs
 
--- src/lib.rt:75:9
 returns-2 : tie.Need-returns-2
-returns-2 c = ?
+returns-2 c =
+    rw (c .if1 .taken) (says-state _ (alone-good _ _ _ (c .before .before .before .ending .ensures) _ (c .before .enum-told .given .1)))
 
--- src/lib.rt:67:1
 returns-3 : tie.Need-returns-3
-returns-3 c = ?
+returns-3 c =
+    rw (c .if1 .left) (says-log _ (alone-good _ _ _ (c .before .before .before .ending .ensures) _ (c .before .enum-told .given .1)))
 
 pub alone-spec : {M : Type 1} → statement M
 alone-spec =

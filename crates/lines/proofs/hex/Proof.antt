@@ -1,62 +1,69 @@
+-- `lines::hex` meets its contract. Assumes nothing.
+use Rattle.lines.proofs.Runs.{word-length}
+use Rattle.lines.proofs.Digits.{length-pairs}
+use Rattle.lines.proofs.Replies.{hex-wrong, hex-long, hex-good}
+use Rattle.lines.specs.Words.{pairs, word}
+use Rattle.lines.specs.Answers.{HexAt}
+use Rattle.lines.specs.Script.{hex, got}
+use Rattle.outgoing.specs.Wrote.{wrote}
+use Prim.Native.Nat.{ℕ, _-_, _/_}
+use mathlib.Core.List.{List}
+use mathlib.Core.Path.{_≡_, sym, ap, _∙_}
+use native.Mathlib.Omega.{arith}
+use lib.ListN.{length, drop}
 use borrow.Author.Needs.{needs}
 use Rattle.lines.proofs.hex.Statement.{statement}
 use Rattle.lines.proofs.hex.Tie as tie
-use Rattle.lines.proofs.hex.Reads as reads
-use Rattle.lines.proofs.hex.Lts as lts
-use Rattle.lines.proofs.holds_hex.Reads as holds-hex-reads
-use Rattle.lines.proofs.text.word.Reads as word-reads
-use Rattle.lines.proofs.values.write_bytes.Reads as write-bytes-reads
 
--- src/lib.rt:142:33
 holds-hex-requires : tie.Need-holds-hex-requires
 holds-hex-requires c κs = search needs
 
--- src/lib.rt:142:25
 enum-known-flaw : tie.Need-enum-known-flaw
 enum-known-flaw c = search needs
 
--- src/lib.rt:143:9
 returns : tie.Need-returns
-returns c = ?
+returns c =
+    hex-wrong _ _ _ (rw (c .before .flaw .given .1) at (c .before .before .before .holds-hex .ensures))
 
 enum-told : tie.Need-enum-told
 enum-told c = search needs
 
--- src/lib.rt:145:9
 word-requires : tie.Need-word-requires
 word-requires c κs = search needs
 
--- src/lib.rt:148:16
 sub-len : tie.Need-sub-len
 sub-len c = search needs
 
--- src/lib.rt:150:9
 returns-2 : tie.Need-returns-2
-returns-2 c = ?
+returns-2 c =
+    let a = c .before .before .before .before .before .before .before .args in
+    let t = drop (a .at) (a .line .now) in
+    let w = c .before .word .ensures in
+    let n = length-pairs (word t) ∙ ap (λ (k : ℕ). k / 2) (word-length w) in
+    hex-long _ _ (pairs (word t)) (rw (c .before .before .enum-told .given .1) at (c .before .before .before .before .holds-hex .ensures)) (omega (arith, n))
 
--- src/lib.rt:152:25
 sub-write-bytes : tie.Need-sub-write-bytes
 sub-write-bytes c = search needs
 
--- src/lib.rt:152:25
 part-write-bytes-start : tie.Need-part-write-bytes-start
 part-write-bytes-start c = search needs
 
--- src/lib.rt:152:25
 part-write-bytes-end : tie.Need-part-write-bytes-end
 part-write-bytes-end c = search needs
 
--- src/lib.rt:152:5
 write-bytes-requires : tie.Need-write-bytes-requires
 write-bytes-requires c κs = search needs
 
--- src/lib.rt:138:1
 same-length : tie.Need-same-length
 same-length c = search needs
 
--- src/lib.rt:138:1
 returns-3 : tie.Need-returns-3
-returns-3 c = ?
+returns-3 c =
+    let a = c .before .before .before .before .before .before .before .before .before .before .before .before .args in
+    let t = drop (a .at) (a .line .now) in
+    let w = c .before .before .before .before .before .before .word .ensures in
+    let n = length-pairs (word t) ∙ ap (λ (k : ℕ). k / 2) (word-length w) in
+    hex-good _ _ (pairs (word t)) (rw (c .before .before .before .before .before .before .before .enum-told .given .1) at (c .before .before .before .before .before .before .before .before .before .holds-hex .ensures)) _ _ (omega (arith, n, c .before .before .before .before .before .if1 .left)) (sym n) (rw (w .is) at (c .before .before .write-bytes .ensures))
 
 pub hex-spec : {M : Type 1} → statement M
 hex-spec =

@@ -1,45 +1,43 @@
+-- `lines::hexed` meets its contract. Assumes nothing.
+use Rattle.lines.proofs.Replies.{hexed-reply, lineBy}
+use Rattle.lines.specs.Script.{hexed}
+use mathlib.Core.Path.{ap₂}
 use borrow.Author.Needs.{needs}
 use Rattle.lines.proofs.hexed.Statement.{statement}
 use Rattle.lines.proofs.hexed.Tie as tie
-use Rattle.lines.proofs.hexed.Reads as reads
-use Rattle.lines.proofs.hexed.Lts as lts
-use Rattle.lines.proofs.hex.Reads as hex-reads
 
--- src/lib.rt:161:11
 hex-requires : tie.Need-hex-requires
 hex-requires c κs = search needs
 
--- src/lib.rt:162:22
 enum-known-flaw : tie.Need-enum-known-flaw
 enum-known-flaw c = search needs
 
--- src/lib.rt:163:19
 enum-known-len : tie.Need-enum-known-len
 enum-known-len c = search needs
 
--- src/lib.rt:165:17
 same-length : tie.Need-same-length
 same-length c = search needs
 
--- src/lib.rt:165:17
 returns : tie.Need-returns
-returns c = ?
+unfolding hexed
+returns c =
+    rw (ap₂ lineBy (c .if1 .taken) (c .before .before .len .given .1)) at (hexed-reply (c .before .before .before .before .before .before .before .before .before .before .args .offered) _ _ _ _ (c .before .before .before .before .before .before .hex .ensures))
 
--- src/lib.rt:157:1
 same-length-2 : tie.Need-same-length-2
 same-length-2 c = search needs
 
--- src/lib.rt:157:1
 returns-2 : tie.Need-returns-2
-returns-2 c = ?
+unfolding hexed
+returns-2 c =
+    rw (c .before .flaw .given .1) at (hexed-reply (c .before .before .before .before .before .before .before .before .before .args .offered) _ _ _ _ (c .before .before .before .before .before .hex .ensures))
 
--- src/lib.rt:157:1
 same-length-3 : tie.Need-same-length-3
 same-length-3 c = search needs
 
--- src/lib.rt:157:1
 returns-3 : tie.Need-returns-3
-returns-3 c = ?
+unfolding hexed
+returns-3 c =
+    rw (ap₂ lineBy (c .if1 .left) (c .before .before .len .given .1)) at (hexed-reply (c .before .before .before .before .before .before .before .before .before .before .args .offered) _ _ _ _ (c .before .before .before .before .before .before .hex .ensures))
 
 pub hexed-spec : {M : Type 1} → statement M
 hexed-spec =

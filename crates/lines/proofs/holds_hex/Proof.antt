@@ -1,47 +1,42 @@
+-- `lines::holds_hex` meets its contract. Assumes nothing.
+use Rattle.lines.proofs.Runs.{word-none, word-some}
+use Rattle.lines.proofs.Replies.{hex-missing, hex-not, hex-ends}
+use Rattle.lines.specs.Words.{isBytes}
+use Rattle.lines.specs.Script.{reads}
+use mathlib.Core.Path.{_≡_, sym, ap, _∙_}
+use borrow.Author.Tests.{not-true, not-false}
 use borrow.Author.Needs.{needs}
 use Rattle.lines.proofs.holds_hex.Statement.{statement}
 use Rattle.lines.proofs.holds_hex.Tie as tie
-use Rattle.lines.proofs.holds_hex.Reads as reads
-use Rattle.lines.proofs.holds_hex.Lts as lts
-use Rattle.lines.proofs.parts.ending.Reads as ending-reads
-use Rattle.lines.proofs.text.word.Reads as word-reads
-use Rattle.lines.proofs.values.is_bytes.Reads as is-bytes-reads
 
--- src/lib.rt:125:9
 word-requires : tie.Need-word-requires
 word-requires c κs = search needs
 
--- src/lib.rt:129:9
 returns : tie.Need-returns
-returns c = ?
+returns c = hex-missing _ (word-none (c .before .word .ensures) (c .if1 .taken))
 
--- src/lib.rt:131:26
 sub-is-bytes : tie.Need-sub-is-bytes
 sub-is-bytes c = search needs
 
--- src/lib.rt:131:26
 part-is-bytes-start : tie.Need-part-is-bytes-start
 part-is-bytes-start c = search needs
 
--- src/lib.rt:131:26
 part-is-bytes-end : tie.Need-part-is-bytes-end
 part-is-bytes-end c = search needs
 
--- src/lib.rt:131:9
 is-bytes-requires : tie.Need-is-bytes-requires
 is-bytes-requires c κs = search needs
 
--- src/lib.rt:132:9
 returns-2 : tie.Need-returns-2
-returns-2 c = ?
+returns-2 c =
+    let w = c .before .before .before .before .word .ensures in hex-not _ (word-some w (c .before .before .before .if1 .left)) (rw (w .is) at (sym (c .before .is-bytes .ensures) ∙ not-true _ (c .if2 .taken)))
 
--- src/lib.rt:134:5
 ending-requires : tie.Need-ending-requires
 ending-requires c κs = search needs
 
--- src/lib.rt:121:1
 returns-3 : tie.Need-returns-3
-returns-3 c = ?
+returns-3 c =
+    let w = c .before .before .before .before .before .word .ensures in hex-ends (c .before .before .before .before .before .before .before .args .line .now) (c .before .before .before .before .before .before .before .args .at) (c .ending .result) (word-some w (c .before .before .before .before .if1 .left)) (rw (w .is) at (sym (c .before .before .is-bytes .ensures) ∙ not-false _ (c .before .if2 .left))) (rw (w .after) at (c .ending .ensures))
 
 pub holds-hex-spec : {M : Type 1} → statement M
 holds-hex-spec =

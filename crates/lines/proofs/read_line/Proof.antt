@@ -1,119 +1,139 @@
+-- `lines::read_line` meets its contract: by its first word. Assumes nothing.
+use Rattle.lines.proofs.Runs.{word-none, word-some}
+use Rattle.lines.proofs.Replies.{says-blank, says-bad, unchanged, reads-as, line-blank, line-order, meansOf, meanings, means-other, means-spoken}
+use Rattle.lines.specs.Words.{rest, bytes}
+use Rattle.lines.specs.Script.{orders}
+use Prim.Native.Nat.{ℕ}
+use mathlib.Core.Path.{_≡_, refl, sym, ap, _∙_}
+use native.Mathlib.Omega.{arith}
 use borrow.Author.Needs.{needs}
 use Rattle.lines.proofs.read_line.Statement.{statement}
 use Rattle.lines.proofs.read_line.Tie as tie
-use Rattle.lines.proofs.read_line.Reads as reads
-use Rattle.lines.proofs.read_line.Lts as lts
-use Rattle.lines.proofs.alone.Reads as alone-reads
-use Rattle.lines.proofs.fresh.Reads as fresh-reads
-use Rattle.lines.proofs.hexed.Reads as hexed-reads
-use Rattle.lines.proofs.spoken.Reads as spoken-reads
-use Rattle.lines.proofs.text.which.Reads as which-reads
-use Rattle.lines.proofs.text.word.Reads as word-reads
-use Rattle.lines.proofs.tick.Reads as tick-reads
 
--- src/lib.rt:44:9
 word-requires : tie.Need-word-requires
 word-requires c κs = search needs
 
--- src/lib.rt:48:9
 returns : tie.Need-returns
-returns c = ?
+returns c =
+    unchanged _ _ _ _ (says-blank _ (line-blank _ (word-none (c .before .word .ensures) (c .if1 .taken)))) refl
 
--- src/lib.rt:51:9
 slice-aggregate-which : tie.Need-slice-aggregate-which
 slice-aggregate-which c = search needs
 
--- src/lib.rt:52:9
 sub-which : tie.Need-sub-which
 sub-which c = search needs
 
--- src/lib.rt:52:9
 part-which-start : tie.Need-part-which-start
 part-which-start c = search needs
 
--- src/lib.rt:52:9
 part-which-end : tie.Need-part-which-end
 part-which-end c = search needs
 
--- src/lib.rt:50:9
 which-requires : tie.Need-which-requires
 which-requires c κs = search needs
 
--- src/lib.rt:56:14
 fresh-requires : tie.Need-fresh-requires
 fresh-requires c κs = search needs
 
--- src/lib.rt:57:14
 tick-requires : tie.Need-tick-requires
 tick-requires c κs = search needs
 
--- src/lib.rt:58:14
 hexed-requires : tie.Need-hexed-requires
 hexed-requires c κs = search needs
 
--- src/lib.rt:59:15
 hexed-requires-2 : tie.Need-hexed-requires-2
 hexed-requires-2 c κs = search needs
 
--- src/lib.rt:60:15
 alone-requires : tie.Need-alone-requires
 alone-requires c κs = search needs
 
--- src/lib.rt:61:15
 alone-requires-2 : tie.Need-alone-requires-2
 alone-requires-2 c κs = search needs
 
--- src/lib.rt:55:18
 spoken-requires : tie.Need-spoken-requires
 spoken-requires c κs = search needs
 
--- src/lib.rt:41:1
 returns-2 : tie.Need-returns-2
-returns-2 c = ?
+unfolding bytes meansOf meanings orders
+returns-2 c =
+    let s = c .before .before .before .before .before .before .before .before .before .args .line .now in
+    let w = c .before .before .before .before .before .before .word .ensures in
+    let is = line-order s (c .before .before .which .result) (word-some w (c .before .before .before .before .before .if1 .left)) (λ ws l. rw (w .is) at (c .before .before .which .ensures ws l)) in
+    unchanged _ _ _ _ (c .fresh .ensures) (rw (← w .after) at (is ∙ ap (λ (k : ℕ). meansOf k (rest s)) (c .before .match .keys1)))
 
--- src/lib.rt:41:1
 returns-3 : tie.Need-returns-3
-returns-3 c = ?
+unfolding bytes meansOf meanings orders
+returns-3 c =
+    let s = c .before .before .before .before .before .before .before .before .before .args .line .now in
+    let w = c .before .before .before .before .before .before .word .ensures in
+    let is = line-order s (c .before .before .which .result) (word-some w (c .before .before .before .before .before .if1 .left)) (λ ws l. rw (w .is) at (c .before .before .which .ensures ws l)) in
+    unchanged _ _ _ _ (c .tick .ensures) (rw (← w .after) at (is ∙ ap (λ (k : ℕ). meansOf k (rest s)) (c .before .match .keys2)))
 
--- src/lib.rt:41:1
 same-length : tie.Need-same-length
 same-length c = search needs
 
--- src/lib.rt:41:1
 returns-4 : tie.Need-returns-4
-returns-4 c = ?
+unfolding bytes meansOf meanings orders
+returns-4 c =
+    let s = c .before .before .before .before .before .before .before .before .before .before .before .before .args .line .now in
+    let w = c .before .before .before .before .before .before .before .before .before .word .ensures in
+    let is = line-order s (c .before .before .before .before .before .which .result) (word-some w (c .before .before .before .before .before .before .before .before .if1 .left)) (λ ws l. rw (w .is) at (c .before .before .before .before .before .which .ensures ws l)) in
+    reads-as _ _ _ _ _ (rw (← w .after) at (is ∙ ap (λ (k : ℕ). meansOf k (rest s)) (c .before .before .before .before .match .keys3))) (c .before .before .hexed .ensures)
 
--- src/lib.rt:41:1
 same-length-2 : tie.Need-same-length-2
 same-length-2 c = search needs
 
--- src/lib.rt:41:1
 returns-5 : tie.Need-returns-5
-returns-5 c = ?
+unfolding bytes meansOf meanings orders
+returns-5 c =
+    let s = c .before .before .before .before .before .before .before .before .before .before .before .before .args .line .now in
+    let w = c .before .before .before .before .before .before .before .before .before .word .ensures in
+    let is = line-order s (c .before .before .before .before .before .which .result) (word-some w (c .before .before .before .before .before .before .before .before .if1 .left)) (λ ws l. rw (w .is) at (c .before .before .before .before .before .which .ensures ws l)) in
+    reads-as _ _ _ _ _ (rw (← w .after) at (is ∙ ap (λ (k : ℕ). meansOf k (rest s)) (c .before .before .before .before .match .keys4))) (c .before .before .hexed2 .ensures)
 
--- src/lib.rt:41:1
 returns-6 : tie.Need-returns-6
-returns-6 c = ?
+unfolding bytes meansOf meanings orders
+returns-6 c =
+    let s = c .before .before .before .before .before .before .before .before .before .args .line .now in
+    let w = c .before .before .before .before .before .before .word .ensures in
+    let is = line-order s (c .before .before .which .result) (word-some w (c .before .before .before .before .before .if1 .left)) (λ ws l. rw (w .is) at (c .before .before .which .ensures ws l)) in
+    unchanged _ _ _ _ (c .alone .ensures) (rw (← w .after) at (is ∙ ap (λ (k : ℕ). meansOf k (rest s)) (c .before .match .keys5)))
 
--- src/lib.rt:41:1
 returns-7 : tie.Need-returns-7
-returns-7 c = ?
+unfolding bytes meansOf meanings orders
+returns-7 c =
+    let s = c .before .before .before .before .before .before .before .before .before .args .line .now in
+    let w = c .before .before .before .before .before .before .word .ensures in
+    let is = line-order s (c .before .before .which .result) (word-some w (c .before .before .before .before .before .if1 .left)) (λ ws l. rw (w .is) at (c .before .before .which .ensures ws l)) in
+    unchanged _ _ _ _ (c .alone2 .ensures) (rw (← w .after) at (is ∙ ap (λ (k : ℕ). meansOf k (rest s)) (c .before .match .keys6)))
 
--- src/lib.rt:41:1
 same-length-3 : tie.Need-same-length-3
 same-length-3 c = search needs
 
--- src/lib.rt:41:1
 returns-8 : tie.Need-returns-8
-returns-8 c = ?
+unfolding bytes
+returns-8 c =
+    let s = c .before .before .before .before .before .before .before .before .before .before .before .before .before .before .args .line .now in
+    let w = c .before .before .before .before .before .before .before .before .before .before .before .word .ensures in
+    let is = line-order s (c .before .before .before .before .before .before .before .which .result) (word-some w (c .before .before .before .before .before .before .before .before .before .before .if1 .left)) (λ ws l. rw (w .is) at (c .before .before .before .before .before .before .before .which .ensures ws l)) in
+    reads-as _ _ _ _ _ (rw (← w .after) at (is ∙ means-spoken (c .before .before .before .before .before .before .before .which .result) (c .before .before .before .before .before .if2 .left) (omega (arith, c .before .before .before .before .if3 .taken)) (rest s))) (c .before .before .spoken .ensures)
 
--- src/lib.rt:41:1
 returns-9 : tie.Need-returns-9
-returns-9 c = ?
+unfolding bytes meansOf
+returns-9 c =
+    let s = c .before .before .before .before .before .before .before .before .before .args .line .now in
+    let w = c .before .before .before .before .before .before .word .ensures in
+    let is = line-order s (c .before .before .which .result) (word-some w (c .before .before .before .before .before .if1 .left)) (λ ws l. rw (w .is) at (c .before .before .which .ensures ws l)) in
+    let none : c .before .before .which .result ≡ 0 = omega (arith, c .if2 .taken) in
+    unchanged _ _ _ _ (says-bad _ _ (is ∙ ap (λ (k : ℕ). meansOf k (rest s)) none)) refl
 
--- src/lib.rt:41:1
 returns-10 : tie.Need-returns-10
-returns-10 c = ?
+unfolding bytes
+returns-10 c =
+    let s = c .before .before .before .before .before .before .before .before .before .before .args .line .now in
+    let w = c .before .before .before .before .before .before .before .word .ensures in
+    let is = line-order s (c .before .before .before .which .result) (word-some w (c .before .before .before .before .before .before .if1 .left)) (λ ws l. rw (w .is) at (c .before .before .before .which .ensures ws l)) in
+    unchanged _ _ _ _ (says-bad _ _ (is ∙ means-other _ (rest s) (c .if3 .left) (c .before .before .match .rest .0 .0 .0 .0 .0 .1) (c .before .before .match .rest .0 .0 .0 .0 .1) (c .before .before .match .rest .0 .0 .0 .1) (c .before .before .match .rest .0 .0 .1) (c .before .before .match .rest .0 .1) (c .before .before .match .rest .1))) refl
 
 pub read-line-spec : {M : Type 1} → statement M
 read-line-spec =

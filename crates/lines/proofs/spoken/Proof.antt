@@ -1,47 +1,45 @@
+-- `lines::spoken` meets its contract. Assumes nothing.
+use Rattle.lines.proofs.Replies.{says-bad, unchanged, spoken-long, spoken-good}
+use Rattle.lines.specs.Places.{heardOf, CanWrite}
+use Rattle.lines.specs.Script.{spoken}
+use Rattle.rules.specs.Messages.{write}
+use Rattle.wire.specs.Meaning.{messageOf}
+use mathlib.Core.Path.{_≡_, refl, sym, ap, _∙_}
+use native.Mathlib.Omega.{arith}
 use borrow.Author.Needs.{needs}
 use Rattle.lines.proofs.spoken.Statement.{statement}
 use Rattle.lines.proofs.spoken.Tie as tie
-use Rattle.lines.proofs.spoken.Reads as reads
-use Rattle.lines.proofs.spoken.Lts as lts
-use Rattle.lines.proofs.kinds.said.Reads as said-reads
-use Rattle.wire.proofs.size.Reads as size-reads
-use Rattle.outgoing.proofs.write_message.Reads as write-message-reads
 
--- src/lib.rt:177:11
 said-requires : tie.Need-said-requires
 said-requires c κs = search needs
 
--- src/lib.rt:178:22
 enum-known-flaw : tie.Need-enum-known-flaw
 enum-known-flaw c = search needs
 
--- src/lib.rt:179:19
 enum-known-message : tie.Need-enum-known-message
 enum-known-message c = search needs
 
--- src/lib.rt:180:30
 size-requires : tie.Need-size-requires
 size-requires c κs = search needs
 
--- src/lib.rt:181:17
 returns : tie.Need-returns
-returns c = ?
+returns c =
+    spoken-long _ _ _ (sym (c .before .before .before .before .before .said .ensures .0) ∙ ap heardOf (c .before .before .before .message .given .1)) (omega (arith, c .before .size .ensures))
 
--- src/lib.rt:184:22
 write-message-requires : tie.Need-write-message-requires
-write-message-requires c κs = ?
+write-message-requires c κs =
+    (rw (c .before .before .before .before .message .given .1) at (c .before .before .before .before .before .before .said .ensures .1), omega (arith, c .before .before .size .ensures))
 
--- src/lib.rt:173:1
 returns-2 : tie.Need-returns-2
-returns-2 c = ?
+returns-2 c =
+    unchanged _ _ _ _ (says-bad _ _ (sym (c .before .before .before .said .ensures .0) ∙ ap heardOf (c .before .flaw .given .1))) refl
 
--- src/lib.rt:173:1
 same-length : tie.Need-same-length
 same-length c = search needs
 
--- src/lib.rt:173:1
 returns-3 : tie.Need-returns-3
-returns-3 c = ?
+returns-3 c =
+    spoken-good _ _ _ (sym (c .before .before .before .before .before .before .before .before .before .said .ensures .0) ∙ ap heardOf (c .before .before .before .before .before .before .before .message .given .1)) (omega (arith, c .before .before .before .before .before .size .ensures)) _ _ (c .before .before .write-message .ensures)
 
 pub spoken-spec : {M : Type 1} → statement M
 spoken-spec =

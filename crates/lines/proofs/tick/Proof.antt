@@ -1,42 +1,36 @@
+-- `lines::tick` meets its contract. Assumes nothing.
+use Rattle.lines.proofs.Runs.{word-none, word-some}
+use Rattle.lines.proofs.Replies.{says-bad, says-tick, tick-one, tick-good, tick-wrong}
 use borrow.Author.Needs.{needs}
 use Rattle.lines.proofs.tick.Statement.{statement}
 use Rattle.lines.proofs.tick.Tie as tie
-use Rattle.lines.proofs.tick.Reads as reads
-use Rattle.lines.proofs.tick.Lts as lts
-use Rattle.lines.proofs.parts.ending.Reads as ending-reads
-use Rattle.lines.proofs.parts.field.Reads as field-reads
-use Rattle.lines.proofs.text.word.Reads as word-reads
 
--- src/lib.rt:106:9
 word-requires : tie.Need-word-requires
 word-requires c κs = search needs
 
--- src/lib.rt:108:9
 returns : tie.Need-returns
-returns c = ?
+returns c =
+    says-tick _ _ (tick-one _ (word-none (c .before .before .word .ensures) (c .if1 .taken)))
 
--- src/lib.rt:110:9
 field-requires : tie.Need-field-requires
 field-requires c κs = search needs
 
--- src/lib.rt:112:33
 ending-requires : tie.Need-ending-requires
 ending-requires c κs = search needs
 
--- src/lib.rt:112:25
 enum-known-flaw : tie.Need-enum-known-flaw
 enum-known-flaw c = search needs
 
--- src/lib.rt:113:9
 returns-2 : tie.Need-returns-2
-returns-2 c = ?
+returns-2 c =
+    says-bad _ _ (tick-wrong _ _ _ _ _ (word-some (c .before .before .before .before .before .before .before .word .ensures) (c .before .before .before .before .before .if1 .left)) (c .before .before .before .before .field .ensures) (c .before .before .before .ending .ensures) _ (c .before .flaw .given .1))
 
 enum-told : tie.Need-enum-told
 enum-told c = search needs
 
--- src/lib.rt:102:1
 returns-3 : tie.Need-returns-3
-returns-3 c = ?
+returns-3 c =
+    says-tick _ _ (tick-good _ _ _ _ _ (word-some (c .before .before .before .before .before .before .word .ensures) (c .before .before .before .before .if1 .left)) (c .before .before .before .field .ensures) (c .before .before .ending .ensures) _ (c .enum-told .given .1))
 
 pub tick-spec : {M : Type 1} → statement M
 tick-spec =

@@ -9,6 +9,9 @@ Inv-loop store₀ line₀ progress₀ turns₀ store line progress turns = Unit 
 abbrev μ-loop : tie.MeasureT-loop
 μ-loop store₀ line₀ progress₀ turns₀ store line progress turns = turns
 
+no-store-requires : tie.Need-no-store-requires Inv-loop μ-loop
+no-store-requires c κs = search needs
+
 buffer-requires : tie.Need-buffer-requires Inv-loop μ-loop
 buffer-requires c κs = search needs
 
@@ -63,6 +66,7 @@ run-spec =
     (tie.spec
     Inv-loop
     μ-loop
+    no-store-requires
     buffer-requires
     loop-holds
     large-buffer-requires

@@ -1,37 +1,45 @@
+-- `lines::kinds::made` meets its contract: by the kind. Assumes nothing.
+use Rattle.lines.specs.Places.{makes}
+use Rattle.lines.proofs.Fields.{small-name}
+use Rattle.lines.proofs.Messages.{last-kind}
+use Rattle.fields.specs.Names.{nameOf}
+use Rattle.wire.specs.Meaning.{messageOf}
+use Rattle.rules.proofs.Tests.{no-bool}
+use mathlib.Core.Path.{_≡_, refl, sym, ap, _∙_}
+use native.Mathlib.Omega.{arith}
 use borrow.Author.Needs.{needs}
 use Rattle.lines.proofs.kinds.made.Statement.{statement}
 use Rattle.lines.proofs.kinds.made.Tie as tie
-use Rattle.lines.proofs.kinds.made.Reads as reads
-use Rattle.lines.proofs.kinds.made.Lts as lts
-use Rattle.lines.proofs.parts.small.Reads as small-reads
 
--- src/kinds.rt:57:17
 small-requires : tie.Need-small-requires
 small-requires c κs = search needs
 
--- src/kinds.rt:51:1
 returns : tie.Need-returns
-returns c = ?
+unfolding makes messageOf
+returns c =
+    let e : nameOf (c .small .result) ≡ c .before .before .args .cert = ap nameOf (c .small .ensures) ∙ small-name _ in
+    (rw (c .before .match .keys1, e), λ _. rw e (omega arith))
 
--- src/kinds.rt:51:1
 returns-2 : tie.Need-returns-2
-returns-2 c = ?
+unfolding makes messageOf
+returns-2 c = (rw (c .match .keys2), λ q. no-bool (sym q))
 
--- src/kinds.rt:51:1
 returns-3 : tie.Need-returns-3
-returns-3 c = ?
+unfolding makes messageOf
+returns-3 c = (rw (c .match .keys3), tt)
 
--- src/kinds.rt:51:1
 returns-4 : tie.Need-returns-4
-returns-4 c = ?
+unfolding makes messageOf
+returns-4 c = (rw (c .match .keys4), tt)
 
--- src/kinds.rt:51:1
 returns-5 : tie.Need-returns-5
-returns-5 c = ?
+unfolding makes messageOf
+returns-5 c = (rw (c .match .keys5), tt)
 
--- src/kinds.rt:51:1
 returns-6 : tie.Need-returns-6
-returns-6 c = ?
+unfolding makes messageOf
+returns-6 c =
+    (rw (last-kind _ (c .before .pre .0) (c .before .pre .1) (c .match .rest .0 .0 .0 .0 .1) (c .match .rest .0 .0 .0 .1) (c .match .rest .0 .0 .1) (c .match .rest .0 .1) (c .match .rest .1)), tt)
 
 pub made-spec : {M : Type 1} → statement M
 made-spec =

@@ -1,82 +1,80 @@
+-- `lines::kinds::said` meets its contract: field by field. Assumes nothing.
+use Rattle.lines.proofs.Messages.{said-good, said-wrong}
+use Rattle.lines.specs.Script.{fieldOf, message}
+use Rattle.rules.specs.Messages as messages
+use Rattle.rules.specs.Messages.{write}
+use mathlib.Core.Path.{_≡_, refl, sym, ap, _∙_}
+use native.Mathlib.Omega.{arith}
 use borrow.Author.Needs.{needs}
 use Rattle.lines.proofs.kinds.said.Statement.{statement}
 use Rattle.lines.proofs.kinds.said.Tie as tie
-use Rattle.lines.proofs.kinds.said.Reads as reads
-use Rattle.lines.proofs.kinds.said.Lts as lts
-use Rattle.lines.proofs.kinds.made.Reads as made-reads
-use Rattle.lines.proofs.kinds.own.Reads as own-reads
-use Rattle.lines.proofs.parts.ending.Reads as ending-reads
 
--- src/kinds.rt:99:9
 own-requires : tie.Need-own-requires
 own-requires c κs = search needs
 
--- src/kinds.rt:101:9
 own-requires-2 : tie.Need-own-requires-2
 own-requires-2 c κs = search needs
 
--- src/kinds.rt:103:9
 own-requires-3 : tie.Need-own-requires-3
 own-requires-3 c κs = search needs
 
--- src/kinds.rt:105:9
 own-requires-4 : tie.Need-own-requires-4
 own-requires-4 c κs = search needs
 
--- src/kinds.rt:107:9
 own-requires-5 : tie.Need-own-requires-5
 own-requires-5 c κs = search needs
 
--- src/kinds.rt:109:9
 own-requires-6 : tie.Need-own-requires-6
 own-requires-6 c κs = search needs
 
--- src/kinds.rt:111:9
 own-requires-7 : tie.Need-own-requires-7
 own-requires-7 c κs = search needs
 
--- src/kinds.rt:113:33
 ending-requires : tie.Need-ending-requires
 ending-requires c κs = search needs
 
--- src/kinds.rt:113:25
 enum-known-flaw : tie.Need-enum-known-flaw
 enum-known-flaw c = search needs
 
--- src/kinds.rt:114:9
 returns : tie.Need-returns
-returns c = ?
+returns c =
+    (sym (said-wrong _ (c .before .before .before .before .before .before .before .before .before .before .before .before .pre .1) (c .before .before .before .before .before .before .before .before .before .before .before .before .pre .2) _ _ _ _ _ _ _ _ _ _ _ _ _ _ _ _ (c .before .before .before .before .before .before .before .before .before .before .own .ensures) (c .before .before .before .before .before .before .before .before .before .own2 .ensures) (c .before .before .before .before .before .before .before .before .own3 .ensures) (c .before .before .before .before .before .before .before .own4 .ensures) (c .before .before .before .before .before .before .own5 .ensures) (c .before .before .before .before .before .own6 .ensures) (c .before .before .before .before .own7 .ensures) _ (c .before .before .before .ending .ensures) _ (c .before .flaw .given .1)), tt)
 
 enum-told : tie.Need-enum-told
 enum-told c = search needs
 
--- src/kinds.rt:120:9
 cast-made : tie.Need-cast-made
-cast-made c = ?
+unfolding fieldOf
+cast-made c =
+    omega (arith, c .before .before .before .before .before .before .before .before .before .before .before .before .own .ensures .holds .1)
 
--- src/kinds.rt:121:9
 cast-made-2 : tie.Need-cast-made-2
-cast-made-2 c = ?
+unfolding fieldOf
+cast-made-2 c =
+    omega (arith, c .before .before .before .before .before .before .before .before .before .before .before .before .own2 .ensures .holds .1)
 
--- src/kinds.rt:124:9
 cast-made-3 : tie.Need-cast-made-3
-cast-made-3 c = ?
+unfolding fieldOf
+cast-made-3 c =
+    omega (arith, c .before .before .before .before .before .before .before .before .before .before .own5 .ensures .holds .1)
 
--- src/kinds.rt:125:9
 cast-made-4 : tie.Need-cast-made-4
-cast-made-4 c = ?
+unfolding fieldOf
+cast-made-4 c =
+    omega (arith, c .before .before .before .before .before .before .before .before .before .before .own6 .ensures .holds .1)
 
--- src/kinds.rt:126:9
 cast-made-5 : tie.Need-cast-made-5
-cast-made-5 c = ?
+unfolding fieldOf
+cast-made-5 c =
+    omega (arith, c .before .before .before .before .before .before .before .before .before .before .own7 .ensures .holds .1)
 
--- src/kinds.rt:118:15
 made-requires : tie.Need-made-requires
-made-requires c κs = ?
+made-requires c κs =
+    (c .before .before .before .before .before .before .before .before .before .before .before .before .before .before .before .before .before .before .pre .1, c .before .before .before .before .before .before .before .before .before .before .before .before .before .before .before .before .before .before .pre .2)
 
--- src/kinds.rt:95:1
 returns-2 : tie.Need-returns-2
-returns-2 c = ?
+returns-2 c =
+    (ap (λ (x : messages.Message). message (write x)) (c .made .ensures .0) ∙ sym (said-good _ (c .before .before .before .before .before .before .before .before .before .before .before .before .before .before .before .before .before .before .before .pre .1) (c .before .before .before .before .before .before .before .before .before .before .before .before .before .before .before .before .before .before .before .pre .2) _ _ _ _ _ _ _ _ _ _ _ _ _ _ _ _ (c .before .before .before .before .before .before .before .before .before .before .before .before .before .before .before .before .before .own .ensures) (c .before .before .before .before .before .before .before .before .before .before .before .before .before .before .before .before .own2 .ensures) (c .before .before .before .before .before .before .before .before .before .before .before .before .before .before .before .own3 .ensures) (c .before .before .before .before .before .before .before .before .before .before .before .before .before .before .own4 .ensures) (c .before .before .before .before .before .before .before .before .before .before .before .before .before .own5 .ensures) (c .before .before .before .before .before .before .before .before .before .before .before .before .own6 .ensures) (c .before .before .before .before .before .before .before .before .before .before .before .own7 .ensures) _ (c .before .before .before .before .before .before .before .before .before .before .ending .ensures) _ (c .before .before .before .before .before .before .before .before .enum-told .given .1)), c .made .ensures .1)
 
 pub said-spec : {M : Type 1} → statement M
 said-spec =

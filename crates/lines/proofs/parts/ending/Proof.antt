@@ -1,12 +1,10 @@
 -- `lines::parts::ending` meets its contract. Assumes nothing.
 use Rattle.lines.proofs.Fields.{ends-none, ends-extra}
-use lib.ListN.{drop}
 use Rattle.lines.proofs.Runs.{word-none, word-some}
-use Rattle.lines.specs.Script.{reads, wrong, got}
-use Rattle.lines.specs.Places.{Inside, readsAt}
-use mathlib.Core.Path.{_≡_, refl, sym, ap, _∙_}
-use mathlib.Core.List.{[]}
+use Rattle.lines.specs.Places.{Inside}
+use mathlib.Core.Path.{sym}
 use native.Mathlib.Omega.{arith}
+use lib.ListN.{drop}
 use borrow.Author.Needs.{needs}
 use Rattle.lines.proofs.parts.ending.Statement.{statement}
 use Rattle.lines.proofs.parts.ending.Tie as tie
@@ -25,11 +23,13 @@ word-requires c κs = rw (c .before .place .given .1) at (c .before .before .bef
 
 returns-2 : tie.Need-returns-2
 returns-2 c =
-    rw (c .before .before .before .before .place .given .1) (sym (ends-extra (drop _ _) (word-some (c .before .before .word .ensures) (λ e. omega (arith, e, c .if1 .taken)))))
+    let t = drop (c .before .before .before .before .place .given .0 .0) (c .before .before .before .before .before .before .before .args .line .now) in
+    rw (c .before .before .before .before .place .given .1) (sym (ends-extra t (word-some (c .before .before .word .ensures) (λ e. omega (arith, e, c .if1 .taken)))))
 
 returns-3 : tie.Need-returns-3
 returns-3 c =
-    rw (c .before .before .before .before .place .given .1) (sym (ends-none (drop _ _) (word-none (c .before .before .word .ensures) (omega (arith, (c .before .before .word .ensures) .low, c .if1 .left)))))
+    let t = drop (c .before .before .before .before .place .given .0 .0) (c .before .before .before .before .before .before .before .args .line .now) in
+    rw (c .before .before .before .before .place .given .1) (sym (ends-none t (word-none (c .before .before .word .ensures) (omega (arith, (c .before .before .word .ensures) .low, c .if1 .left)))))
 
 pub ending-spec : {M : Type 1} → statement M
 ending-spec =

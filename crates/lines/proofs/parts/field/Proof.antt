@@ -1,34 +1,29 @@
+-- `lines::parts::field` meets its contract. Assumes nothing.
+use Rattle.lines.proofs.Fields.{field-wrong}
+use Rattle.lines.specs.Places.{Inside}
+use mathlib.Core.Path.{_≡_, refl}
 use borrow.Author.Needs.{needs}
 use Rattle.lines.proofs.parts.field.Statement.{statement}
 use Rattle.lines.proofs.parts.field.Tie as tie
-use Rattle.lines.proofs.parts.field.Reads as reads
-use Rattle.lines.proofs.parts.field.Lts as lts
-use Rattle.lines.proofs.parts.field_at.Reads as field-at-reads
-use Rattle.lines.proofs.parts.wrong.Reads as wrong-reads
 
--- src/parts.rt:163:19
 enum-known-place : tie.Need-enum-known-place
 enum-known-place c = search needs
 
--- src/parts.rt:163:26
 field-at-requires : tie.Need-field-at-requires
-field-at-requires c κs = ?
+field-at-requires c κs = rw (c .before .place .given .1) at (c .before .before .before .before .pre)
 
--- src/parts.rt:164:22
 enum-known-place-2 : tie.Need-enum-known-place-2
 enum-known-place-2 c = search needs
 
--- src/parts.rt:164:31
 wrong-requires : tie.Need-wrong-requires
 wrong-requires c κs = search needs
 
--- src/parts.rt:158:1
 returns : tie.Need-returns
-returns c = ?
+returns c = rw (c .before .before .place .given .1) (c .field-at .ensures)
 
--- src/parts.rt:158:1
 returns-2 : tie.Need-returns-2
-returns-2 c = ?
+returns-2 c =
+    rw (c .before .before .place2 .given .1) (field-wrong _ _ _ _ _ _ (c .wrong .ensures .0) (c .wrong .ensures .1) (λ ts. refl))
 
 pub field-spec : {M : Type 1} → statement M
 field-spec =

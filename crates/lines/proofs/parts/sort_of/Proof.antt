@@ -1,39 +1,43 @@
+-- `lines::parts::sort_of` meets its contract: by its tag. Assumes nothing.
+use Rattle.lines.proofs.Fields.{field-plain}
+use Rattle.lines.specs.Script.{Field, fieldOf, plain}
+use Rattle.lines.specs.declared.parts.Sort.{Sort}
+use mathlib.Core.Path.{_≡_, refl, sym, ap}
 use Rattle.lines.proofs.parts.sort_of.Statement.{statement}
 use Rattle.lines.proofs.parts.sort_of.Tie as tie
-use Rattle.lines.proofs.parts.sort_of.Reads as reads
-use Rattle.lines.proofs.parts.sort_of.Lts as lts
 
--- src/parts.rt:67:1
 returns : tie.Need-returns
-returns c = ?
+unfolding fieldOf
+returns c = rw (c .match .keys1)
 
--- src/parts.rt:67:1
 returns-2 : tie.Need-returns-2
-returns-2 c = ?
+unfolding fieldOf
+returns-2 c = rw (c .match .keys2)
 
--- src/parts.rt:67:1
 returns-3 : tie.Need-returns-3
-returns-3 c = ?
+unfolding fieldOf
+returns-3 c = rw (c .match .keys3)
 
--- src/parts.rt:67:1
 returns-4 : tie.Need-returns-4
-returns-4 c = ?
+unfolding fieldOf
+returns-4 c = rw (c .match .keys4)
 
--- src/parts.rt:67:1
 returns-5 : tie.Need-returns-5
-returns-5 c = ?
+unfolding fieldOf
+returns-5 c = rw (c .match .keys5)
 
--- src/parts.rt:67:1
 returns-6 : tie.Need-returns-6
-returns-6 c = ?
+unfolding fieldOf
+returns-6 c = rw (c .match .keys6)
 
--- src/parts.rt:67:1
 returns-7 : tie.Need-returns-7
-returns-7 c = ?
+unfolding fieldOf
+returns-7 c = rw (c .match .keys7)
 
--- src/parts.rt:67:1
 returns-8 : tie.Need-returns-8
-returns-8 c = ?
+unfolding plain
+returns-8 c =
+    sym (ap (λ (x : Field). x .sort) (field-plain _ (c .match .rest .0 .0 .0 .0 .0 .0 .1) (c .match .rest .0 .0 .0 .0 .0 .1) (c .match .rest .0 .0 .0 .0 .1) (c .match .rest .0 .0 .0 .1) (c .match .rest .0 .0 .1) (c .match .rest .0 .1) (c .match .rest .1)))
 
 pub sort-of-spec : {M : Type 1} → statement M
 sort-of-spec =

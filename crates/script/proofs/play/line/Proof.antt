@@ -13,6 +13,9 @@ use Rattle.script.proofs.play.line.Tie as tie
 within : {r line : Line} {room room′ : ℕ} → r ≡ line → filled r ≤ room → room′ ≡ room → filled line ≤ room′
 within e f k = omega (arith, rw e at f)
 
+buffer-requires : tie.Need-buffer-requires
+buffer-requires c κs = search needs
+
 slice-aggregate-read-line : tie.Need-slice-aggregate-read-line
 slice-aggregate-read-line c = search needs
 
@@ -104,6 +107,7 @@ pub line-spec : {M : Type 1} → statement M
 line-spec =
     tie.close
     (tie.spec
+    buffer-requires
     slice-aggregate-read-line
     read-line-requires
     enum-told

@@ -12,6 +12,9 @@ abbrev μ-loop : tie.MeasureT-loop
 buffer-requires : tie.Need-buffer-requires Inv-loop μ-loop
 buffer-requires c κs = search needs
 
+out-buffer-requires : tie.Need-out-buffer-requires Inv-loop μ-loop
+out-buffer-requires c κs = search needs
+
 clock-requires : tie.Need-clock-requires Inv-loop μ-loop
 clock-requires c κs = search needs
 
@@ -49,6 +52,7 @@ ticks-spec =
     Inv-loop
     μ-loop
     buffer-requires
+    out-buffer-requires
     clock-requires
     loop-holds
     tick-requires
