@@ -12,7 +12,7 @@ use lib.Dec.{eqb}
 use borrow.Author.Tests.{ne-eqb, eq-eqb}
 use Rattle.rules.specs.Lists.{all}
 use Rattle.rules.specs.Script.{sameList}
-use Rattle.rules.proofs.Tests.{eqb-self, eqb-eq, by-bool, and-left, and-right, no-bool}
+use Rattle.rules.proofs.Tests.{eqb-self, by-bool, and-left, and-right, no-bool}
 use Rattle.lines.specs.Words.{front, behind, word, rest, noWord, passes}
 use Rattle.lines.specs.Places.{Runs, WordOf, Lists, placed}
 use Rattle.lines.specs.declared.text.Over.{Over}
