@@ -2,8 +2,8 @@
 use crate::stored::Store;
 use libc::STDIN_FILENO;
 
-mod outgoing;
 mod play;
+mod sent;
 mod show;
 mod stored;
 mod words;

@@ -1,7 +1,7 @@
 // What is printed of each line: what it was, and the answer or what is wrong with it.
 ghost use mathlib.Core.Path.{_≡_};
 ghost use lib.ListN.{length};
-use crate::outgoing;
+use crate::sent;
 use crate::words;
 use lines::Flaw;
 use page::Page;
@@ -71,7 +71,7 @@ pub fn answer(page: &mut Page, at: usize, answer: u64, out: &Out) -> usize {
     let count = answer % UNIT;
     let counted = words::number(page, at, b": 0 done, ", count);
     let told = page::say(page, counted, b" bytes\n");
-    outgoing::first(page, told, out, count as usize)
+    sent::first(page, told, out, count as usize)
 }
 
 // What is wrong with a line.

@@ -1,9 +1,9 @@
--- `script::outgoing::first` is safe. Assumes nothing.
+-- `script::sent::first` is safe. Assumes nothing.
 use mathlib.Core.Path.{sym}
 use lib.Seq.{length-take-le}
 use borrow.Author.Needs.{needs}
-use Rattle.script.proofs.outgoing.first.Statement.{statement}
-use Rattle.script.proofs.outgoing.first.Tie as tie
+use Rattle.script.proofs.sent.first.Statement.{statement}
+use Rattle.script.proofs.sent.first.Tie as tie
 
 returns : tie.Need-returns
 returns c = search needs
