@@ -1,11 +1,11 @@
 -- Lines and what they mean, evaluated together under a single claim. Assumes nothing.
 use mathlib.Core.Path.{_≡_, refl}
-use mathlib.Core.List.{List, [], _∷_, map}
-use Prim.Native.Nat.{ℕ, _-_, _^_}
+use mathlib.Core.List.{[], _∷_, map}
+use Prim.Native.Nat.{_-_, _^_}
 use Prim.Native.String.{String}
 use Rattle.rules.specs.Messages.{newView, propose, vote, blame, blameSet, status, write}
 use Rattle.lines.specs.Words.{bytes}
-use Rattle.lines.specs.Script.{Meaning, blank, fresh, tick, message, offer, log, state, bad, lineOf}
+use Rattle.lines.specs.Script.{Meaning, blank, fresh, tick, message, offer, log, bad, lineOf}
 use Rattle.lines.specs.declared.Flaw.the-variants.{Word, Missing, Extra, Number, Hex, Name, Mask}
 
 meant : String → Meaning
