@@ -1,20 +1,20 @@
 -- What digits say. Assumes nothing.
 use Prim.Native.Nat.{ℕ, zero, suc, _+_, _-_, _*_, _/_, _^_, _<_, _≤_}
 use mathlib.Core.Path.{_≡_, refl, sym, ap, ap₂, _∙_}
-use mathlib.Core.Bool.{Bool, true, false, not, _&&_, and-false}
+use mathlib.Core.Bool.{true, false, _&&_, and-false}
 use mathlib.Core.List.{List, [], _∷_, _++_}
-use mathlib.Core.Option.{Option, none, some}
+use mathlib.Core.Option.{none, some}
 use native.Mathlib.Omega.{arith}
-use native.Mathlib.Nat.{pow-zero, pow-suc, pow-succ', one-le-pow, pow-le-pow-right, mul-assoc, add-mul, add-assoc, add-zero, zero-mul, mul-one, sub-zero, zero-sub, suc-sub-suc}
+use native.Mathlib.Nat.{pow-zero, pow-succ', pow-le-pow-right, mul-assoc, add-mul, add-assoc, zero-mul, mul-one, sub-zero, zero-sub, suc-sub-suc}
 use native.Mathlib.Numerals.{add-one}
 use lib.ListN.{length, take, drop, getD, set, take-append-drop, length-drop, drop-of-length-le}
-use lib.Seq.{drop-cons, drop-nil, take-nil, take-take, take-all, length-take-le}
+use lib.Seq.{take-nil, take-take, take-all, length-take-le}
 use lib.Dec.{leb, ltb, eqb}
 use borrow.Author.Tests.{lt-ltb, le-ltb, le-leb, lt-leb, leb-true, leb-false, ltb-true, ltb-false}
 use Rattle.rules.specs.Lists.{within, all}
 use Rattle.rules.specs.Sizes.{only, joined}
 use Rattle.rules.proofs.Masks.{joined-lt}
-use Rattle.rules.proofs.Tests.{by-bool, by-option, and-left, and-right, no-bool, no-some}
+use Rattle.rules.proofs.Tests.{by-bool, by-option, and-left, and-right, no-some}
 use Rattle.outgoing.specs.Wrote.{wrote}
 use Rattle.fields.specs.declared.Name.{Name}
 use Rattle.fields.specs.Names.{nameOf}

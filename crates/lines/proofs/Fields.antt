@@ -1,17 +1,16 @@
 -- Fields at places of a line. Assumes nothing.
-use Prim.Native.Nat.{ℕ, zero, suc, _-_, _<_, _≤_}
+use Prim.Native.Nat.{ℕ, zero, suc, _-_}
 use mathlib.Core.Path.{_≡_, refl, sym, ap, _∙_}
-use mathlib.Core.Bool.{Bool, true, false}
+use mathlib.Core.Bool.{true, false}
 use mathlib.Core.List.{List, [], _∷_}
-use mathlib.Core.Option.{Option, none, some}
+use mathlib.Core.Option.{none, some}
 use native.Mathlib.Omega.{arith}
-use lib.ListN.{length, take, drop}
+use lib.ListN.{take, drop}
 use Rattle.rules.specs.Script.{sameList}
-use Rattle.rules.proofs.Tests.{no-some}
 use Rattle.fields.specs.declared.Name.{Name}
 use Rattle.fields.specs.Names.{nameOf}
 use Rattle.lines.specs.Words.{word, rest, noWord, decimal, mask}
-use Rattle.lines.specs.Script.{says, flawOf, fieldOf, fields, plain, unlabelled, Got, got, wrong, onto, reads}
+use Rattle.lines.specs.Script.{says, flawOf, fieldOf, plain, unlabelled, got, wrong, onto, reads}
 use Rattle.lines.specs.Places.{WordOf, small, Holds, HoldsIn, readsAt, Field}
 use Rattle.lines.specs.declared.Flaw.{Flaw}
 use Rattle.lines.specs.declared.Flaw.the-variants as flaw
@@ -78,15 +77,15 @@ module _ (t : ℕ) (s : List ℕ) (ts : List ℕ) where
   abbrev r : List ℕ
   r = unlabelled (fieldOf t .label) s
 
-  reads-missing : noWord r ≡ true → reads (t ∷ ts) s ≡ wrong flaw.Missing
+  pub reads-missing : noWord r ≡ true → reads (t ∷ ts) s ≡ wrong flaw.Missing
   unfolding reads
   reads-missing e = rw (e, reads)
 
-  reads-not : noWord r ≡ false → says (fieldOf t .sort) (word r) ≡ none → reads (t ∷ ts) s ≡ wrong (flawOf (fieldOf t .sort))
+  pub reads-not : noWord r ≡ false → says (fieldOf t .sort) (word r) ≡ none → reads (t ∷ ts) s ≡ wrong (flawOf (fieldOf t .sort))
   unfolding reads
   reads-not e f = rw (e, f, reads)
 
-  reads-is : (v : ℕ) → noWord r ≡ false → says (fieldOf t .sort) (word r) ≡ some v → reads (t ∷ ts) s ≡ onto v (reads ts (rest r))
+  pub reads-is : (v : ℕ) → noWord r ≡ false → says (fieldOf t .sort) (word r) ≡ some v → reads (t ∷ ts) s ≡ onto v (reads ts (rest r))
   unfolding reads
   reads-is v e f = rw (e, f, reads)
 

@@ -3,3 +3,4 @@ pub mod Digits
 pub mod Fields
 pub mod Messages
 pub mod Replies
+pub mod Room

@@ -1,13 +1,11 @@
 -- Whole lines: the order of a first word, what is answered, and what is left of the buffer. Assumes nothing.
-use Prim.Native.Nat.{ℕ, zero, suc, _+_, _-_, _/_, _<_, _≤_}
+use Prim.Native.Nat.{ℕ, zero, suc, _+_, _<_, _≤_}
 use mathlib.Core.Path.{_≡_, refl, sym, ap, _∙_}
 use mathlib.Core.Bool.{Bool, true, false}
-use mathlib.Core.List.{List, [], _∷_, _++_, map}
-use mathlib.Core.Option.{Option, none, some}
+use mathlib.Core.List.{List, [], _∷_}
 use native.Mathlib.Omega.{arith}
 use native.Mathlib.Nat.{add-zero, zero-add, add-suc, suc-add}
-use lib.ListN.{length, take, drop, getD, length-map, List·getD-eq-default}
-use lib.Seq.{take-append-seam}
+use lib.ListN.{length, drop, getD, List·getD-eq-default}
 use lib.Dec.{leb}
 use borrow.Author.Tests.{le-leb, lt-leb, leb-true, leb-false}
 use Rattle.rules.specs.Script.{sameList}
@@ -16,11 +14,11 @@ use Rattle.fields.specs.declared.Name.{Name}
 use Rattle.fields.specs.Names.{nameOf}
 use Rattle.outgoing.specs.Wrote.{wrote}
 use Rattle.outgoing.specs.Wrote as written
-use Rattle.outgoing.proofs.Writing.{length-wrote, wrote-prefix}
+use Rattle.outgoing.proofs.Writing.{length-wrote}
 use Rattle.lines.specs.Words.{bytes, word, rest, noWord, pairs, isBytes}
-use Rattle.lines.specs.Script.{Got, got, wrong, onto, reads, fieldOf, freshened, ticked, alone, hex, Meaning, blank, fresh, tick, message, offer, log, state, bad, meant, hexed, spoken, Order, orders, ordered, lineOf}
+use Rattle.lines.specs.Script.{Got, got, wrong, onto, reads, fieldOf, freshened, ticked, alone, hex, Meaning, blank, fresh, tick, message, offer, log, state, bad, meant, spoken, Order, orders, ordered, lineOf}
 use Rattle.lines.specs.Places.{Lists, placed, Field, ended, readsAt}
-use Rattle.lines.specs.Answers.{answer, fill, left, filled, Reads, Says, given, HexAt, hexPlace, hexLeft, HexRead}
+use Rattle.lines.specs.Answers.{answer, fill, left, filled, Reads, Says, given, HexAt, hexPlace, HexRead}
 use Rattle.lines.specs.declared.Flaw.{Flaw}
 use Rattle.lines.specs.declared.Flaw.the-variants as flaw
 use Rattle.lines.specs.declared.Line.{Line}
@@ -156,7 +154,7 @@ module _ (bs o : List ℕ) where
   unfolding answer
   message-long h = rw (lt-leb (length bs) (length o) h, answer)
 
-  message-good : length bs ≤ length o → answer (length o) (message bs) ≡ Message (length bs)
+  pub message-good : length bs ≤ length o → answer (length o) (message bs) ≡ Message (length bs)
   unfolding answer
   message-good h = rw (le-leb (length bs) (length o) h, answer)
 
@@ -164,7 +162,7 @@ module _ (bs o : List ℕ) where
   unfolding answer
   offer-long h = rw (lt-leb (length bs) (length o) h, answer)
 
-  offer-good : length bs ≤ length o → answer (length o) (offer bs) ≡ Offer (length bs)
+  pub offer-good : length bs ≤ length o → answer (length o) (offer bs) ≡ Offer (length bs)
   unfolding answer
   offer-good h = rw (le-leb (length bs) (length o) h, answer)
 
@@ -262,7 +260,7 @@ module _ (t : List ℕ) where
   unfolding hex
   hex-not e f = rw (e, f, hex)
 
-  hex-rest : noWord t ≡ false → isBytes (word t) ≡ true → (n : Bool) → noWord (rest t) ≡ n → hex t ≡ elim n [ true ↦ got (pairs (word t)) | false ↦ wrong flaw.Extra ]
+  pub hex-rest : noWord t ≡ false → isBytes (word t) ≡ true → (n : Bool) → noWord (rest t) ≡ n → hex t ≡ elim n [ true ↦ got (pairs (word t)) | false ↦ wrong flaw.Extra ]
   unfolding hex
   hex-rest e f true g = rw (e, f, g, hex)
   hex-rest e f false g = rw (e, f, g, hex)

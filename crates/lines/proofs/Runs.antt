@@ -1,18 +1,17 @@
 -- Runs, words and comparisons, as a loop upward meets them: what is left is the whole. Assumes nothing.
-use Prim.Native.Nat.{ℕ, zero, suc, _+_, _-_, _<_, _≤_}
+use Prim.Native.Nat.{ℕ, suc, _+_, _-_, _<_, _≤_}
 use mathlib.Core.Path.{_≡_, refl, sym, ap, ap₂, _∙_}
 use mathlib.Core.Bool.{Bool, true, false, _&&_}
 use mathlib.Core.List.{List, [], _∷_, _++_, append-assoc, append-nil}
 use native.Mathlib.Omega.{arith}
-use native.Mathlib.Nat.{sub-zero}
 use native.Mathlib.Numerals.{add-one}
-use lib.ListN.{length, take, drop, getD, length-take, length-drop, drop-of-length-le}
+use lib.ListN.{length, take, drop, getD, length-drop, drop-of-length-le}
 use lib.Seq.{drop-cons, drop-drop, take-suc, getD-drop, length-take-le}
 use lib.Dec.{eqb}
 use borrow.Author.Tests.{ne-eqb, eq-eqb}
 use Rattle.rules.specs.Lists.{all}
 use Rattle.rules.specs.Script.{sameList}
-use Rattle.rules.proofs.Tests.{eqb-self, by-bool, and-left, and-right, no-bool}
+use Rattle.rules.proofs.Tests.{by-bool, and-right, no-bool}
 use Rattle.lines.specs.Words.{front, behind, word, rest, noWord, passes}
 use Rattle.lines.specs.Places.{Runs, WordOf, Lists, placed}
 use Rattle.lines.specs.declared.text.Over.{Over}
@@ -119,6 +118,14 @@ unfolding front behind
 lengths p [] = refl
 lengths p (b ∷ t) =
     by-bool (p b) (λ e. rw (e, front, behind) (omega (arith, lengths p t))) (λ e. rw (e, front, behind) (omega arith))
+
+pub word-shorter : (t : List ℕ) → length (word t) ≤ length t
+unfolding word
+word-shorter t = omega (arith, lengths (passes Word) (behind (passes Spaces) t), lengths (passes Spaces) t)
+
+pub rest-shorter : (t : List ℕ) → length (rest t) ≤ length t
+unfolding rest
+rest-shorter t = omega (arith, lengths (passes Word) (behind (passes Spaces) t), lengths (passes Spaces) t)
 
 pub word-after : (s : List ℕ) (at : ℕ) (w : Span) → at ≤ length s → WordOf s (drop at s) w → at ≤ w .start
 unfolding word rest

@@ -1,12 +1,10 @@
 -- What the code answers, in the words of the definitions. Assumes nothing.
-use Prim.Native.Nat.{ℕ, _-_, _≤_}
+use Prim.Native.Nat.{ℕ, _≤_}
 use mathlib.Core.Path.{_≡_}
 use mathlib.Core.Bool.{Bool, true, false}
-use mathlib.Core.List.{List, [], _∷_}
-use mathlib.Core.Option.{Option, none, some}
-use lib.ListN.{length, take, drop}
+use mathlib.Core.List.{List}
+use lib.ListN.{length, drop}
 use lib.Dec.{leb}
-use Rattle.fields.specs.Names.{nameOf}
 use Rattle.outgoing.specs.Wrote.{wrote}
 use Rattle.lines.specs.Words.{word, pairs}
 use Rattle.lines.specs.Script.{Got, got, wrong, hex, Meaning, blank, fresh, tick, message, offer, log, state, bad}

@@ -1,10 +1,10 @@
 -- docs/SCRIPT.md, 'Lines': the fields, the first words, and what a line means. Assumes nothing.
 use Prim.Native.Nat.{ℕ, _-_, _^_}
 use Prim.Native.String.{String}
-use mathlib.Core.Bool.{Bool, true, false}
+use mathlib.Core.Bool.{true, false}
 use mathlib.Core.List.{List, [], _∷_}
 use mathlib.Core.Option.{Option, none, some}
-use lib.ListN.{length, getD}
+use lib.ListN.{getD}
 use Rattle.rules.specs.Messages.{write, rowOf}
 use Rattle.rules.specs.Script.{sameList}
 use Rattle.lines.specs.Words.{bytes, word, rest, noWord, decimal, pairs, isBytes, name, mask}

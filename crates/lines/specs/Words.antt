@@ -1,5 +1,5 @@
 -- The words of a line, and what a word says: a number, bytes in hex, a name, a mask. Assumes nothing.
-use Prim.Native.Nat.{ℕ, zero, suc, _+_, _-_, _*_, _%_}
+use Prim.Native.Nat.{ℕ, _+_, _-_, _*_, _%_}
 use Prim.Native.Char.{code}
 use Prim.Native.String.{String, [] as []ᵗ, _∷_ as _∷ᵗ_}
 use mathlib.Core.Bool.{Bool, true, false, not, _&&_, _||_}

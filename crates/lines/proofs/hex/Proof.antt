@@ -3,14 +3,10 @@ use Rattle.lines.proofs.Runs.{word-length}
 use Rattle.lines.proofs.Digits.{length-pairs}
 use Rattle.lines.proofs.Replies.{hex-wrong, hex-long, hex-good}
 use Rattle.lines.specs.Words.{pairs, word}
-use Rattle.lines.specs.Answers.{HexAt}
-use Rattle.lines.specs.Script.{hex, got}
-use Rattle.outgoing.specs.Wrote.{wrote}
-use Prim.Native.Nat.{ℕ, _-_, _/_}
-use mathlib.Core.List.{List}
-use mathlib.Core.Path.{_≡_, sym, ap, _∙_}
+use Prim.Native.Nat.{ℕ, _/_}
+use mathlib.Core.Path.{sym, ap, _∙_}
 use native.Mathlib.Omega.{arith}
-use lib.ListN.{length, drop}
+use lib.ListN.{drop}
 use borrow.Author.Needs.{needs}
 use Rattle.lines.proofs.hex.Statement.{statement}
 use Rattle.lines.proofs.hex.Tie as tie

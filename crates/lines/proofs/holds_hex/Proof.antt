@@ -1,9 +1,7 @@
 -- `lines::holds_hex` meets its contract. Assumes nothing.
 use Rattle.lines.proofs.Runs.{word-none, word-some}
 use Rattle.lines.proofs.Replies.{hex-missing, hex-not, hex-ends}
-use Rattle.lines.specs.Words.{isBytes}
-use Rattle.lines.specs.Script.{reads}
-use mathlib.Core.Path.{_≡_, sym, ap, _∙_}
+use mathlib.Core.Path.{sym, _∙_}
 use borrow.Author.Tests.{not-true, not-false}
 use borrow.Author.Needs.{needs}
 use Rattle.lines.proofs.holds_hex.Statement.{statement}

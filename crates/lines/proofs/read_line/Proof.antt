@@ -4,7 +4,7 @@ use Rattle.lines.proofs.Replies.{says-blank, says-bad, unchanged, reads
 use Rattle.lines.specs.Words.{rest, bytes}
 use Rattle.lines.specs.Script.{orders}
 use Prim.Native.Nat.{ℕ}
-use mathlib.Core.Path.{_≡_, refl, sym, ap, _∙_}
+use mathlib.Core.Path.{_≡_, refl, ap, _∙_}
 use native.Mathlib.Omega.{arith}
 use borrow.Author.Needs.{needs}
 use Rattle.lines.proofs.read_line.Statement.{statement}

@@ -1,10 +1,7 @@
 -- `lines::spoken` meets its contract. Assumes nothing.
 use Rattle.lines.proofs.Replies.{says-bad, unchanged, spoken-long, spoken-good}
-use Rattle.lines.specs.Places.{heardOf, CanWrite}
-use Rattle.lines.specs.Script.{spoken}
-use Rattle.rules.specs.Messages.{write}
-use Rattle.wire.specs.Meaning.{messageOf}
-use mathlib.Core.Path.{_≡_, refl, sym, ap, _∙_}
+use Rattle.lines.specs.Places.{heardOf}
+use mathlib.Core.Path.{refl, sym, ap, _∙_}
 use native.Mathlib.Omega.{arith}
 use borrow.Author.Needs.{needs}
 use Rattle.lines.proofs.spoken.Statement.{statement}

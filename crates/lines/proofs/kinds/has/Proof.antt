@@ -2,7 +2,7 @@
 use Rattle.lines.proofs.Messages.{tried, has-by, last-kind}
 use Rattle.lines.specs.Places.{has}
 use mathlib.Core.Bool.{not, _&&_, _||_}
-use mathlib.Core.Path.{_≡_, refl}
+use mathlib.Core.Path.{refl}
 use native.Mathlib.Omega.{arith}
 use lib.Dec.{eqb}
 use Rattle.rules.specs.Lists.{iff}

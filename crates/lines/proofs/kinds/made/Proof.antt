@@ -5,7 +5,7 @@ use Rattle.lines.proofs.Messages.{last-kind}
 use Rattle.fields.specs.Names.{nameOf}
 use Rattle.wire.specs.Meaning.{messageOf}
 use Rattle.rules.proofs.Tests.{no-bool}
-use mathlib.Core.Path.{_≡_, refl, sym, ap, _∙_}
+use mathlib.Core.Path.{_≡_, sym, ap, _∙_}
 use native.Mathlib.Omega.{arith}
 use borrow.Author.Needs.{needs}
 use Rattle.lines.proofs.kinds.made.Statement.{statement}

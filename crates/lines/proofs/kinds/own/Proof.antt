@@ -1,6 +1,6 @@
 -- `lines::kinds::own` meets its contract. Assumes nothing.
 use Rattle.lines.proofs.Messages.{own-field, own-none}
-use mathlib.Core.Path.{_≡_, refl, sym, _∙_}
+use mathlib.Core.Path.{refl, sym, _∙_}
 use borrow.Author.Needs.{needs}
 use Rattle.lines.proofs.kinds.own.Statement.{statement}
 use Rattle.lines.proofs.kinds.own.Tie as tie

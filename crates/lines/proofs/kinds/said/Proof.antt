@@ -3,7 +3,7 @@ use Rattle.lines.proofs.Messages.{said-good, said-wrong}
 use Rattle.lines.specs.Script.{fieldOf, message}
 use Rattle.rules.specs.Messages as messages
 use Rattle.rules.specs.Messages.{write}
-use mathlib.Core.Path.{_≡_, refl, sym, ap, _∙_}
+use mathlib.Core.Path.{sym, ap, _∙_}
 use native.Mathlib.Omega.{arith}
 use borrow.Author.Needs.{needs}
 use Rattle.lines.proofs.kinds.said.Statement.{statement}

@@ -1,7 +1,6 @@
 -- `lines::parts::ending` meets its contract. Assumes nothing.
 use Rattle.lines.proofs.Fields.{ends-none, ends-extra}
 use Rattle.lines.proofs.Runs.{word-none, word-some}
-use Rattle.lines.specs.Places.{Inside}
 use mathlib.Core.Path.{sym}
 use native.Mathlib.Omega.{arith}
 use lib.ListN.{drop}

@@ -1,7 +1,6 @@
 -- `lines::parts::field` meets its contract. Assumes nothing.
 use Rattle.lines.proofs.Fields.{field-wrong}
-use Rattle.lines.specs.Places.{Inside}
-use mathlib.Core.Path.{_≡_, refl}
+use mathlib.Core.Path.{refl}
 use borrow.Author.Needs.{needs}
 use Rattle.lines.proofs.parts.field.Statement.{statement}
 use Rattle.lines.proofs.parts.field.Tie as tie

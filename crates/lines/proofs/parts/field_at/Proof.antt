@@ -1,9 +1,9 @@
 -- `lines::parts::field_at` meets its contract. Assumes nothing.
 use Rattle.lines.proofs.Fields.{field-wrong, field-missing, field-not, field-is}
-use Rattle.lines.specs.Script.{says, flawOf}
-use Rattle.lines.specs.Places.{namedOf, HoldsIn, Holds}
+use Rattle.lines.specs.Script.{flawOf}
+use Rattle.lines.specs.Places.{namedOf}
 use Rattle.lines.specs.declared.parts.Place.the-variants.{Wrong}
-use mathlib.Core.Path.{_≡_, refl, sym, ap, _∙_}
+use mathlib.Core.Path.{sym, ap, _∙_}
 use borrow.Author.Needs.{needs}
 use Rattle.lines.proofs.parts.field_at.Statement.{statement}
 use Rattle.lines.proofs.parts.field_at.Tie as tie

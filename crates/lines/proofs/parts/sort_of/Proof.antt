@@ -1,8 +1,7 @@
 -- `lines::parts::sort_of` meets its contract: by its tag. Assumes nothing.
 use Rattle.lines.proofs.Fields.{field-plain}
 use Rattle.lines.specs.Script.{Field, fieldOf, plain}
-use Rattle.lines.specs.declared.parts.Sort.{Sort}
-use mathlib.Core.Path.{_≡_, refl, sym, ap}
+use mathlib.Core.Path.{sym, ap}
 use Rattle.lines.proofs.parts.sort_of.Statement.{statement}
 use Rattle.lines.proofs.parts.sort_of.Tie as tie
 

@@ -1,7 +1,6 @@
 -- `lines::parts::unlabelled` meets its contract. Assumes nothing.
 use Rattle.lines.proofs.Fields.{label-yes, label-no}
-use Rattle.rules.specs.Script.{sameList}
-use mathlib.Core.Path.{_≡_, refl, sym, ap, _∙_}
+use mathlib.Core.Path.{sym, _∙_}
 use borrow.Author.Needs.{needs}
 use Rattle.lines.proofs.parts.unlabelled.Statement.{statement}
 use Rattle.lines.proofs.parts.unlabelled.Tie as tie

@@ -1,8 +1,8 @@
 -- `lines::parts::value_of` meets its contract: by the sort. Assumes nothing.
 use Rattle.lines.proofs.Fields.{says-number, says-mask, holds-name}
 use Rattle.lines.specs.Script.{says}
-use Rattle.lines.specs.Places.{numberOf, namedOf, HoldsIn}
-use mathlib.Core.Path.{_≡_, refl, sym, ap, _∙_}
+use Rattle.lines.specs.Places.{numberOf}
+use mathlib.Core.Path.{sym, ap, _∙_}
 use borrow.Author.Needs.{needs}
 use Rattle.lines.proofs.parts.value_of.Statement.{statement}
 use Rattle.lines.proofs.parts.value_of.Tie as tie

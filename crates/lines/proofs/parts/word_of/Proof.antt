@@ -1,7 +1,6 @@
 -- `lines::parts::word_of` meets its contract: by its tag. Assumes nothing.
 use Rattle.lines.proofs.Fields.{field-plain}
-use Rattle.lines.specs.Script.{Field, fieldOf, plain}
-use mathlib.Core.Path.{_≡_, refl, sym, ap}
+use Rattle.lines.specs.Script.{fieldOf, plain}
 use borrow.Author.Needs.{needs}
 use Rattle.lines.proofs.parts.word_of.Statement.{statement}
 use Rattle.lines.proofs.parts.word_of.Tie as tie

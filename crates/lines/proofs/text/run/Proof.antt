@@ -1,7 +1,7 @@
 -- `lines::text::run` meets its contract. The invariant: every byte from the start to i is passed over. Assumes nothing.
-use Rattle.lines.proofs.Runs.{RanTo, run-none, run-more, run-stop, run-end}
+use Rattle.lines.proofs.Runs.{run-none, run-more, run-stop, run-end}
 use Prim.Native.Nat.{_≤_, _-_}
-use mathlib.Core.Path.{_≡_, sym, ap, _∙_}
+use mathlib.Core.Path.{sym, _∙_}
 use native.Mathlib.Omega.{arith}
 use borrow.Author.Tests.{not-true, not-false}
 use lib.ListN.{length, drop}

@@ -1,7 +1,7 @@
 -- `lines::text::same` meets its contract. The invariant: what is left decides. Assumes nothing.
 use Rattle.lines.proofs.Runs.{same-never, same-step, same-stop, same-end}
 use Prim.Native.Nat.{_≤_, _-_}
-use mathlib.Core.Path.{_≡_, refl, sym, ap, _∙_}
+use mathlib.Core.Path.{_≡_, refl, sym, _∙_}
 use native.Mathlib.Omega.{arith}
 use lib.ListN.{length, drop}
 use Rattle.rules.specs.Script.{sameList}

@@ -3,7 +3,7 @@ use Rattle.lines.proofs.Runs.{word-after, Passed, passed-end, passed-he
 use Rattle.lines.specs.Places.{Lists}
 use Prim.Native.Nat.{ℕ, _≤_, _-_}
 use mathlib.Core.List.{List}
-use mathlib.Core.Path.{_≡_, refl, sym, _∙_}
+use mathlib.Core.Path.{refl, sym, _∙_}
 use native.Mathlib.Omega.{arith}
 use lib.ListN.{length}
 use borrow.Author.Needs.{needs}

@@ -1,7 +1,7 @@
 -- `lines::values::digit` meets its contract: by its test. Assumes nothing.
 use Rattle.lines.proofs.Digits.{digit-decimal, digit-small, digit-capital, digit-none, within-low, within-high}
 use Rattle.lines.specs.Words.{isDecimal}
-use mathlib.Core.Path.{_≡_, refl, sym, _∙_}
+use mathlib.Core.Path.{sym, _∙_}
 use native.Mathlib.Omega.{arith}
 use borrow.Author.Needs.{needs}
 use Rattle.lines.proofs.values.digit.Statement.{statement}

@@ -1,7 +1,6 @@
 -- `lines::values::is_bytes` meets its contract. Assumes nothing.
 use Rattle.lines.specs.Words.{isDash, isBytes, bytes}
-use Rattle.rules.specs.Lists.{all}
-use mathlib.Core.Path.{_≡_, refl, sym, ap, _∙_}
+use mathlib.Core.Path.{sym, _∙_}
 use borrow.Author.Tests.{eq-eqb, ne-eqb}
 use borrow.Author.Needs.{needs}
 use Rattle.lines.proofs.values.is_bytes.Statement.{statement}

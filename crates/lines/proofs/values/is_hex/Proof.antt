@@ -1,6 +1,6 @@
 -- `lines::values::is_hex` meets its contract. Assumes nothing.
-use Rattle.lines.specs.Words.{isDecimal, isHex}
-use mathlib.Core.Path.{_≡_, refl, ap₂}
+use Rattle.lines.specs.Words.{isHex}
+use mathlib.Core.Path.{ap₂}
 use mathlib.Core.Bool.{_||_}
 use borrow.Author.Needs.{needs}
 use Rattle.lines.proofs.values.is_hex.Statement.{statement}

@@ -4,7 +4,7 @@ use Rattle.lines.specs.Words.{mask, isDash, bytes, stations, split}
 use Rattle.lines.specs.Places.{numberOf}
 use Rattle.rules.specs.Sizes.{joined as union, only}
 use Prim.Native.Nat.{ℕ, _≤_, _+_, _-_}
-use mathlib.Core.Path.{_≡_, refl, sym, ap, _∙_}
+use mathlib.Core.Path.{_≡_, sym, ap, _∙_}
 use mathlib.Core.Option.{some}
 use native.Mathlib.Omega.{arith}
 use lib.ListN.{length, drop}

@@ -1,6 +1,6 @@
 -- `lines::values::name` meets its contract: four parts of its digits are the four words. Assumes nothing.
 use Rattle.lines.proofs.Digits.{name-empty, name-long, name-other, name-is, name-words}
-use mathlib.Core.Path.{_≡_, refl, sym, ap, _∙_}
+use mathlib.Core.Path.{sym, ap, _∙_}
 use mathlib.Core.Option.{some}
 use native.Mathlib.Omega.{arith}
 use lib.ListN.{length-take, length-drop}

@@ -1,7 +1,6 @@
 -- `lines::values::within` meets its contract. Assumes nothing.
 use mathlib.Core.Path.{refl}
 use Rattle.rules.specs.Lists.{within}
-use borrow.Author.Needs.{needs}
 use Rattle.lines.proofs.values.within.Statement.{statement}
 use Rattle.lines.proofs.values.within.Tie as tie
 

@@ -1,0 +1,178 @@
+-- A line of up to 4,096 bytes says at most 2,048: no answer with a buffer of that many is Long. Assumes nothing.
+use Prim.Native.Nat.{ℕ, _≤_}
+use mathlib.Core.Path.{_≡_, sym, _∙_}
+use mathlib.Core.Bool.{true, false}
+use mathlib.Core.List.{List, [], _∷_}
+use native.Mathlib.Omega.{arith}
+use lib.ListN.{length, getD}
+use Rattle.rules.specs.Messages as messages
+use Rattle.rules.specs.Messages.{write, rowOf}
+use Rattle.rules.specs.Script.{sameList}
+use Rattle.rules.proofs.Tests.{by-bool, by-option}
+use Rattle.outgoing.proofs.Writing.{length-write-most}
+use Rattle.lines.specs.Words.{word, rest, noWord, pairs, isBytes}
+use Rattle.lines.specs.Script.{says, flawOf, fieldOf, unlabelled, Got, got, wrong, onto, reads, Meaning, blank, fresh, tick, message, offer, log, state, bad, meant, spoken, freshened, ticked, alone, hexed, Order, orders, ordered, lineOf}
+use Rattle.lines.specs.Answers.{answer, Reads}
+use Rattle.lines.specs.declared.Flaw.{Flaw}
+use Rattle.lines.specs.declared.Flaw.the-variants as flaw
+use Rattle.lines.specs.declared.Line.{Line}
+use Rattle.lines.specs.declared.Line.the-variants.{Message, Offer, Bad}
+use Rattle.lines.specs.declared.parts.Sort.{Sort}
+use Rattle.lines.specs.declared.parts.Sort.the-variants.{Number, Name, Mask}
+use Rattle.lines.proofs.Runs.{word-shorter, rest-shorter}
+use Rattle.lines.proofs.Digits.{length-pairs}
+use Rattle.lines.proofs.Fields.{ends-none, ends-extra, reads-missing, reads-not, reads-is}
+use Rattle.lines.proofs.Replies.{message-good, offer-good, hex-missing, hex-not, hex-rest}
+
+-- the bytes have room in 2,048, and nothing is wrong for want of room
+abbrev Short : Meaning → Type 0
+Short blank = Unit
+Short (fresh n d own) = Unit
+Short (tick k) = Unit
+Short (message bs) = length bs ≤ 2048
+Short (offer bs) = length bs ≤ 2048
+Short log = Unit
+Short state = Unit
+Short (bad f) = f ≡ flaw.Long → ⊥
+
+abbrev Plain : Got → Type 0
+Plain (got vs) = Unit
+Plain (wrong f) = f ≡ flaw.Long → ⊥
+
+other : {f : Flaw} → (f ≡ flaw.Long → _≡_ {A = ℕ} 0 1) → f ≡ flaw.Long → ⊥
+other h e = let z = h e in omega (arith, z)
+
+flaw-plain : (x : Sort) → flawOf x ≡ flaw.Long → ⊥
+unfolding flawOf
+flaw-plain (Number most) = other (λ e. cc)
+flaw-plain Name = other (λ e. cc)
+flaw-plain Mask = other (λ e. cc)
+
+onto-plain : (v : ℕ) (g : Got) → Plain g → Plain (onto v g)
+unfolding onto
+onto-plain v (got vs) p = tt
+onto-plain v (wrong f) p = p
+
+reads-plain : (ts s : List ℕ) → Plain (reads ts s)
+reads-plain [] s = by-bool (noWord s) (λ e. rw (ends-none s e) tt) (λ e. rw (ends-extra s e) (other (λ z. cc)))
+reads-plain (t ∷ ts) s =
+    let r = unlabelled (fieldOf t .label) s in
+    by-bool (noWord r)
+    (λ e. rw (reads-missing t s ts e) (other (λ z. cc)))
+    (λ e.
+    by-option (says (fieldOf t .sort) (word r))
+    (λ q. rw (reads-not t s ts e q) (flaw-plain (fieldOf t .sort)))
+    (λ v q. rw (reads-is t s ts v e q) (onto-plain v (reads ts (rest r)) (reads-plain ts (rest r)))))
+
+meant-short : (f : List ℕ → Meaning) (g : Got) → ((vs : List ℕ) → Short (f vs)) → Plain g → Short (meant f g)
+unfolding meant
+meant-short f (got vs) h p = h vs
+meant-short f (wrong e) h p = p
+
+hex-short : (f : List ℕ → Meaning) → ((bs : List ℕ) → length bs ≤ 2048 → Short (f bs)) → (t : List ℕ) → length t ≤ 4096 → Short (hexed f t)
+unfolding hexed meant
+hex-short f h t l =
+    by-bool (noWord t)
+    (λ e. rw (hex-missing t e) (other (λ z. cc)))
+    (λ e.
+    by-bool (isBytes (word t))
+    (λ q.
+    by-bool (noWord (rest t))
+    (λ n. rw (hex-rest t e q true n) (h (pairs (word t)) (omega (arith, length-pairs (word t), word-shorter t))))
+    (λ n. rw (hex-rest t e q false n) (other (λ z. cc))))
+    (λ q. rw (hex-not t e q) (other (λ z. cc))))
+
+abbrev AllShort : List Order → Type 0
+AllShort [] = Unit
+AllShort (o ∷ os) = ((t : List ℕ) → length t ≤ 4096 → Short (o .means t)) × AllShort os
+
+ordered-short : (os : List Order) → AllShort os → (w t : List ℕ) → length t ≤ 4096 → Short (ordered os w t)
+unfolding ordered
+ordered-short [] a w t l = other (λ z. cc)
+ordered-short (o ∷ os) a w t l =
+    by-bool (sameList (o .first) w) (λ e. rw (e, ordered) (a .0 t l)) (λ e. rw (e, ordered) (ordered-short os (a .1) w t l))
+
+said : (m : messages.Message) → length (write m) ≤ 2048
+said m = omega (arith, length-write-most m)
+
+ticks-short : (t : List ℕ) → length t ≤ 4096 → Short (ticked t)
+unfolding ticked
+ticks-short t l =
+    by-bool (noWord t) (λ e. rw (e, ticked) tt) (λ e. rw (e, ticked) (meant-short (λ vs. tick (getD vs 0 0)) (reads (0 ∷ []) t) (λ vs. tt) (reads-plain (0 ∷ []) t)))
+
+spoken-short : (k : ℕ) (t : List ℕ) → length t ≤ 4096 → Short (spoken k t)
+unfolding spoken
+spoken-short k t l =
+    by-option (rowOf k)
+    (λ e. rw (e, spoken) (other (λ z. cc)))
+    (λ row e.
+    rw (e, spoken)
+    (meant-short (λ vs. message (write (row .make (λ i. getD vs i 0)))) (reads (row .tags) t) (λ vs. said (row .make (λ i. getD vs i 0))) (reads-plain (row .tags) t)))
+
+fresh-short : (t : List ℕ) → length t ≤ 4096 → Short (freshened t)
+unfolding freshened
+fresh-short t l =
+    meant-short (λ vs. fresh (getD vs 0 0) (getD vs 1 0) (getD vs 2 0)) (reads (0 ∷ 0 ∷ 0 ∷ []) t) (λ vs. tt) (reads-plain (0 ∷ 0 ∷ 0 ∷ []) t)
+
+alone-short : (m : Meaning) → Short m → (t : List ℕ) → length t ≤ 4096 → Short (alone m t)
+unfolding alone
+alone-short m p t l = meant-short (λ _. m) (reads [] t) (λ vs. p) (reads-plain [] t)
+
+orders-short : AllShort orders
+unfolding orders
+orders-short = (
+  spoken-short 1,
+  (
+    spoken-short 2,
+    (
+      spoken-short 3,
+      (
+        spoken-short 4,
+        (
+          spoken-short 5,
+          (
+            spoken-short 6,
+            (
+              fresh-short,
+              (
+                ticks-short,
+                (
+                  hex-short message (λ bs h. h),
+                  (
+                    hex-short offer (λ bs h. h),
+                    (
+                      alone-short log tt,
+                      (alone-short state tt, tt),
+                    ),
+                  ),
+                ),
+              ),
+            ),
+          ),
+        ),
+      ),
+    ),
+  ),
+)
+
+line-short : (s : List ℕ) → length s ≤ 4096 → Short (lineOf s)
+unfolding lineOf
+line-short s l =
+    by-bool (noWord s)
+    (λ e. rw (e, lineOf) tt)
+    (λ e. rw (e, lineOf) (ordered-short orders orders-short (word s) (rest s) (omega (arith, rest-shorter s))))
+
+answer-short : (m : Meaning) (o : List ℕ) → Short m → 2048 ≤ length o → answer (length o) m ≡ Bad flaw.Long → _≡_ {A = ℕ} 0 1
+unfolding answer
+answer-short blank o p h e = cc
+answer-short (fresh n d own) o p h e = cc
+answer-short (tick k) o p h e = cc
+answer-short (message bs) o p h e = let z : Message (length bs) ≡ Bad flaw.Long = sym (message-good bs o (omega arith)) ∙ e in cc
+answer-short (offer bs) o p h e = let z : Offer (length bs) ≡ Bad flaw.Long = sym (offer-good bs o (omega arith)) ∙ e in cc
+answer-short log o p h e = cc
+answer-short state o p h e = cc
+answer-short (bad f) o p h e = let z : f ≡ flaw.Long = cc in absurd (p z)
+
+pub never-long : (s o o′ : List ℕ) (r : Line) → length s ≤ 4096 → 2048 ≤ length o → Reads (lineOf s) o o′ r → r ≡ Bad flaw.Long → ⊥
+never-long s o o′ r l h d e =
+    let z = answer-short (lineOf s) o (line-short s l) h (sym (d .is) ∙ e) in omega (arith, z)
