@@ -1,7 +1,7 @@
 -- What was found before an act: the records that it needs, whether they are free, and what comes of it. Assumes nothing.
 use Prim.Native.Nat.{ℕ, _+_, _≤_, _<_}
-use mathlib.Core.Path.{_≡_, refl, sym, ap, ap₂, _∙_, subst}
-use mathlib.Core.Bool.{true, false}
+use mathlib.Core.Path.{_≡_, refl, sym, ap, _∙_, subst}
+use mathlib.Core.Bool.{Bool, true, false}
 use mathlib.Core.List.{List}
 use native.Mathlib.Omega.{arith}
 use lib.Dec.{leb, eqb}
@@ -9,7 +9,7 @@ use lib.ListN.{length}
 use borrow.Author.Tests.{eqb-true, eqb-false, eq-eqb, ne-eqb, le-leb, lt-leb}
 use Rattle.rules.specs.Limits.{mostTallies}
 use Rattle.rules.specs.Lists.{any}
-use Rattle.rules.specs.Words.{Statement, sameStatement, Tally, join, joinCertificate, State}
+use Rattle.rules.specs.Words.{Statement, sameStatement, Tally, ownBlock, certificate, join, joinCertificate, State}
 use Rattle.rules.specs.Inputs.{saying, stored, statement, tallied}
 use Rattle.rules.specs.Refusals.{hasRoom}
 use Rattle.rules.proofs.Tests.{by-bool}
@@ -22,7 +22,7 @@ use Rattle.store.proofs.Joining.{certificate-joins}
 use Rattle.store.proofs.Forms.{form-statements}
 use Rattle.kept.specs.Parts.{WellFormed}
 use Rattle.acts.specs.Works.{fitting, Tried}
-use Rattle.acts.specs.Plans.{certifiedAt, needed, planned, fits, Newly}
+use Rattle.acts.specs.Plans.{certifiedAt, needed, newPlan, planned, fits, Newly}
 use Rattle.acts.specs.declared.Plan.{Plan}
 use Rattle.acts.specs.declared.Plan.the-variants.{Repeat, New, Full}
 use Rattle.acts.proofs.Works.{count-statements, count-tallies}
@@ -106,19 +106,22 @@ module _ (x : Statement) (s : State) where
   unfolding planned
   planned-repeat a = rw (a, planned)
 
-  pub planned-new : {p q : Found} → Newly x s p q → New p q ≡ planned x s
+  pub planned-new : any (sameStatement x) (s .statements) ≡ false → {f : Bool} {p q : Found} → f ≡ hasRoom (stored x s) → p ≡ certifiedAt (certificate x) (s .tallies)
+      → q ≡ blockAt (ownBlock x 0) (s .tallies) → newPlan f p q ≡ planned x s
   unfolding planned
-  planned-new k = rw (k .isNew, k .room, planned) (ap₂ New (k .certified) (k .own))
+  planned-new a f p q = rw (a, planned) (λ i. newPlan (f i) (p i) (q i))
 
-  pub planned-full : any (sameStatement x) (s .statements) ≡ false → hasRoom (stored x s) ≡ false → Full ≡ planned x s
-  unfolding planned
-  planned-full a h = rw (a, h, planned)
+  newly-planned : {p q : Found} → Newly x s p q → New p q ≡ planned x s
+  newly-planned k = planned-new (k .isNew) (sym (k .room)) (k .certified) (k .own)
 
   -- what a plan tells
   abbrev Tells : Plan → Type 0
   Tells Repeat = any (sameStatement x) (s .statements) ≡ true
   Tells (New p q) = Newly x s p q
   Tells Full = (any (sameStatement x) (s .statements) ≡ false) × (hasRoom (stored x s) ≡ false)
+
+  full-planned : Tells Full → Full ≡ planned x s
+  full-planned h = planned-new (h .0) (sym (h .1)) refl refl
 
   by-plan : {P : Type 0} → (Tells Repeat → P) → ((p q : Found) → Newly x s p q → P) → (Tells Full → P) → P
   by-plan f g h =
@@ -127,12 +130,11 @@ module _ (x : Statement) (s : State) where
 
   pub plan-tells : (r : Plan) → r ≡ planned x s → Tells r
   plan-tells r e =
-      subst Tells (sym e)
-      (by-plan (λ a. subst Tells (planned-repeat a) a) (λ p q k. subst Tells (planned-new k) k) (λ a. subst Tells (planned-full (a .0) (a .1)) a))
+      subst Tells (sym e) (by-plan (λ a. subst Tells (planned-repeat a) a) (λ p q k. subst Tells (newly-planned k) k) (λ a. subst Tells (full-planned a) a))
 
   pub plan-room : WellFormed s → (r : Plan) → r ≡ planned x s → fits r ≡ hasRoom (statement x s .now)
   unfolding fits
   plan-room w r e =
       ap fits e
-      ∙ by-plan (λ a. ap fits (sym (planned-repeat a)) ∙ repeat-room w x a) (λ p q k. ap fits (sym (planned-new k)) ∙ sym (new-room x s (k .isNew) ∙ k .room))
-      (λ a. ap fits (sym (planned-full (a .0) (a .1))) ∙ sym (new-room x s (a .0) ∙ a .1))
+      ∙ by-plan (λ a. ap fits (sym (planned-repeat a)) ∙ repeat-room w x a) (λ p q k. ap fits (sym (newly-planned k)) ∙ sym (new-room x s (k .isNew) ∙ k .room))
+      (λ a. ap fits (sym (full-planned a)) ∙ sym (new-room x s (a .0) ∙ a .1))

@@ -13,7 +13,6 @@ use Rattle.rules.specs.Limits.{mostStatements, mostTallies}
 use Rattle.rules.specs.Lists.{first, any}
 use Rattle.rules.specs.Words.{Statement, message, sameStatement, conflict, Tally, ownBlock, certificate, join, joinCertificate, State}
 use Rattle.rules.specs.Inputs.{saying, withTables, certificateJoined, stored, statement, handled}
-use Rattle.rules.specs.Refusals.{hasRoom}
 use Rattle.wire.specs.Meaning.{statementOf, messageOf}
 use Rattle.wire.specs.declared.Statement as code
 use Rattle.wire.specs.declared.Message.the-variants.{Stated}
@@ -30,12 +29,12 @@ use Rattle.kept.specs.Said.{Sendable}
 use Rattle.rules.proofs.Allowed.{view-within}
 use Rattle.kept.proofs.Statements.{stated}
 use Rattle.acts.specs.Answers.{Stands}
-use Rattle.acts.specs.Plans.{certifiedAt, needed, Newly, Stored}
+use Rattle.acts.specs.Plans.{certifiedAt, needed, newPlan, planned, Newly, Stored}
 use Rattle.acts.specs.Works.{Formed}
 use Rattle.acts.proofs.Works.{count-statements, count-tallies, formed-parts}
 use Rattle.acts.proofs.Rooms.{repeat-length, join-grows, certificate-others, own-differs, room-parts, stored-room}
 use Rattle.acts.proofs.Answers.{handled-statement}
-use Rattle.acts.proofs.Plans.{block-adds, certificate-adds}
+use Rattle.acts.proofs.Plans.{block-adds, certificate-adds, planned-new}
 
 -- ---- as the code has it
 
@@ -91,20 +90,16 @@ module _ (b : List ℕ) (x : Statement) (m : Sendable (stateOf b .settings) (mes
     own-view z = omega (arith, view-within (x .view) (stated (stateOf b .settings) x m .view) .0, ap (λ (v : Tally). v .view) eu)
 
     -- i statements and j tallies are there; its certificate needs k tallies more, its own block l
-    pub new-fits : (p : Found) → p ≡ certifiedAt t (tallies b) → (i j k l : ℕ) → i ≡ countOf statementTable b → j ≡ countOf tallyTable b → k ≡ needed t p → l ≡ needed u q
-        → (ltb i mostStatements && leb (j + (k + l)) mostTallies) ≡ hasRoom (stored x (stateOf b))
+    pub new-planned : any (sameStatement x) (stateOf b .statements) ≡ false → (p : Found) → p ≡ certifiedAt t (tallies b) → (i j k l : ℕ) → i ≡ countOf statementTable b
+        → j ≡ countOf tallyTable b → k ≡ needed t p → l ≡ needed u q → newPlan (ltb i mostStatements && leb (j + (k + l)) mostTallies) p q ≡ planned x (stateOf b)
     unfolding stateOf stateFrom
-    new-fits p ep i j k l ei ej ek el =
+    new-planned new p ep i j k l ei ej ek el =
         let s = stateOf b in
         let n : j + (k + l) ≡ length (join u (joinCertificate t (s .tallies))) =
         omega (arith, count-tallies b, certificate-adds t (s .tallies) p ep, block-adds u (joinCertificate t (s .tallies)) q own-view own-stays) in
-        ap (λ (h : ℕ). ltb h mostStatements && leb (j + (k + l)) mostTallies) (ei ∙ sym (count-statements b))
-        ∙ stored-room s x (j + (k + l)) (n ∙ ap₂ (λ (v w : Tally). length (join w (joinCertificate v (s .tallies)))) et eu)
-
-    pub new-found : (p : Found) → p ≡ certifiedAt t (tallies b) → any (sameStatement x) (stateOf b .statements) ≡ false → hasRoom (stored x (stateOf b)) ≡ true
-        → Newly x (stateOf b) p q
-    unfolding stateOf stateFrom
-    new-found p ep n h = record { isNew = n; room = h; certified = rw (← et) ep; own = rw (← eu) eq }
+        let room = ap (λ (h : ℕ). ltb h mostStatements && leb (j + (k + l)) mostTallies) (ei ∙ sym (count-statements b))
+        ∙ stored-room s x (j + (k + l)) (n ∙ ap₂ (λ (v w : Tally). length (join w (joinCertificate v (s .tallies)))) et eu) in
+        planned-new x s new room (rw (← et) ep) (rw (← eu) eq)
 
   -- ---- it is stored
 

@@ -24,13 +24,18 @@ certifiedAt t us = elim (eqb (t .view) 0) [ true ↦ Nothing | false ↦ blockAt
 unfoldable pub needed : Tally → Found → ℕ
 needed t r = elim (eqb (t .view) 0) [ true ↦ 0 | false ↦ elim r [ At j ↦ 0 | Nothing ↦ 1 ] ]
 
+-- what comes of a new statement, by whether there is room
+abbrev pub newPlan : Bool → Found → Found → Plan
+newPlan true p q = New p q
+newPlan false p q = Full
+
 -- what comes of a statement
 unfoldable pub planned : Statement → State → Plan
 unfolding any sameStatement hasRoom stored certifiedAt certificate firstFrom sameBlock ownBlock
 planned x s =
     elim (any (sameStatement x) (s .statements)) [
       | true ↦ Repeat
-      | false ↦ elim (hasRoom (stored x s)) [ true ↦ New (certifiedAt (certificate x) (s .tallies)) (blockAt (ownBlock x 0) (s .tallies)) | false ↦ Full ]
+      | false ↦ newPlan (hasRoom (stored x s)) (certifiedAt (certificate x) (s .tallies)) (blockAt (ownBlock x 0) (s .tallies))
     ]
 
 -- whether there is room for it

@@ -17,7 +17,7 @@ ghost use Rattle.store.specs.Changes.{blockAt, certifying};
 ghost use Rattle.store.specs.Meaning.{tallyOf};
 ghost use Rattle.kept.specs.Said.{Sendable};
 ghost use Rattle.acts.specs.Works.{Formed, Works, Tried};
-ghost use Rattle.acts.specs.Plans.{certifiedAt, needed, planned, fits, Newly, Stored};
+ghost use Rattle.acts.specs.Plans.{certifiedAt, needed, newPlan, planned, fits, Newly, Stored};
 ghost use Rattle.acts.specs.Answers.{answered, Stands};
 use settings::Settings;
 use store::Found;
@@ -200,6 +200,16 @@ pub fn voting(
     send_both(out, at, Message::Stated(x), vote)
 }
 
+// What comes of a new statement, by whether there is room.
+fn new_plan(room: bool, certified: Found, own: Found) -> Plan
+    ensures { λ r. ⌜ r ≡ newPlan room certified own ⌝ }
+{
+    if room {
+        return Plan::New(certified, own);
+    }
+    Plan::Full
+}
+
 // What comes of a statement, by one search each for it and its two tallies.
 pub fn planned(store: &[u8], x: Statement) -> Plan
     requires { ⌜ (Formed (now store)) × (Sendable (stateOf (now store) .settings) (said (statementOf x none))) ⌝ }
@@ -214,12 +224,9 @@ pub fn planned(store: &[u8], x: Statement) -> Plan
     let own = store::find_tally(store, block);
     let records = needed(certificate, certified) + needed(block, own);
     let station = Station::load(store);
-    let has_room = (station.statements < Settings::MOST_STATEMENTS)
+    let room = (station.statements < Settings::MOST_STATEMENTS)
         & (station.tallies + records <= Settings::MOST_TALLIES);
-    if !has_room {
-        return Plan::Full;
-    }
-    Plan::New(certified, own)
+    new_plan(room, certified, own)
 }
 
 // Whether there is room for what comes of a statement.

@@ -1,6 +1,6 @@
 -- `acts::planned` meets its contract: a repeat, or what its two tallies need decides. Assumes nothing.
-use Rattle.acts.proofs.Plans.{needed-few, planned-repeat, planned-new, planned-full}
-use Rattle.acts.proofs.Statements.{is-repeat, is-new, new-fits, new-found}
+use Rattle.acts.proofs.Plans.{needed-few, planned-repeat}
+use Rattle.acts.proofs.Statements.{is-repeat, is-new, new-planned}
 use Rattle.acts.proofs.Places.{sendable-certifies}
 use Rattle.store.proofs.Loaded.{loaded-statements, loaded-tallies}
 use Rattle.store.proofs.Forms.{form-long, form-tallies}
@@ -8,9 +8,8 @@ use Rattle.store.specs.Meaning.{tallyOf}
 use Rattle.store.specs.Decode.{stateOf}
 use Rattle.wire.specs.Meaning.{statementOf}
 use mathlib.Core.Option.{none}
-use mathlib.Core.Path.{sym, _∙_}
+use mathlib.Core.Path.{_∙_}
 use native.Mathlib.Omega.{arith}
-use borrow.Author.Tests.{not-true, not-false}
 use borrow.Author.Needs.{needs}
 use Rattle.acts.proofs.planned.Statement.{statement}
 use Rattle.acts.proofs.planned.Tie as tie
@@ -59,11 +58,14 @@ load-requires : tie.Need-load-requires
 load-requires c κs =
     form-long _ (c .before .before .before .before .before .before .before .before .before .before .pre .0 .form)
 
-add-has-room : tie.Need-add-has-room
-add-has-room c =
+add-room : tie.Need-add-room
+add-room c =
     let start = c .before .before .before .before .before .before .before .before .before .before .before .before .before in
     let load = c .before .before .load in
     omega (arith, loaded-tallies (load .result) (start .args .store .now) (load .ensures), form-tallies _ (start .pre .0 .form), c .before .before .before .before .needed .ensures, needed-few (tallyOf (c .before .before .before .before .before .before .before .before .certificate .result)) (c .before .before .before .before .before .before .before .find-certificate .result), c .before .before .before .needed2 .ensures, needed-few (tallyOf (c .before .before .before .before .before .before .own-block .result)) (c .before .before .before .before .before .find-tally .result))
+
+new-plan-requires : tie.Need-new-plan-requires
+new-plan-requires c κs = search needs
 
 returns-2 : tie.Need-returns-2
 returns-2 c =
@@ -76,22 +78,8 @@ returns-2 c =
     let block = c .before .before .before .before .before .before .before .own-block in
     let own = c .before .before .before .before .before .before .find-tally in
     let load = c .before .before .before .load in
-    let room = new-fits b x (start .pre .1) (tallyOf (certificate .result)) (tallyOf (block .result)) (certificate .ensures) (block .ensures) (own .result) (own .ensures) (certified .result) (certified .ensures) _ _ _ _ (loaded-statements (load .result) b (load .ensures)) (loaded-tallies (load .result) b (load .ensures)) (c .before .before .before .before .before .needed .ensures) (c .before .before .before .before .needed2 .ensures) in
-    planned-full x (stateOf b) (is-new b x (found .result) (found .ensures) (c .before .before .before .before .before .before .before .before .before .before .enum-told .given .1)) (sym room ∙ not-true _ (c .if1 .taken))
-
-returns-3 : tie.Need-returns-3
-returns-3 c =
-    let start = c .before .before .before .before .before .before .before .before .before .before .before .before .before .before in
-    let b = start .args .store .now in
-    let x = statementOf (start .args .x) none in
-    let found = c .before .before .before .before .before .before .before .before .before .before .before .before .find-statement in
-    let certificate = c .before .before .before .before .before .before .before .before .before .certificate in
-    let certified = c .before .before .before .before .before .before .before .before .find-certificate in
-    let block = c .before .before .before .before .before .before .before .own-block in
-    let own = c .before .before .before .before .before .before .find-tally in
-    let load = c .before .before .before .load in
-    let room = new-fits b x (start .pre .1) (tallyOf (certificate .result)) (tallyOf (block .result)) (certificate .ensures) (block .ensures) (own .result) (own .ensures) (certified .result) (certified .ensures) _ _ _ _ (loaded-statements (load .result) b (load .ensures)) (loaded-tallies (load .result) b (load .ensures)) (c .before .before .before .before .before .needed .ensures) (c .before .before .before .before .needed2 .ensures) in
-    planned-new x (stateOf b) (new-found b x (start .pre .1) (tallyOf (certificate .result)) (tallyOf (block .result)) (certificate .ensures) (block .ensures) (own .result) (own .ensures) (certified .result) (certified .ensures) (is-new b x (found .result) (found .ensures) (c .before .before .before .before .before .before .before .before .before .before .enum-told .given .1)) (sym room ∙ not-false _ (c .if1 .left)))
+    c .new-plan .ensures
+    ∙ new-planned b x (start .pre .1) (tallyOf (certificate .result)) (tallyOf (block .result)) (certificate .ensures) (block .ensures) (own .result) (own .ensures) (is-new b x (found .result) (found .ensures) (c .before .before .before .before .before .before .before .before .before .before .enum-told .given .1)) (certified .result) (certified .ensures) _ _ _ _ (loaded-statements (load .result) b (load .ensures)) (loaded-tallies (load .result) b (load .ensures)) (c .before .before .before .before .before .needed .ensures) (c .before .before .before .before .needed2 .ensures)
 
 pub planned-spec : {M : Type 1} → statement M
 planned-spec =
@@ -109,6 +97,6 @@ planned-spec =
     needed-requires-2
     add-records
     load-requires
-    add-has-room
-    returns-2
-    returns-3)
+    add-room
+    new-plan-requires
+    returns-2)
