@@ -1,7 +1,7 @@
 -- Tests as the code has them and as the rules do. Assumes nothing.
 use Prim.Native.Nat.{ℕ, _-_, _^_, _<_, _≤_}
-use mathlib.Core.Path.{_≡_, refl, sym, ap, _∙_}
-use mathlib.Core.Bool.{Bool, true, false, _&&_, and-true, and-false, Bool·beq}
+use mathlib.Core.Path.{_≡_, sym, ap, _∙_}
+use mathlib.Core.Bool.{Bool, true, false, _&&_, and-true, and-false}
 use mathlib.Core.Option.{none}
 use native.Mathlib.Omega.{arith}
 use native.Mathlib.Nat.{mod-zero, pow-le-pow-right}
@@ -10,7 +10,7 @@ use borrow.Author.Tests.{lt-ltb, ltb-true, leb-true, le-leb, lt-leb}
 use Rattle.fields.specs.declared.Name.{Name}
 use Rattle.fields.specs.Names.{nameOf}
 use Rattle.rules.specs.Limits.{firstView, lastView}
-use Rattle.rules.specs.Lists.{iff, within}
+use Rattle.rules.specs.Lists.{within}
 use Rattle.rules.specs.Messages.{newView, viewAllowed, blockAllowed, maskAllowed, certificateAllowed, allowed}
 use Rattle.rules.specs.Sizes.{Settings, leader}
 use Rattle.rules.specs.Words.{message}
@@ -20,13 +20,6 @@ use Rattle.wire.specs.declared.Message.{Message}
 use Rattle.wire.specs.declared.Message.the-variants.{Stated, Vote, Blame, BlameSet, Status}
 use Rattle.wire.specs.Meaning.{statementOf, messageOf, Writable}
 use Rattle.wire.proofs.Statements.{link-word, new-view-said, propose-said}
-
-pub same-iff : (a b : Bool) → Bool·beq a b ≡ iff a b
-unfolding iff
-same-iff true true = refl
-same-iff true false = refl
-same-iff false true = refl
-same-iff false false = refl
 
 -- a mask of 16 bits has none at n or above, where n is 16 or more
 pub mask-wide : (m n : ℕ) → m < 2 ^ 16 → 16 ≤ n → true ≡ ltb m (2 ^ n)

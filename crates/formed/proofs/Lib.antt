@@ -2,6 +2,5 @@ pub mod Walks
 pub mod SameMarks
 pub mod Searches
 pub mod Forms
-pub mod Blocks
 pub mod Parts
 pub mod Whole

@@ -36,10 +36,6 @@ pub record Counts (t : Table) (b : List ℕ) (count : ℕ) : Type 0 where
 unfoldable pub fits : List ℕ → ℕ → ℕ → ℕ → ℕ → Bool
 fits b base size room count = leb count room && eqb (number b (base + size * count) (size * room - size * count)) 0
 
--- the record at a place begins with this view, height and name
-unfoldable pub begins : List ℕ → ℕ → ℕ → ℕ → ℕ → Bool
-begins b at view height name = eqb view (number b at 4) && eqb height (number b (at + 4) 4) && eqb name (number b (at + 8) 32)
-
 -- the marks of a table's first n records: the last four bytes of their names
 abbrev pub Marked : List ℕ → ℕ → ℕ → ℕ → List ℕ → Type 0
 Marked b base size n marks = (i : ℕ) → i < n → nth marks i ≡ number b (base + size * i + 36) 4

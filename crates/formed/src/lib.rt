@@ -15,7 +15,6 @@ mod form;
 mod header;
 mod log;
 mod marks;
-mod records;
 mod statements;
 mod tallies;
 
@@ -31,9 +30,6 @@ const TALLY_SIZE: usize = 42;
 const LOG: usize = 21_124;
 
 const NAME_SIZE: usize = 32;
-
-// Where the name is in a record that begins with a view and a height.
-const NAME: usize = 8;
 
 // Whether tallies, blame masks and log are well formed, where the statements are.
 fn tables_good(store: &[u8], station: Station) -> bool

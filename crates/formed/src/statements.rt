@@ -12,7 +12,6 @@ ghost use Rattle.formed.specs.Lent.{Counts, Marked, alone, bare, voteInO
 use super::STATEMENT_SIZE;
 use super::STATEMENTS;
 use super::marks;
-use super::records::begins;
 use store::Station;
 use wire::Statement;
 
@@ -52,27 +51,6 @@ pub fn all_good(store: &[u8], station: Station, count: usize) -> bool
     true
 }
 
-// Whether statement i is the same as this one.
-fn repeats(store: &[u8], i: usize, statement: Statement) -> bool
-    requires { ⌜ (length (now store) ≡ storeLength) × (i < mostStatements) ⌝ }
-    ensures { λ r. ⌜ r ≡ sameStatement (bare statement) (statementAt (now (store .entry)) i) ⌝ }
-{
-    let name = statement.name;
-    if !begins(
-        store,
-        STATEMENTS + STATEMENT_SIZE * i,
-        statement.view,
-        statement.height,
-        name,
-    ) {
-        return false;
-    }
-    let other = store::statement_at(store, i);
-    let link = statement.link;
-    let linked = link.same(other.link);
-    (statement.is_new_view == other.is_new_view) & linked & (statement.author == other.author)
-}
-
 // Whether one of the statements from a place on is the same as this one.
 fn has_statement(store: &[u8], from: usize, count: usize, statement: Statement) -> bool
     requires { ⌜ Counts statementTable (now store) count ⌝ }
@@ -80,7 +58,7 @@ fn has_statement(store: &[u8], from: usize, count: usize, statement: Statement) 
 {
     let mut i = from;
     while i < count {
-        if repeats(store, i, statement) {
+        if store::is_statement(store, i, statement) {
             return true;
         }
         i += 1;

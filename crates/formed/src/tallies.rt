@@ -14,7 +14,6 @@ ghost use Rattle.formed.specs.Lent.{Counts, Marked, Place, bare, Certifi
 use super::TALLIES;
 use super::TALLY_SIZE;
 use super::marks;
-use super::records::begins;
 use allowed::clauses;
 use settings::Settings;
 use store::Tally;
@@ -50,19 +49,12 @@ fn seek(store: &[u8], from: usize, end: usize, block: Tally) -> usize
     requires { ⌜ (length (now store) ≡ storeLength) × (end ≤ mostTallies) ⌝ }
     ensures { λ r. ⌜ Place end (any (sameBlock (tallyOf block)) (rows (tallyAt (now (store .entry))) from (end - from))) r ⌝ }
 {
-    let name = block.name;
     let mut i = from;
     loop {
         if end <= i {
             break end;
         }
-        if begins(
-            store,
-            TALLIES + TALLY_SIZE * i,
-            block.view,
-            block.height,
-            name,
-        ) {
+        if store::is_tally(store, i, block) {
             break i;
         }
         i += 1;

@@ -1,7 +1,7 @@
 -- Tests that hold together, taken apart and put together. What one test of numbers says is borrow.Author.Tests'. Assumes nothing.
 use mathlib.Core.Path.{_≡_, refl, sym, _∙_}
 use Prim.Native.Nat.{ℕ}
-use mathlib.Core.Bool.{Bool, true, false, _&&_, _||_}
+use mathlib.Core.Bool.{Bool, true, false, _&&_, _||_, Bool·beq}
 use mathlib.Core.Logic.{_⊎_, inl, inr}
 use lib.Dec.{eqb}
 use borrow.Author.Tests.{eqb-true}
@@ -75,3 +75,11 @@ iff-sym true true = refl
 iff-sym true false = refl
 iff-sym false true = refl
 iff-sym false false = refl
+
+-- two truths compared as code does
+pub beq-iff : (a b : Bool) → Bool·beq a b ≡ iff a b
+unfolding iff
+beq-iff true true = refl
+beq-iff true false = refl
+beq-iff false true = refl
+beq-iff false false = refl

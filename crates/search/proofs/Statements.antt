@@ -23,7 +23,7 @@ use Rattle.wire.specs.declared.Statement as code
 use Rattle.store.specs.Layout.{statementTable, countOf}
 use Rattle.store.specs.Decode.{statementAt, statements, stateOf}
 use Rattle.store.proofs.Rows.{rows-all}
-use Rattle.store.proofs.Searches.{beq-iff}
+use Rattle.rules.proofs.Truths.{beq-iff}
 use Rattle.search.specs.Lookups.{Certifies, ranksBelow, uses, opens, turn, ofView}
 
 -- a conflict, where it is known whether the statements are the same

@@ -1,7 +1,7 @@
 -- The place of the first record that matches: the search row by row, and what a find or a miss tells. Assumes nothing.
 use Prim.Native.Nat.{ℕ, zero, suc, _+_, _-_, _*_, _^_, _<_, _≤_}
 use mathlib.Core.Path.{_≡_, refl, sym, ap, _∙_, subst}
-use mathlib.Core.Bool.{Bool, true, false, not, _&&_, Bool·beq}
+use mathlib.Core.Bool.{Bool, true, false, not, _&&_}
 use mathlib.Core.List.{List, [], _∷_, _++_}
 use mathlib.Core.Option.{none, some}
 use native.Mathlib.Omega.{arith}
@@ -190,14 +190,6 @@ statement-tests b k x i l =
     let e = key-splits b k (placeOf statementTable i) (x .view) (x .height) l in
     regroup (iff (x .isNewView) (y .isNewView)) (eqb (x .view) (y .view)) (eqb (x .height) (y .height)) (eqb (x .name) (y .name)) (eqb (x .link) (y .link)) (eqb (x .author) (y .author))
     ∙ ap (λ (e : Bool). e && eqb (x .name) (y .name) && (iff (x .isNewView) (y .isNewView) && (eqb (x .author) (y .author) && eqb (x .link) (y .link)))) (sym e)
-
--- code tests two truths as != does
-pub beq-iff : (a b : Bool) → Bool·beq a b ≡ iff a b
-unfolding iff
-beq-iff true true = refl
-beq-iff true false = refl
-beq-iff false true = refl
-beq-iff false false = refl
 
 -- x held against statement i by the answer r of the block's test
 module _ (b : List ℕ) (k : Bytes b) (x : Statement) (i key : ℕ) (l : x .height < 256 ^ 4) (e : key ≡ x .view * 256 ^ 4 + x .height) (r : Bool)

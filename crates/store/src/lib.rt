@@ -306,7 +306,7 @@ fn is_block(store: &[u8], at: usize, key: u64, name: Name) -> bool
 }
 
 // Whether tally i is of the same block.
-fn is_tally(store: &[u8], i: usize, tally: Tally) -> bool
+pub fn is_tally(store: &[u8], i: usize, tally: Tally) -> bool
     requires { ⌜ (length (now store) ≡ storeLength) × (i < mostTallies) ⌝ }
     ensures { λ r. ⌜ r ≡ sameBlock (tallyOf tally) (tallyAt (now (store .entry)) i) ⌝ }
 {
@@ -337,7 +337,7 @@ pub fn find_tally(store: &[u8], tally: Tally) -> Found
 }
 
 // Whether statement i is the same as this one, but for the mask.
-fn is_statement(store: &[u8], i: usize, statement: Statement) -> bool
+pub fn is_statement(store: &[u8], i: usize, statement: Statement) -> bool
     requires { ⌜ (length (now store) ≡ storeLength) × (i < mostStatements) ⌝ }
     ensures { λ r. ⌜ r ≡ sameStatement (statementOf statement none) (statementAt (now (store .entry)) i) ⌝ }
 {
@@ -346,13 +346,9 @@ fn is_statement(store: &[u8], i: usize, statement: Statement) -> bool
         return false;
     }
     let other = statement_at(store, i);
-    if statement.is_new_view != other.is_new_view {
-        return false;
-    }
-    if statement.author != other.author {
-        return false;
-    }
-    statement.link.same(other.link)
+    let linked = statement.link.same(other.link);
+    let written = (statement.author == other.author) & linked;
+    (statement.is_new_view == other.is_new_view) & written
 }
 
 // The place of the first statement that is the same.

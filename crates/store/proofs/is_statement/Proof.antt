@@ -1,12 +1,8 @@
--- `is_statement` meets its contract: the block decides, then the kind, the author and the link. Assumes nothing.
-use Rattle.store.proofs.Searches.{other-block, same-block, beq-iff}
+-- `is_statement` meets its contract: the block decides, then kind, author and link together. Assumes nothing.
+use Rattle.rules.proofs.Truths.{beq-iff}
+use Rattle.store.proofs.Searches.{other-block, same-block}
 use Rattle.wire.specs.Meaning.{statementOf}
-use Rattle.rules.specs.Lists.{iff}
-use borrow.Author.Tests.{eq-eqb, ne-eqb, not-true, not-false}
 use mathlib.Core.Option.{none}
-use mathlib.Core.Path.{_≡_, sym, _∙_}
-use mathlib.Core.Bool.{true, false}
-use mathlib.Core.Path.{_≡_}
 use borrow.Author.Needs.{needs}
 use Rattle.store.proofs.is_statement.Statement.{statement}
 use Rattle.store.proofs.is_statement.Tie as tie
@@ -35,55 +31,23 @@ returns c =
 statement-at-requires : tie.Need-statement-at-requires
 statement-at-requires c κs = search needs
 
-returns-2 : tie.Need-returns-2
-unfolding statementOf
-returns-2 c =
-    let after-statement-at = c .before .before .before in
-    let at-if1 = after-statement-at .before in
-    let after-is-block = at-if1 .before in
-    let after-key-of = after-is-block .before in
-    let after-shared-slice-known = after-key-of .before in
-    let start = after-shared-slice-known .before in
-    let a = start .args in
-    let x = statementOf (a .statement) none in
-    let y = after-statement-at .statement-at .result in
-    let d : iff (a .statement .«is_new_view») (y .«is_new_view») ≡ false = sym (beq-iff _ _) ∙ not-true _ (c .if2 .taken) in
-    rw d at (same-block (a .store .now) (after-shared-slice-known .shared-slice-known .given) x (a .i) _ (start .good .1 .1 .0 .1 .1 .1 .1 .0 .1) (after-key-of .key-of .ensures) _ (after-is-block .is-block .ensures) (at-if1 .if1 .left) _ (after-statement-at .statement-at .ensures))
-
-returns-3 : tie.Need-returns-3
-unfolding statementOf
-returns-3 c =
-    let at-if2 = c .before .before .before in
-    let after-statement-at = at-if2 .before .before .before in
-    let at-if1 = after-statement-at .before in
-    let after-is-block = at-if1 .before in
-    let after-key-of = after-is-block .before in
-    let after-shared-slice-known = after-key-of .before in
-    let start = after-shared-slice-known .before in
-    let a = start .args in
-    let x = statementOf (a .statement) none in
-    let y = after-statement-at .statement-at .result in
-    let d : iff (a .statement .«is_new_view») (y .«is_new_view») ≡ true = sym (beq-iff _ _) ∙ not-false _ (at-if2 .if2 .left) in
-    rw (d, ne-eqb (a .statement .author) (y .author) (c .if3 .taken)) at (same-block (a .store .now) (after-shared-slice-known .shared-slice-known .given) x (a .i) _ (start .good .1 .1 .0 .1 .1 .1 .1 .0 .1) (after-key-of .key-of .ensures) _ (after-is-block .is-block .ensures) (at-if1 .if1 .left) _ (after-statement-at .statement-at .ensures))
-
 same-requires : tie.Need-same-requires
 same-requires c κs = search needs
 
-returns-4 : tie.Need-returns-4
+returns-2 : tie.Need-returns-2
 unfolding statementOf
-returns-4 c =
-    let at-if2 = c .before .before .before .before in
-    let after-statement-at = at-if2 .before .before .before in
+returns-2 c =
+    let after-same = c .before .before .before .before in
+    let after-statement-at = after-same .before in
     let at-if1 = after-statement-at .before in
     let after-is-block = at-if1 .before in
     let after-key-of = after-is-block .before in
     let after-shared-slice-known = after-key-of .before in
     let start = after-shared-slice-known .before in
     let a = start .args in
-    let x = statementOf (a .statement) none in
     let y = after-statement-at .statement-at .result in
-    let d : iff (a .statement .«is_new_view») (y .«is_new_view») ≡ true = sym (beq-iff _ _) ∙ not-false _ (at-if2 .if2 .left) in
-    rw (d, eq-eqb (a .statement .author) (y .author) (c .before .if3 .left), ← c .same .ensures) at (same-block (a .store .now) (after-shared-slice-known .shared-slice-known .given) x (a .i) _ (start .good .1 .1 .0 .1 .1 .1 .1 .0 .1) (after-key-of .key-of .ensures) _ (after-is-block .is-block .ensures) (at-if1 .if1 .left) _ (after-statement-at .statement-at .ensures))
+    rw (beq-iff (a .statement .«is_new_view») (y .«is_new_view»), after-same .same .ensures)
+    (same-block (a .store .now) (after-shared-slice-known .shared-slice-known .given) (statementOf (a .statement) none) (a .i) _ (start .good .1 .1 .0 .1 .1 .1 .1 .0 .1) (after-key-of .key-of .ensures) _ (after-is-block .is-block .ensures) (at-if1 .if1 .left) _ (after-statement-at .statement-at .ensures))
 
 pub is-statement-spec : {M : Type 1} → statement M
 is-statement-spec =
@@ -95,7 +59,5 @@ is-statement-spec =
     is-block-requires
     returns
     statement-at-requires
-    returns-2
-    returns-3
     same-requires
-    returns-4)
+    returns-2)

@@ -1,5 +1,5 @@
 -- `clauses::block_allowed` meets its contract: two tests alike are `iff`. Assumes nothing.
-use Rattle.allowed.proofs.Tests.{same-iff}
+use Rattle.rules.proofs.Truths.{beq-iff}
 use Rattle.rules.specs.Messages.{blockAllowed}
 use borrow.Author.Needs.{needs}
 use Rattle.allowed.proofs.clauses.block_allowed.Statement.{statement}
@@ -11,7 +11,7 @@ is-zero-requires c κs = search needs
 returns : tie.Need-returns
 unfolding blockAllowed
 returns c =
-    rw (c .is-zero .ensures, same-iff)
+    rw (c .is-zero .ensures, beq-iff)
 
 pub block-allowed-spec : {M : Type 1} → statement M
 block-allowed-spec = tie.close (tie.spec is-zero-requires returns)

@@ -22,12 +22,12 @@ loop-holds : tie.Need-loop-holds Inv-loop μ-loop
 loop-holds c =
     refl
 
-repeats-requires : tie.Need-repeats-requires Inv-loop μ-loop
-repeats-requires c κs = search needs
+is-statement-requires : tie.Need-is-statement-requires Inv-loop μ-loop
+is-statement-requires c κs = search needs
 
 returns : tie.Need-returns Inv-loop μ-loop
 returns c =
-    sym (c .before .before .before .loop .inv ∙ any-here (statementAt _) _ _ _ (c .before .before .loop-test .taken) (sym (c .before .repeats .ensures) ∙ c .if1 .taken))
+    sym (c .before .before .before .loop .inv ∙ any-here (statementAt _) _ _ _ (c .before .before .loop-test .taken) (sym (c .before .is-statement .ensures) ∙ c .if1 .taken))
 
 add-i : tie.Need-add-i Inv-loop μ-loop
 add-i c = search needs
@@ -37,7 +37,7 @@ loop-less c = search needs
 
 loop-again : tie.Need-loop-again Inv-loop μ-loop
 loop-again c =
-    c .before .before .before .loop .inv ∙ any-next (statementAt _) _ _ _ (c .before .before .loop-test .taken) (sym (c .before .repeats .ensures) ∙ c .if1 .left)
+    c .before .before .before .loop .inv ∙ any-next (statementAt _) _ _ _ (c .before .before .loop-test .taken) (sym (c .before .is-statement .ensures) ∙ c .if1 .left)
 
 returns-2 : tie.Need-returns-2 Inv-loop μ-loop
 returns-2 c =
@@ -50,7 +50,7 @@ has-statement-spec =
     Inv-loop
     μ-loop
     loop-holds
-    repeats-requires
+    is-statement-requires
     returns
     add-i
     loop-less

@@ -5,7 +5,6 @@ use Rattle.rules.specs.Words.{sameBlock}
 use Rattle.rules.specs.Lists.{any}
 use Rattle.store.specs.Meaning.{tallyOf}
 use Rattle.store.specs.Decode.{rows, tallyAt}
-use Rattle.formed.proofs.Blocks.{begins-tally}
 use Rattle.formed.proofs.Walks.{any-end, any-here, any-next}
 use Rattle.formed.proofs.Searches.{place-here, place-end}
 use borrow.Author.Needs.{needs}
@@ -13,25 +12,19 @@ use Rattle.formed.proofs.tallies.seek.Statement.{statement}
 use Rattle.formed.proofs.tallies.seek.Tie as tie
 
 abbrev Inv-loop : tie.InvT-loop
-Inv-loop store from end block name i₀ i =
+Inv-loop store from end block i₀ i =
     any (sameBlock (tallyOf block)) (rows (tallyAt store) from (end - from)) ≡ any (sameBlock (tallyOf block)) (rows (tallyAt store) i (end - i))
 
 abbrev μ-loop : tie.MeasureT-loop
-μ-loop store from end block name i₀ i =
+μ-loop store from end block i₀ i =
     end - i
 
 loop-holds : tie.Need-loop-holds Inv-loop μ-loop
 loop-holds c =
     refl
 
-mul-begins : tie.Need-mul-begins Inv-loop μ-loop
-mul-begins c = search needs
-
-add-begins : tie.Need-add-begins Inv-loop μ-loop
-add-begins c = search needs
-
-begins-requires : tie.Need-begins-requires Inv-loop μ-loop
-begins-requires c κs = search needs
+is-tally-requires : tie.Need-is-tally-requires Inv-loop μ-loop
+is-tally-requires c κs = search needs
 
 add-i : tie.Need-add-i Inv-loop μ-loop
 add-i c = search needs
@@ -41,7 +34,7 @@ loop-less c = search needs
 
 loop-again : tie.Need-loop-again Inv-loop μ-loop
 loop-again c =
-    c .before .before .before .loop .inv ∙ any-next (tallyAt _) _ _ _ (c .before .before .if1 .left) (sym (begins-tally _ (c .before .before .before .before .before .before .args .block) _) ∙ sym (c .before .begins .ensures) ∙ c .if2 .left)
+    c .before .before .before .loop .inv ∙ any-next (tallyAt _) _ _ _ (c .before .before .if1 .left) (sym (c .before .is-tally .ensures) ∙ c .if2 .left)
 
 returns : tie.Need-returns Inv-loop μ-loop
 returns c =
@@ -49,7 +42,7 @@ returns c =
 
 returns-2 : tie.Need-returns-2 Inv-loop μ-loop
 returns-2 c =
-    place-here _ _ _ (c .before .before .if1 .left) (c .before .before .before .loop .inv ∙ any-here (tallyAt _) _ _ _ (c .before .before .if1 .left) (sym (begins-tally _ (c .before .before .before .before .before .before .args .block) _) ∙ sym (c .before .begins .ensures) ∙ c .if2 .taken))
+    place-here _ _ _ (c .before .before .if1 .left) (c .before .before .before .loop .inv ∙ any-here (tallyAt _) _ _ _ (c .before .before .if1 .left) (sym (c .before .is-tally .ensures) ∙ c .if2 .taken))
 
 pub seek-spec : {M : Type 1} → statement M
 seek-spec =
@@ -58,9 +51,7 @@ seek-spec =
     Inv-loop
     μ-loop
     loop-holds
-    mul-begins
-    add-begins
-    begins-requires
+    is-tally-requires
     add-i
     loop-less
     loop-again
