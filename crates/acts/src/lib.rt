@@ -12,6 +12,7 @@ ghost use Rattle.rules.specs.Inputs as inputs;
 ghost use Rattle.rules.specs.Refusals.{hasRoom};
 ghost use Rattle.wire.specs.Meaning.{statementOf, messageOf, Writable, Linked};
 ghost use Rattle.outgoing.specs.Wrote.{Says};
+ghost use Rattle.store.specs.Layout.{sizeIn};
 ghost use Rattle.store.specs.Decode.{stateOf, tallies, Form, Left};
 ghost use Rattle.store.specs.Changes.{blockAt, certifying};
 ghost use Rattle.store.specs.Meaning.{tallyOf};
@@ -19,7 +20,6 @@ ghost use Rattle.kept.specs.Said.{Sendable};
 ghost use Rattle.acts.specs.Works.{Formed, Works, Tried};
 ghost use Rattle.acts.specs.Plans.{certifiedAt, needed, newPlan, planned, fits, Newly, Stored};
 ghost use Rattle.acts.specs.Answers.{answered, Stands};
-use settings::Settings;
 use store::Found;
 use store::Phase;
 use store::Station;
@@ -68,7 +68,7 @@ fn send_both(out: &mut [u8], at: usize, first: Message, second: Message) -> usiz
 
 // Whether the blame mask of a view is full.
 pub fn blame_full(store: &[u8], view: u32) -> bool
-    requires { ⌜ (Form (now store)) × (viewAllowed view ≡ true) ⌝ }
+    requires { ⌜ (Form (now store)) × (viewAllowed (stateOf (now store) .settings) view ≡ true) ⌝ }
     ensures { λ r. ⌜ r ≡ inputs.blameFull view (stateOf (now (store .entry))) ⌝ }
 {
     let station = Station::load(store);
@@ -79,7 +79,7 @@ pub fn blame_full(store: &[u8], view: u32) -> bool
 
 // Sends the blame set of a view, the mask now held, and quits.
 pub fn quit_with_set(store: &mut [u8], out: &mut [u8], at: usize, view: u32) -> usize
-    requires { ⌜ (Formed (now store)) × (viewAllowed view ≡ true) × (at + 19 ≤ length (now out)) ⌝ }
+    requires { ⌜ (Formed (now store)) × (viewAllowed (stateOf (now store) .settings) view ≡ true) × (at + 19 ≤ length (now out)) ⌝ }
     ensures { λ r. ⌜ Works (inputs.quit (toAll (blameSet view (inputs.blamesOf view (stateOf (now (store .entry))))) ∷ []) (stateOf (now (store .entry)))) (now (out .entry)) at (now (store .exit)) (now (out .exit)) r ⌝ }
 {
     let held = store::blame_at(store, view as usize - 1);
@@ -89,7 +89,7 @@ pub fn quit_with_set(store: &mut [u8], out: &mut [u8], at: usize, view: u32) -> 
 
 // A mask joins the blames of a view; at f+1, while the station is in that view, it sends the set and quits.
 pub fn blaming(store: &mut [u8], out: &mut [u8], at: usize, view: u32, mask: u16) -> usize
-    requires { ⌜ (Formed (now store)) × (viewAllowed view ≡ true) × (mask < 2 ^ (stateOf (now store) .settings .n)) × (at + 19 ≤ length (now out)) ⌝ }
+    requires { ⌜ (Formed (now store)) × (viewAllowed (stateOf (now store) .settings) view ≡ true) × (mask < 2 ^ (stateOf (now store) .settings .n)) × (at + 19 ≤ length (now out)) ⌝ }
     ensures { λ r. ⌜ Works (inputs.blaming view mask (stateOf (now (store .entry)))) (now (out .entry)) at (now (store .exit)) (now (out .exit)) r ⌝ }
 {
     store::join_blame(store, view, mask);
@@ -128,7 +128,7 @@ fn needed(tally: Tally, place: Found) -> usize
 
 // A certificate's mask joins its tally as it was found.
 fn join_certified(store: &mut [u8], certificate: Tally, place: Found)
-    requires { ⌜ (Form (now store)) × (length (joinCertificate (tallyOf certificate) (tallies (now store))) ≤ mostTallies) × (place ≡ certifiedAt (tallyOf certificate) (tallies (now store))) ⌝ }
+    requires { ⌜ (Form (now store)) × (length (joinCertificate (tallyOf certificate) (tallies (now store))) ≤ mostTallies (sizeIn (now store))) × (place ≡ certifiedAt (tallyOf certificate) (tallies (now store))) ⌝ }
     ensures { λ _. ⌜ Left (now (store .exit)) (certifying (tallyOf certificate) (stateOf (now (store .entry)))) ⌝ }
 {
     if certificate.view != 0 {
@@ -143,7 +143,7 @@ pub fn tallied(store: &mut [u8], tally: Tally) -> bool
 {
     let place = find_certificate(store, tally);
     let station = Station::load(store);
-    if Settings::MOST_TALLIES < station.tallies + needed(tally, place) {
+    if store::most_tallies_in(store) < station.tallies + needed(tally, place) {
         return false;
     }
     join_certified(store, tally, place);
@@ -224,8 +224,8 @@ pub fn planned(store: &[u8], x: Statement) -> Plan
     let own = store::find_tally(store, block);
     let records = needed(certificate, certified) + needed(block, own);
     let station = Station::load(store);
-    let room = (station.statements < Settings::MOST_STATEMENTS)
-        & (station.tallies + records <= Settings::MOST_TALLIES);
+    let room = (station.statements < store::most_statements_in(store))
+        & (station.tallies + records <= store::most_tallies_in(store));
     new_plan(room, certified, own)
 }
 

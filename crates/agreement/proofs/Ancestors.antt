@@ -31,7 +31,7 @@ use Rattle.agreement.proofs.Behind.{SoundVote, Grounds, grounds}
 use Rattle.agreement.proofs.Logs.{tick-log, counted-same, stored-placed, all-placed, stored-lineage}
 
 module _ (X : Group) where
-  open Group X using (n, D, faulty, event, next, parentOf)
+  open Group X using (size, n, D, faulty, event, next, parentOf)
 
   -- by clock c a sound station sent all a propose of block b of height h
   abbrev Shown : ℕ → ℕ → ℕ → Type 0
@@ -145,8 +145,8 @@ module _ (X : Group) where
   -- r says a propose and the vote for it at event j, at clock t, and is in that view as the tick to t + 2D + 1 begins
   pub record Stays (r j k v h b p m a : ℕ) : Type 0 where
     pub ok : Ok X r
-    pub statement : Says n D event r j (toAll (propose v h b p m a))
-    pub ballot : Says n D event r j (toAll (vote v h b r))
+    pub statement : Says size n D event r j (toAll (propose v h b p m a))
+    pub ballot : Says size n D event r j (toAll (vote v h b r))
     pub tick : event k ≡ commonTick
     pub due : ck X k ≡ ck X (suc j) + 2 * D
     pub phase : st X r k .phase ≡ inView
@@ -157,13 +157,13 @@ module _ (X : Group) where
     s = st X r k
 
     after-tick : ck X (suc k) ≡ ck X k + 1
-    after-tick = clock-suc n D event k ∙ ap (λ (y : Event). ck X k + ticks 0 y) (S .tick) ∙ (unfold ticks in refl)
+    after-tick = clock-suc size n D event k ∙ ap (λ (y : Event). ck X k + ticks 0 y) (S .tick) ∙ (unfold ticks in refl)
 
     later : suc j < k
     later =
         let delay = sizes (G X 0) (X .settings) .leastD in
         let d = S .due in
-        clock-before n D event (suc j) k (omega arith)
+        clock-before size n D event (suc j) k (omega arith)
 
     -- the statement of a vote at event j is stored as the tick begins, and it is a propose
     voted-propose : (w : Statement) → In (st X r (suc j) .statements) w → w .view ≡ v → w .height ≡ h → In (st X r k .statements) w × (w .isNewView ≡ false)

@@ -5,7 +5,7 @@ use native.Mathlib.Omega.{arith}
 use native.Mathlib.Decide.{decLt}
 use mathlib.Core.Bool.{true, false}
 use mathlib.Core.Logic.{_⊎_, inl, inr}
-use Rattle.rules.specs.Words.{Statement, conflict, Tally, certificate, below}
+use Rattle.rules.specs.Words.{Statement, conflict, Certificate, certificate, below}
 use Rattle.rules.proofs.Tests.{by-bool}
 use Rattle.rules.proofs.Statements.{no-conflict-propose, no-conflict-newView}
 use Rattle.rules.proofs.Tallies.{AtLeast, at-least-trans, not-below}
@@ -15,7 +15,7 @@ use Rattle.agreement.proofs.Ripe.{Ripe, ripe-view, no-rival, cast-lock}
 use Rattle.agreement.proofs.Behind.{SoundVote, Behind, grounds}
 
 module _ (X : Group) (r k0 t : ℕ) (x : Statement) (R : Ripe X r k0 t x) where
-  open Group X using (n, D, faulty, event, next, parentOf)
+  open Group X using (size, n, D, faulty, event, next, parentOf)
 
   -- the block b of height h has x's block as an ancestor, or is it
   abbrev pub Extends : ℕ → ℕ → Type 0
@@ -38,7 +38,7 @@ module _ (X : Group) (r k0 t : ℕ) (x : Statement) (R : Ripe X r k0 t x) where
   certificate-rank w k = rw k (refl, refl)
 
   -- one vote, from the earlier ones
-  one-vote : (c : ℕ) (w : Statement) (lock : Tally) → Behind X c w → (x .view < w .view → NotBelow (lock .view) (lock .height))
+  one-vote : (c : ℕ) (w : Statement) (lock : Certificate) → Behind X c w → (x .view < w .view → NotBelow (lock .view) (lock .height))
       → (w .isNewView ≡ true → below (certificate w) lock ≡ false) → (w .view ≡ x .view → conflict x w ≡ false)
       → ((v h b : ℕ) → v < w .view → SoundVote X c v h b → NotBelow v h → Extends h b)
       → ((h b : ℕ) → w .height ≡ suc h → SoundVote X c (w .view) h b → NotBelow (w .view) h → Extends h b)

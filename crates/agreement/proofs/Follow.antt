@@ -19,7 +19,7 @@ use Rattle.agreement.proofs.Clock.{last-of}
 use Rattle.agreement.proofs.Group.{Group, st, ck, Ok, G, SaidAt, at-settings, at-clock, kept-run, orderly-run, view-run, prompt, reach}
 
 module _ (X : Group) where
-  open Group X using (n, D, faulty, event, next, parentOf)
+  open Group X using (size, n, D, faulty, event, next, parentOf)
 
   -- G1: a mask of f+1 bits below 2^n names a sound station
   pub names-sound : (i m : ℕ) → m < 2 ^ n → quorum (G X i) m ≡ true → (a : ℕ) × Ok X a × (bit m a ≡ 1)
@@ -38,7 +38,7 @@ module _ (X : Group) where
       no-bool (sym c ∙ f)
 
   next-view : (i j : ℕ) → Ok X i → Ok X j → (v q k1 k : ℕ) → Told (SaidAt X i) (G X i) q v → k1 ≤ k → ck X k1 ≡ q + D → ck X (suc k1) ≡ q + D + 1
-      → v ≤ st X j k1 .view → v < lastView → q + D + 1 + D ≤ ck X k → v + 1 ≤ st X j k .view
+      → v ≤ st X j k1 .view → v < lastView size → q + D + 1 + D ≤ ck X k → v + 1 ≤ st X j k .view
   next-view i j hi hj v q k1 k t le c1 c2 ih w d =
       let up = kept-run X j hj k1 k le in
       let uv = up .view in
@@ -58,5 +58,5 @@ module _ (X : Group) where
   pub follow : (i j : ℕ) → Ok X i → Ok X j → {v e : ℕ} → Past (SaidAt X i) (G X i) v e → (k : ℕ) → e + D ≤ ck X k → v ≤ st X j k .view
   follow i j hi hj start k d = view-run X j hj k .0
   follow i j hi hj (onward {v = v} {e = e} {q = q} p l w t) k d =
-      let r = last-of n D event (X .common) (q + D) k (omega arith) in
+      let r = last-of size n D event (X .common) (q + D) k (omega arith) in
       next-view i j hi hj v q (r .0) k t (le-of-lt (r .1)) (r .2) (r .3) (follow i j hi hj p (r .0) (rw (r .2) (omega arith))) w d

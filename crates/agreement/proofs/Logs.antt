@@ -89,7 +89,7 @@ event-reported i (given j bs) s c r = append-nil _
 event-reported i (offeredTo j b) s c r = append-nil _
 
 module _ (X : Group) where
-  open Group X using (n, D, faulty, event, next, parentOf)
+  open Group X using (size, n, D, faulty, event, next, parentOf)
 
   -- what is due is ripe
   pub due-ripe : (i : ℕ) → Ok X i → (k : ℕ) → ck X k + 1 ≤ next k → (x : Statement) → Due (counted (st X i k)) x → (c : ℕ) × Ripe X i k c x
@@ -162,7 +162,7 @@ module _ (X : Group) where
           let s = st X i k in
           let d = due-facts (counted s) x m in
           let es = counted-same s .0 in
-          let t : ck X k + 1 ≡ ck X (suc k) = sym (clock-suc n D event k ∙ ap (λ (y : Event). ck X k + ticks 0 y) f ∙ (unfold ticks in refl)) in
+          let t : ck X k + 1 ≡ ck X (suc k) = sym (clock-suc size n D event k ∙ ap (λ (y : Event). ck X k + ticks 0 y) f ∙ (unfold ticks in refl)) in
           let sn = X .soon k in
           let (c, r) = due-ripe i ok k (omega arith) x d in
           let (l, u) = stored-lineage i ok k x (logAfter s) (subst (List·Memᴰ x) es (d .0)) (d .1) (subst (λ (y : List Statement). chain y x ≡ some (logAfter s)) es q) in
@@ -218,7 +218,7 @@ module _ (X : Group) where
 
   -- ---- each name is reported once, in order, with its height
 
-  pub log-reported : (i : ℕ) → Ok X i → (k : ℕ) → reported n D event i k ≡ reports 1 (st X i k .log)
+  pub log-reported : (i : ℕ) → Ok X i → (k : ℕ) → reported size n D event i k ≡ reports 1 (st X i k .log)
   unfolding reported at fresh reports
   log-reported i ok zero = refl
   log-reported i ok (suc k) =
@@ -226,8 +226,8 @@ module _ (X : Group) where
       let same = moves-fixed w .2 in
       let s = st X i k in
       let quiet = none-reported o (moves-messages (λ e. reportsIn (e ∷ []) ≡ []) (λ m. unfold reportsIn in refl) (λ j m. unfold reportsIn in refl) (begun (event k) s) (st X i (suc k)) o w) in
-      let e : reportsIn (out n D event i k) ≡ reportsIn (before (event k) s) = ap reportsIn q ∙ reportsIn-append (before (event k) s) o ∙ ap (reportsIn (before (event k) s) ++_) quiet ∙ append-nil _ in
-      ap (_++ reportsIn (out n D event i k)) (log-reported i ok k) ∙ ap (reports 1 (s .log) ++_) e ∙ event-reported i (event k) s (X .common k) (X .runs i ok (suc k)) ∙ ap (reports 1) (sym same)
+      let e : reportsIn (out size n D event i k) ≡ reportsIn (before (event k) s) = ap reportsIn q ∙ reportsIn-append (before (event k) s) o ∙ ap (reportsIn (before (event k) s) ++_) quiet ∙ append-nil _ in
+      ap (_++ reportsIn (out size n D event i k)) (log-reported i ok k) ∙ ap (reports 1 (s .log) ++_) e ∙ event-reported i (event k) s (X .common k) (X .runs i ok (suc k)) ∙ ap (reports 1) (sym same)
 
   -- ---- no due commit differs from the log
 

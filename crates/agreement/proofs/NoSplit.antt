@@ -10,9 +10,10 @@ use mathlib.Core.Logic.{_⊎_, inl, inr}
 use mathlib.Core.Option.{none, some}
 use lib.Dec.{ltb, eqb}
 use borrow.Author.Tests.{lt-ltb, ltb-true}
+use Rattle.rules.specs.Limits.{Size}
 use Rattle.rules.specs.Sizes.{bit}
 use Rattle.rules.specs.Messages.{Message, vote, write, Effect, toAll}
-use Rattle.rules.specs.Words.{full, split, clock as late, Phase, inView, waiting, stopped, Tally, State, fresh}
+use Rattle.rules.specs.Words.{full, split, clock as late, Phase, inView, waiting, stopped, Certificate, State, fresh}
 use Rattle.rules.specs.Inputs.{saying, offered}
 use Rattle.rules.specs.Refusals.{done, running}
 use Rattle.rules.proofs.Tests.{by-bool, no-bool}
@@ -66,58 +67,58 @@ next-after : (k : ℕ) (f : ℕ → ℕ) (j : ℕ) → k ≤ j → next k f j �
 unfolding next
 next-after k f j l = rw (not-lt j k l, next)
 
-module _ (n D : ℕ) (event : ℕ → Event) (k : ℕ) where
+module _ (size : Size) (n D : ℕ) (event : ℕ → Event) (k : ℕ) where
   abbrev E : ℕ → Event
   E = cut k event
 
-  at-before : (i j : ℕ) → j ≤ k → at n D E i j ≡ at n D event i j
+  at-before : (i j : ℕ) → j ≤ k → at size n D E i j ≡ at size n D event i j
   unfolding at
   at-before i zero l = refl
   at-before i (suc j) l =
-      ap (λ (e : Event). happens i e (at n D E i j) .next) (cut-before k event j l) ∙ ap (λ (s : State). happens i (event j) s .next) (at-before i j (omega arith))
+      ap (λ (e : Event). happens i e (at size n D E i j) .next) (cut-before k event j l) ∙ ap (λ (s : State). happens i (event j) s .next) (at-before i j (omega arith))
 
-  at-after : (i j : ℕ) → k ≤ j → at n D E i j ≡ at n D event i k
+  at-after : (i j : ℕ) → k ≤ j → at size n D E i j ≡ at size n D event i k
   unfolding at
-  at-after i zero l = let e : 0 ≡ k = omega arith in ap (at n D event i) e
+  at-after i zero l = let e : 0 ≡ k = omega arith in ap (at size n D event i) e
   at-after i (suc j) l =
       elim (decLe k j) [
         | yes d ↦ (
-            ap (λ (e : Event). happens i e (at n D E i j) .next) (cut-after k event j d) ∙ (unfold happens done saying in refl) ∙ at-after i j d)
-        | no d ↦ (let e : suc j ≡ k = omega arith in at-before i (suc j) (omega arith) ∙ ap (at n D event i) e)
+            ap (λ (e : Event). happens i e (at size n D E i j) .next) (cut-after k event j d) ∙ (unfold happens done saying in refl) ∙ at-after i j d)
+        | no d ↦ (let e : suc j ≡ k = omega arith in at-before i (suc j) (omega arith) ∙ ap (at size n D event i) e)
       ]
 
-  out-before : (i j : ℕ) → j < k → out n D E i j ≡ out n D event i j
+  out-before : (i j : ℕ) → j < k → out size n D E i j ≡ out size n D event i j
   unfolding out
   out-before i j l =
-      ap (λ (e : Event). happens i e (at n D E i j) .out) (cut-before k event j l) ∙ ap (λ (s : State). happens i (event j) s .out) (at-before i j (omega arith))
+      ap (λ (e : Event). happens i e (at size n D E i j) .out) (cut-before k event j l) ∙ ap (λ (s : State). happens i (event j) s .out) (at-before i j (omega arith))
 
-  out-after : (i j : ℕ) → k ≤ j → out n D E i j ≡ []
+  out-after : (i j : ℕ) → k ≤ j → out size n D E i j ≡ []
   unfolding out
-  out-after i j l = ap (λ (e : Event). happens i e (at n D E i j) .out) (cut-after k event j l) ∙ (unfold happens done saying in refl)
+  out-after i j l = ap (λ (e : Event). happens i e (at size n D E i j) .out) (cut-after k event j l) ∙ (unfold happens done saying in refl)
 
-  ticks-before : (j : ℕ) → j ≤ k → clock n D E 0 j ≡ clock n D event 0 j
+  ticks-before : (j : ℕ) → j ≤ k → clock size n D E 0 j ≡ clock size n D event 0 j
   unfolding clock
   ticks-before zero l = refl
   ticks-before (suc j) l = let a = ticks-before j (omega arith) in let b = ap (ticks 0) (cut-before k event j l) in omega arith
 
-  ticks-after : (j : ℕ) → k ≤ j → clock n D E 0 j ≡ clock n D event 0 k
+  ticks-after : (j : ℕ) → k ≤ j → clock size n D E 0 j ≡ clock size n D event 0 k
   unfolding clock
-  ticks-after zero l = let e : 0 ≡ k = omega arith in ap (clock n D event 0) e
+  ticks-after zero l = let e : 0 ≡ k = omega arith in ap (clock size n D event 0) e
   ticks-after (suc j) l =
       elim (decLe k j) [
         | yes d ↦ (let a = ticks-after j d in let b : ticks 0 (E j) ≡ 0 = ap (ticks 0) (cut-after k event j d) ∙ (unfold ticks in refl) in omega arith)
-        | no d ↦ (let e : suc j ≡ k = omega arith in ticks-before (suc j) (omega arith) ∙ ap (clock n D event 0) e)
+        | no d ↦ (let e : suc j ≡ k = omega arith in ticks-before (suc j) (omega arith) ∙ ap (clock size n D event 0) e)
       ]
 
   -- what is said in the cut schedule is said before k
-  says-back : (i l : ℕ) (e : Effect) → Says n D E i l e → (l < k) × Says n D event i l e
+  says-back : (i l : ℕ) (e : Effect) → Says size n D E i l e → (l < k) × Says size n D event i l e
   says-back i l e s =
       elim (decLt l k) [
         | yes d ↦ (d, subst (List·Memᴰ e) (out-before i l d) s)
         | no d ↦ absurd (List·Memᴰ·not-nil (subst (List·Memᴰ e) (out-after i l (omega arith)) s))
       ]
 
-  says-on : (i l : ℕ) (e : Effect) → l < k → Says n D event i l e → Says n D E i l e
+  says-on : (i l : ℕ) (e : Effect) → l < k → Says size n D event i l e → Says size n D E i l e
   says-on i l e d s = subst (List·Memᴰ e) (sym (out-before i l d)) s
 
   given-back : (l j : ℕ) (bs : List ℕ) → E l ≡ given j bs → (l < k) × (event l ≡ given j bs)
@@ -140,35 +141,35 @@ module _ (n D : ℕ) (event : ℕ → Event) (k : ℕ) where
       no-event : idle ≡ offeredTo j b → ⊥
       no-event e = let z : _≡_ {A = ℕ} 0 1 = cc in absurd (omega arith)
 
-  module _ (faulty : ℕ) (heightOf parentOf : ℕ → ℕ) (P : Premises n D event faulty heightOf parentOf) (tick-next : event k ≡ commonTick)
-      (runs : (i : ℕ) → Sound n D event faulty i → (j : ℕ) → j ≤ k → running (at n D event i j) ≡ true) where
+  module _ (faulty : ℕ) (heightOf parentOf : ℕ → ℕ) (P : Premises size n D event faulty heightOf parentOf) (tick-next : event k ≡ commonTick)
+      (runs : (i : ℕ) → Sound size n D event faulty i → (j : ℕ) → j ≤ k → running (at size n D event i j) ≡ true) where
     F : ℕ → ℕ
-    F = next k (clock n D event 0)
+    F = next k (clock size n D event 0)
 
-    after-tick : clock n D event 0 (suc k) ≡ clock n D event 0 k + 1
-    after-tick = clock-suc n D event k ∙ ap (λ (y : Event). clock n D event 0 k + ticks 0 y) tick-next ∙ (unfold ticks in refl)
+    after-tick : clock size n D event 0 (suc k) ≡ clock size n D event 0 k + 1
+    after-tick = clock-suc size n D event k ∙ ap (λ (y : Event). clock size n D event 0 k + ticks 0 y) tick-next ∙ (unfold ticks in refl)
 
-    cut-runs : (i : ℕ) → Sound n D E faulty i → (j : ℕ) → running (at n D E i j) ≡ true
+    cut-runs : (i : ℕ) → Sound size n D E faulty i → (j : ℕ) → running (at size n D E i j) ≡ true
     cut-runs i ok j =
         elim (decLe j k) [
           | yes d ↦ rw (at-before i j d) (runs i ok j d)
           | no d ↦ rw (at-after i j (omega arith)) (runs i ok k (omega arith))
         ]
 
-    cut-soon : (j : ℕ) → clock n D E 0 (suc j) ≤ F j
+    cut-soon : (j : ℕ) → clock size n D E 0 (suc j) ≤ F j
     unfolding F
     cut-soon j =
         elim (decLt j k) [
-          | yes d ↦ rw (next-before k (clock n D event 0) j d, ticks-before (suc j) d) (omega arith)
-          | no d ↦ rw (next-after k (clock n D event 0) j (omega arith), ticks-after (suc j) (omega arith)) (omega arith)
+          | yes d ↦ rw (next-before k (clock size n D event 0) j d, ticks-before (suc j) d) (omega arith)
+          | no d ↦ rw (next-after k (clock size n D event 0) j (omega arith), ticks-after (suc j) (omega arith)) (omega arith)
         ]
 
-    cut-late : (j : ℕ) → F j ≤ clock n D E 0 j + 1
+    cut-late : (j : ℕ) → F j ≤ clock size n D E 0 j + 1
     unfolding F
     cut-late j =
         elim (decLt j k) [
-          | yes d ↦ rw (next-before k (clock n D event 0) j d, ticks-before j (omega arith)) (one-tick n D event (P .common) j)
-          | no d ↦ rw (next-after k (clock n D event 0) j (omega arith), ticks-after j (omega arith)) (omega arith)
+          | yes d ↦ rw (next-before k (clock size n D event 0) j d, ticks-before j (omega arith)) (one-tick size n D event (P .common) j)
+          | no d ↦ rw (next-after k (clock size n D event 0) j (omega arith), ticks-after j (omega arith)) (omega arith)
         ]
 
     cut-common : (j : ℕ) → IsCommon (E j)
@@ -178,22 +179,22 @@ module _ (n D : ℕ) (event : ℕ → Event) (k : ℕ) where
           | no d ↦ subst IsCommon (sym (cut-after k event j (omega arith))) tt
         ]
 
-    cut-lent : (j : ℕ) → IsLent n D E faulty (E j)
+    cut-lent : (j : ℕ) → IsLent size n D E faulty (E j)
     cut-lent j =
         elim (decLt j k) [
-          | yes d ↦ subst (IsLent n D E faulty) (sym (cut-before k event j d)) (lent-on (event j) (P .lent j))
-          | no d ↦ subst (IsLent n D E faulty) (sym (cut-after k event j (omega arith))) tt
+          | yes d ↦ subst (IsLent size n D E faulty) (sym (cut-before k event j d)) (lent-on (event j) (P .lent j))
+          | no d ↦ subst (IsLent size n D E faulty) (sym (cut-after k event j (omega arith))) tt
         ]
       where
-        lent-on : (e : Event) → IsLent n D event faulty e → IsLent n D E faulty e
+        lent-on : (e : Event) → IsLent size n D event faulty e → IsLent size n D E faulty e
         lent-on idle h = tt
         lent-on commonTick h = tt
         lent-on (tickOf j) h = tt
         lent-on (given j bs) h = h
         lent-on (offeredTo j b) h = h
 
-    cut-reaches : (i j : ℕ) → Sound n D E faulty i → Sound n D E faulty j → ¬ (i ≡ j) → (l q : ℕ) (m : Message) → Says n D E i l (toAll m)
-        → clock n D E 0 (suc l) + D + 1 ≤ F q → (h : ℕ) × (h < q) × (E h ≡ given j (write m))
+    cut-reaches : (i j : ℕ) → Sound size n D E faulty i → Sound size n D E faulty j → ¬ (i ≡ j) → (l q : ℕ) (m : Message) → Says size n D E i l (toAll m)
+        → clock size n D E 0 (suc l) + D + 1 ≤ F q → (h : ℕ) × (h < q) × (E h ≡ given j (write m))
     unfolding F
     cut-reaches i j hi hj ne l q m s d =
         let (u, s′) = says-back i l (toAll m) s in
@@ -201,60 +202,60 @@ module _ (n D : ℕ) (event : ℕ → Event) (k : ℕ) where
         let t = after-tick in
         elim (decLt q k) [
           | yes y ↦ (
-              let f = next-before k (clock n D event 0) q y in
-              let (h, a, e) = delivered n D event faulty heightOf parentOf P i j hi hj ne l q m s′ (omega arith) in
+              let f = next-before k (clock size n D event 0) q y in
+              let (h, a, e) = delivered size n D event faulty heightOf parentOf P i j hi hj ne l q m s′ (omega arith) in
               (h, a, cut-before k event h (omega arith) ∙ e))
           | no y ↦ (
-              let f = next-after k (clock n D event 0) q (omega arith) in
-              let (h, a, e) = delivered n D event faulty heightOf parentOf P i j hi hj ne l k m s′ (omega arith) in
+              let f = next-after k (clock size n D event 0) q (omega arith) in
+              let (h, a, e) = delivered size n D event faulty heightOf parentOf P i j hi hj ne l k m s′ (omega arith) in
               (h, omega arith, cut-before k event h a ∙ e))
         ]
 
-    hands-back : (l j : ℕ) (m : Message) → Hands n D E faulty l j m → (l < k) × Hands n D event faulty l j m
+    hands-back : (l j : ℕ) (m : Message) → Hands size n D E faulty l j m → (l < k) × Hands size n D event faulty l j m
     hands-back l j m (ok, (bs, e, r), a) = let (d, e′) = given-back l j bs e in (d, (ok, (bs, e′, r), a))
 
-    offers-back : (l j : ℕ) (m : Message) → Offers n D E faulty l j m → Offers n D event faulty l j m
+    offers-back : (l j : ℕ) (m : Message) → Offers size n D E faulty l j m → Offers size n D event faulty l j m
     offers-back l j m (ok, (b, e, r)) =
         let (d, e′) = offered-back l j b e in
         (ok, (b, e′, subst (λ (s : State). offered b s ≡ some m) (at-before j l (omega arith)) r))
 
-    cut-voters : (l j : ℕ) (m : Message) → Hands n D E faulty l j m → (t : Tally) → carried m ≡ some t → (i : ℕ) → Sound n D E faulty i → bit (t .mask) i ≡ 1
-        → (p : ℕ) × (p < l) × Says n D E i p (toAll (vote (t .view) (t .height) (t .name) i))
+    cut-voters : (l j : ℕ) (m : Message) → Hands size n D E faulty l j m → (t : Certificate) → carried m ≡ some t → (i : ℕ) → Sound size n D E faulty i → bit (t .mask) i ≡ 1
+        → (p : ℕ) × (p < l) × Says size n D E i p (toAll (vote (t .view) (t .height) (t .name) i))
     cut-voters l j m h t c i ok y =
         let (d, h′) = hands-back l j m h in
-        let (p, q, s) = genuine-voters n D event faulty heightOf parentOf l m t c (P .noForgery l j m h′) i ok y in
+        let (p, q, s) = genuine-voters size n D event faulty heightOf parentOf l m t c (P .noForgery l j m h′) i ok y in
         (p, q, says-on i p _ (omega arith) s)
 
-    cut-parents : (l j : ℕ) (m : Message) → Hands n D E faulty l j m ⊎ Offers n D E faulty l j m → Parented parentOf m
-    cut-parents l j m (inl h) = block-parent n D event faulty heightOf parentOf m (P .oneName l j m (inl (hands-back l j m h .1)))
-    cut-parents l j m (inr o) = block-parent n D event faulty heightOf parentOf m (P .oneName l j m (inr (offers-back l j m o)))
+    cut-parents : (l j : ℕ) (m : Message) → Hands size n D E faulty l j m ⊎ Offers size n D E faulty l j m → Parented parentOf m
+    cut-parents l j m (inl h) = block-parent size n D event faulty heightOf parentOf m (P .oneName l j m (inl (hands-back l j m h .1)))
+    cut-parents l j m (inr o) = block-parent size n D event faulty heightOf parentOf m (P .oneName l j m (inr (offers-back l j m o)))
 
     abbrev cut-group : Group
     cut-group =
-        record { n = n; D = D; faulty = faulty; event = E; next = F; parentOf = parentOf; settings = P .settings; few = P .few; common = cut-common; runs = cut-runs; soon = cut-soon; late = cut-late; lent = cut-lent; reaches = cut-reaches; voters = cut-voters; parents = cut-parents }
+        record { size = size; n = n; D = D; faulty = faulty; event = E; next = F; parentOf = parentOf; settings = P .settings; few = P .few; common = cut-common; runs = cut-runs; soon = cut-soon; late = cut-late; lent = cut-lent; reaches = cut-reaches; voters = cut-voters; parents = cut-parents }
 
-    no-split-here : (i : ℕ) → Sound n D event faulty i → ¬ (dueCommits (at n D event i k) ≡ none)
+    no-split-here : (i : ℕ) → Sound size n D event faulty i → ¬ (dueCommits (at size n D event i k) ≡ none)
     unfolding F
     no-split-here i ok e =
-        let f = next-after k (clock n D event 0) k (omega arith) in
+        let f = next-after k (clock size n D event 0) k (omega arith) in
         let c = ticks-before k (omega arith) in
         commits-agree cut-group i ok k (omega arith) (subst (λ (s : State). dueCommits s ≡ none) (sym (at-before i k (omega arith))) e)
 
-module _ (n D : ℕ) (event : ℕ → Event) (faulty : ℕ) (heightOf parentOf : ℕ → ℕ) (P : Premises n D event faulty heightOf parentOf) (room : NeverFull n D event faulty) where
-  runs-on : (k : ℕ) → ((i : ℕ) → Sound n D event faulty i → (j : ℕ) → j ≤ k → running (at n D event i j) ≡ true) → (i : ℕ) → Sound n D event faulty i → running (at n D event i (suc k)) ≡ true
+module _ (size : Size) (n D : ℕ) (event : ℕ → Event) (faulty : ℕ) (heightOf parentOf : ℕ → ℕ) (P : Premises size n D event faulty heightOf parentOf) (room : NeverFull size n D event faulty) where
+  runs-on : (k : ℕ) → ((i : ℕ) → Sound size n D event faulty i → (j : ℕ) → j ≤ k → running (at size n D event i j) ≡ true) → (i : ℕ) → Sound size n D event faulty i → running (at size n D event i (suc k)) ≡ true
   unfolding at running
-  runs-on k ih i ok = go (at n D event i (suc k) .phase) refl
+  runs-on k ih i ok = go (at size n D event i (suc k) .phase) refl
     where
-      go : (p : Phase) → at n D event i (suc k) .phase ≡ p → running (at n D event i (suc k)) ≡ true
+      go : (p : Phase) → at size n D event i (suc k) .phase ≡ p → running (at size n D event i (suc k)) ≡ true
       go inView e = rw (e, running)
       go (waiting q) e = rw (e, running)
       go (stopped full) e = absurd (room i ok (suc k) .0 e)
       go (stopped late) e = absurd (room i ok (suc k) .1 e)
       go (stopped split) e =
-          let (t, d) = happens-split i (event k) (at n D event i k) (P .common k) (ih i ok k (omega arith)) e in
-          absurd (no-split-here n D event k faulty heightOf parentOf P t ih i ok d)
+          let (t, d) = happens-split i (event k) (at size n D event i k) (P .common k) (ih i ok k (omega arith)) e in
+          absurd (no-split-here size n D event k faulty heightOf parentOf P t ih i ok d)
 
-  runs-to : (k i : ℕ) → Sound n D event faulty i → (j : ℕ) → j ≤ k → running (at n D event i j) ≡ true
+  runs-to : (k i : ℕ) → Sound size n D event faulty i → (j : ℕ) → j ≤ k → running (at size n D event i j) ≡ true
   unfolding at fresh running
   runs-to zero i ok j l = let e : j ≡ 0 = omega arith in rw e refl
   runs-to (suc k) i ok j l =
@@ -264,5 +265,5 @@ module _ (n D : ℕ) (event : ℕ → Event) (faulty : ℕ) (heightOf parentOf :
       ]
 
   -- a sound station that never wants for records or clock is never stopped: refusal 7 doesn't happen
-  pub never-split : SoundRun n D event faulty
+  pub never-split : SoundRun size n D event faulty
   never-split i ok k = runs-to k i ok k (omega arith)

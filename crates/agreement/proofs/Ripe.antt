@@ -11,7 +11,7 @@ use Rattle.rules.specs.Limits.{maskBits, firstView}
 use Rattle.rules.specs.Lists.{first}
 use Rattle.rules.specs.Sizes.{Settings, bit}
 use Rattle.rules.specs.Messages.{vote, Effect}
-use Rattle.rules.specs.Words.{Statement, message, sameStatement, conflict, Tally, voters, State, inView, waiting, fresh}
+use Rattle.rules.specs.Words.{Statement, message, sameStatement, conflict, Certificate, Tally, voters, State, inView, waiting, fresh}
 use Rattle.rules.proofs.Tests.{by-option, no-bool}
 use Rattle.rules.proofs.Searches.{first-none}
 use Rattle.rules.proofs.Statements.{In, in-cong}
@@ -30,7 +30,7 @@ use Rattle.agreement.proofs.Group.{Group, st, ck, Ok, G, SaidAt, moves-
 use Rattle.agreement.proofs.Follow.{told-out, follow}
 
 module _ (X : Group) where
-  open Group X using (n, D, faulty, event, next, parentOf)
+  open Group X using (size, n, D, faulty, event, next, parentOf)
 
   pub odd-stations : n % 2 ≡ 1
   odd-stations = sizes (G X 0) (X .settings) .odd
@@ -77,7 +77,7 @@ module _ (X : Group) where
         let d = R .due in
         let u = X .late k0 in
         let delay = sizes (G X 0) (X .settings) .leastD in
-        let m = last-of n D event (X .common) (t + D) k0 (omega arith) in
+        let m = last-of size n D event (X .common) (t + D) k0 (omega arith) in
         (m .0, m .1, m .2, m .3)
 
     -- G3b: at that moment every sound station is in the view, holds x and has voted for it
@@ -133,7 +133,7 @@ module _ (X : Group) where
 
     -- ---- G3d: from the tick to t + 2D + 1 on every sound station has all sound votes for x, and locks at or above it in later views
 
-    abbrev B : Tally
+    abbrev B : Certificate
     B = block (x .view) (x .height) (x .name)
 
     abbrev Saw : State → Type 0
@@ -170,7 +170,7 @@ module _ (X : Group) where
     begun-locked : (e : Event) (s : State) → LocksAbove s → LocksAbove (begun e s)
     begun-locked e s h u =
         let (a, p, v, c, b, d, l) = begun-same e s in
-        subst (λ (y : Tally). Above y B) (sym l) (h (subst (λ (y : ℕ). x .view < y) v u))
+        subst (λ (y : Certificate). Above y B) (sym l) (h (subst (λ (y : ℕ). x .view < y) v u))
 
     -- along the moves of event k, from a moment at which what is needed holds
     along : (j : ℕ) → Ok X j → (k : ℕ) → LocksAbove (st X j k) → t + 2 * D + 1 ≤ next k → (u : State) (o : List Effect)

@@ -5,6 +5,7 @@ use mathlib.Core.Path.{_≡_, sym, ap, _∙_}
 use Prim.Native.Nat.{ℕ, suc, _+_, _*_}
 use mathlib.Core.List.{IsPrefix}
 use mathlib.Core.Logic.{_⊎_}
+use Rattle.rules.specs.Limits.{Size}
 use Rattle.rules.specs.Messages.{propose, vote, toAll}
 use Rattle.rules.specs.Words.{inView}
 use Rattle.rules.specs.Inputs.{reports}
@@ -16,30 +17,30 @@ use Rattle.agreement.proofs.Ancestors.{commits-lineage}
 use Rattle.agreement.proofs.Needed.{to-group}
 use Rattle.agreement.proofs.NoSplit.{never-split}
 
-module _ (n D : ℕ) (event : ℕ → Event) (faulty : ℕ) (heightOf parentOf : ℕ → ℕ) (X : Schedule n D event faulty heightOf parentOf) where
+module _ (size : Size) (n D : ℕ) (event : ℕ → Event) (faulty : ℕ) (heightOf parentOf : ℕ → ℕ) (X : Schedule size n D event faulty heightOf parentOf) where
   -- Theorem C: a sound station is never stopped
-  pub sound-run : SoundRun n D event faulty
-  sound-run = never-split n D event faulty heightOf parentOf (X .premises) (X .room)
+  pub sound-run : SoundRun size n D event faulty
+  sound-run = never-split size n D event faulty heightOf parentOf (X .premises) (X .room)
 
   abbrev group : Group
-  group = to-group n D event faulty heightOf parentOf (X .premises) sound-run
+  group = to-group size n D event faulty heightOf parentOf (X .premises) sound-run
 
   -- Theorem A: of the logs of two sound stations, at whatever moments, one begins the other
-  pub logs-agree : (i j : ℕ) → Sound n D event faulty i → Sound n D event faulty j → (k l : ℕ)
-      → IsPrefix (at n D event i k .log) (at n D event j l .log) ⊎ IsPrefix (at n D event j l .log) (at n D event i k .log)
+  pub logs-agree : (i j : ℕ) → Sound size n D event faulty i → Sound size n D event faulty j → (k l : ℕ)
+      → IsPrefix (at size n D event i k .log) (at size n D event j l .log) ⊎ IsPrefix (at size n D event j l .log) (at size n D event i k .log)
   logs-agree i j hi hj k l = logs-begin group i j hi hj k l
 
   -- a sound log is linked by parent to genesis, and was reported name by name, each once, in order, with heights 1, 2, 3, ..
-  pub one-clerk : (i : ℕ) → Sound n D event faulty i → (k : ℕ)
-      → Linked parentOf 0 (at n D event i k .log) × (reported n D event i k ≡ reports 1 (at n D event i k .log))
+  pub one-clerk : (i : ℕ) → Sound size n D event faulty i → (k : ℕ)
+      → Linked parentOf 0 (at size n D event i k .log) × (reported size n D event i k ≡ reports 1 (at size n D event i k .log))
   one-clerk i ok k = (log-linked group i ok k, log-reported group i ok k)
 
   -- Theorem B: a sound station that says a propose and its vote at event j, at clock t, and is in that view as the tick to t+2D+1
   -- begins, has that block and all its ancestors in its log after that tick
-  pub vote-commits : (r : ℕ) → Sound n D event faulty r → (j v h b p m a : ℕ)
-      → Says n D event r j (toAll (propose v h b p m a)) → Says n D event r j (toAll (vote v h b r))
-      → (k : ℕ) → event k ≡ commonTick → clock n D event r k ≡ clock n D event r (suc j) + 2 * D → at n D event r k .phase ≡ inView → at n D event r k .view ≡ v
-      → IsPrefix (lineage parentOf h b) (at n D event r (suc k) .log)
+  pub vote-commits : (r : ℕ) → Sound size n D event faulty r → (j v h b p m a : ℕ)
+      → Says size n D event r j (toAll (propose v h b p m a)) → Says size n D event r j (toAll (vote v h b r))
+      → (k : ℕ) → event k ≡ commonTick → clock size n D event r k ≡ clock size n D event r (suc j) + 2 * D → at size n D event r k .phase ≡ inView → at size n D event r k .view ≡ v
+      → IsPrefix (lineage parentOf h b) (at size n D event r (suc k) .log)
   vote-commits r ok j v h b p m a s w k e d ph vw =
-      let alike = clock-alike n D event (X .premises .common) r in
+      let alike = clock-alike size n D event (X .premises .common) r in
       commits-lineage group r j k v h b p m a (record { ok = ok; statement = s; ballot = w; tick = e; due = sym (alike k) ∙ d ∙ ap (_+ 2 * D) (alike (suc j)); phase = ph; view = vw })

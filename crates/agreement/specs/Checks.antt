@@ -5,6 +5,7 @@ use mathlib.Core.List.{List, [], _∷_}
 use mathlib.Core.Option.{Option, none, some}
 use lib.Dec.{ltb, eqb}
 use lib.ListN.{length, getD}
+use Rattle.rules.specs.Limits.{Size}
 use Rattle.rules.specs.Lists.{any, all}
 use Rattle.rules.specs.Sizes.{bit}
 use Rattle.rules.specs.Messages.{Message, newView, propose, vote, blame, blameSet, status, kind, values, read, write, allowed, Effect, toAll, toOne, committed}
@@ -79,14 +80,14 @@ offeredAs (offeredTo j b) p = p j b
 unfoldable pub listed : List Event → ℕ → Event
 listed es k = getD es k idle
 
-module _ (n D : ℕ) (es : List Event) (faulty : ℕ) where
+module _ (size : Size) (n D : ℕ) (es : List Event) (faulty : ℕ) where
   unfoldable pub isSound : ℕ → Bool
   isSound i = ltb i n && eqb (bit faulty i) 0
 
   -- i said to all, before event k, a message that passes a test
   unfoldable pub hasSaid : ℕ → ℕ → (Message → Bool) → Bool
   unfolding some? any toAllThat out listed
-  hasSaid i k p = some? k (λ l. any (toAllThat p) (out n D (listed es) i l))
+  hasSaid i k p = some? k (λ l. any (toAllThat p) (out size n D (listed es) i l))
 
   unfoldable pub votersVoted : (k mask view height name : ℕ) → Bool
   unfolding every implies isSound hasSaid sameMessage
@@ -109,7 +110,7 @@ module _ (n D : ℕ) (es : List Event) (faulty : ℕ) where
   unfoldable pub taken : ℕ → (Message → Bool) → Bool
   unfolding givenTo listed implies isSound ifSome read allowed
   taken k p =
-      givenTo (listed es k) (λ j bs. implies (isSound j) (ifSome (read bs) (λ m. implies (allowed (settingsOf n D j) m) (p m)))) true
+      givenTo (listed es k) (λ j bs. implies (isSound j) (ifSome (read bs) (λ m. implies (allowed (settingsOf size n D j) m) (p m)))) true
 
   unfoldable pub noneForged : Bool
   unfolding every taken isGenuine
@@ -123,7 +124,7 @@ module _ (n D : ℕ) (es : List Event) (faulty : ℕ) where
   unfoldable pub comesInTime : (i j k : ℕ) → Message → Bool
   unfolding every implies ticks clock listed comes
   comesInTime i j k m =
-      every (length es) (λ l. implies (eqb (ticks i (listed es l)) 1 && eqb (clock n D (listed es) i l) (clock n D (listed es) i (suc k) + D)) (comes j k m l))
+      every (length es) (λ l. implies (eqb (ticks i (listed es l)) 1 && eqb (clock size n D (listed es) i l) (clock size n D (listed es) i (suc k) + D)) (comes j k m l))
 
   unfoldable pub saidInTime : (i j k : ℕ) → Effect → Bool
   unfolding ifSome brought comesInTime
@@ -132,11 +133,11 @@ module _ (n D : ℕ) (es : List Event) (faulty : ℕ) where
   unfoldable pub allInTime : Bool
   unfolding every implies isSound saidInTime out listed all
   allInTime =
-      every n (λ i. every n (λ j. implies (isSound i && isSound j) (every (length es) (λ k. all (saidInTime i j k) (out n D (listed es) i k)))))
+      every n (λ i. every n (λ j. implies (isSound i && isSound j) (every (length es) (λ k. all (saidInTime i j k) (out size n D (listed es) i k)))))
 
   unfoldable pub allRun : Bool
   unfolding every implies isSound running at listed
-  allRun = every n (λ i. implies (isSound i) (every (suc (length es)) (λ k. running (at n D (listed es) i k))))
+  allRun = every n (λ i. implies (isSound i) (every (suc (length es)) (λ k. running (at size n D (listed es) i k))))
 
   unfoldable pub allCommon : Bool
   unfolding every isCommon listed
@@ -159,7 +160,7 @@ module _ (n D : ℕ) (es : List Event) (faulty : ℕ) where
     unfolding every taken isOneBlock offeredAs listed implies isSound ifSome offered at
     oneNamed =
         every (length es) (λ k. taken k isOneBlock
-        && offeredAs (listed es k) (λ j b. implies (isSound j) (ifSome (offered b (at n D (listed es) j k)) isOneBlock)))
+        && offeredAs (listed es k) (λ j b. implies (isSound j) (ifSome (offered b (at size n D (listed es) j k)) isOneBlock)))
 
     -- the tests of a schedule: who runs, what is lent, in time, genuine, one block per name, common ticks
     unfoldable pub verdict : List Bool

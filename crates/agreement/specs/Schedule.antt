@@ -7,6 +7,7 @@ use mathlib.Core.List.{List, [], _∷_, _++_, List·Memᴰ}
 use mathlib.Core.Logic.{_⊎_}
 use mathlib.Core.Option.{some}
 use lib.Dec.{eqb}
+use Rattle.rules.specs.Limits.{Size}
 use Rattle.rules.specs.Sizes.{Settings, goodSettings, faults, bit, count}
 use Rattle.rules.specs.Messages.{Message, newView, propose, vote, blame, blameSet, status, read, write, allowed, Effect, toAll, toOne, committed}
 use Rattle.rules.specs.Words.{full, clock as late, stopped, State, fresh}
@@ -48,8 +49,8 @@ IsCommon (given j bs) = Unit {0}
 IsCommon (offeredTo j b) = Unit {0}
 
 -- "alike in every setting but the own number, limits included, station i numbered i"
-abbrev pub settingsOf : ℕ → ℕ → ℕ → Settings
-settingsOf n D i = record { n = n; D = D; own = i }
+abbrev pub settingsOf : Size → ℕ → ℕ → ℕ → Settings
+settingsOf size n D i = record { n = n; D = D; own = i; size = size }
 
 -- the reports of commits among what is said
 unfoldable pub reportsIn : List Effect → List Effect
@@ -58,11 +59,11 @@ reportsIn (toAll m ∷ es) = reportsIn es
 reportsIn (toOne i m ∷ es) = reportsIn es
 reportsIn (committed h b ∷ es) = committed h b ∷ reportsIn es
 
-module _ (n D : ℕ) (event : ℕ → Event) where
+module _ (size : Size) (n D : ℕ) (event : ℕ → Event) where
   -- station i at moment k: "from fresh stores"
   unfoldable pub at : ℕ → ℕ → State
   unfolding fresh happens
-  at i zero = fresh (settingsOf n D i)
+  at i zero = fresh (settingsOf size n D i)
   at i (suc k) = happens i (event k) (at i k) .next
 
   -- what event k makes station i say
@@ -100,10 +101,10 @@ module _ (n D : ℕ) (event : ℕ → Event) where
 
     -- "every setting .. limits included"
     abbrev pub GoodSettings : Type 0
-    GoodSettings = goodSettings (settingsOf n D 0) ≡ true
+    GoodSettings = goodSettings (settingsOf size n D 0) ≡ true
 
     abbrev pub AtMostF : Type 0
-    AtMostF = count faulty ≤ faults (settingsOf n D 0)
+    AtMostF = count faulty ≤ faults (settingsOf size n D 0)
 
     -- "stopped stations count among the f": a sound station is never stopped for want of records or at the last clock. That a due
     -- commit never stops one needs no premise (SoundRun, Theorem C).
@@ -151,7 +152,7 @@ module _ (n D : ℕ) (event : ℕ → Event) where
 
     -- event k hands m over to the sound station j, which takes it
     abbrev pub Hands : (k j : ℕ) → Message → Type 0
-    Hands k j m = Sound j × ((bs : List ℕ) × (event k ≡ given j bs) × (read bs ≡ some m)) × (allowed (settingsOf n D j) m ≡ true)
+    Hands k j m = Sound j × ((bs : List ℕ) × (event k ≡ given j bs) × (read bs ≡ some m)) × (allowed (settingsOf size n D j) m ≡ true)
 
     abbrev pub NoForgery : Type 0
     NoForgery = (k j : ℕ) (m : Message) → Hands k j m → Genuine k m

@@ -14,9 +14,10 @@ use Rattle.rules.specs.Sizes as sizes
 use Rattle.rules.specs.Sizes.{goodSettings, leader}
 use Rattle.rules.specs.Messages.{newView, propose, viewAllowed, blockAllowed, maskAllowed, certificateAllowed, allowed}
 use Rattle.rules.specs.Words as words
-use Rattle.rules.specs.Words.{message, ownBlock, certificate, sameBlock}
+use Rattle.rules.specs.Words.{message, ownBlock, certificate, opened, ofBlock}
 use Rattle.rules.specs.Inputs.{isBlock}
 use Rattle.rules.specs.WellFormed.{isName, isMask, clocksInOrder, lockGood, statementGood, tallyGood, talliesThere, blamesGood, linked}
+use Rattle.rules.proofs.Bounds.{views-most}
 use Rattle.rules.proofs.Tests.{by-bool, and-left, and-right}
 use Rattle.fields.specs.declared.Name.{Name}
 use Rattle.fields.specs.Names.{nameOf}
@@ -29,7 +30,8 @@ use Rattle.settings.specs.declared.Made.{Made}
 use Rattle.settings.specs.declared.Made.the-variants.{Good, Bad}
 use Rattle.wire.specs.Meaning.{statementOf}
 use Rattle.wire.specs.declared.Statement.{Statement}
-use Rattle.store.specs.Decode.{rows, voteOf, statementAt, voteAt, blameAt, blames, stateFrom}
+use Rattle.store.specs.Layout.{sizeIn}
+use Rattle.store.specs.Decode.{rows, voteOf, statementAt, voteAt, blameAt, blamesFor, blames, stateFrom}
 use Rattle.store.specs.Meaning.{courseOf, tallyOf, headerOf}
 use Rattle.store.specs.declared.Phase.{Phase}
 use Rattle.store.specs.declared.Station.{Station}
@@ -46,14 +48,14 @@ words-name n w = lt-ltb _ _ (name-lt n (w .0 .fits) (w .1 .0 .fits) (w .1 .1 .0 
 
 -- ---- settings
 
-module _ (g : Settings) (m : Made) (e : m ≡ made (g .n) (g .delay) (g .own)) where
+module _ (g : Settings) (m : Made) (e : m ≡ made (g .n) (g .delay) (g .own) (g .size)) where
   pub made-good : (h : Settings) → m ≡ Good h → true ≡ goodSettings (settingsOf g)
   unfolding made
   made-good h q = by-bool (goodSettings (settingsOf g)) sym (λ p. let z : Bad ≡ Good h = sym (e ∙ rw p) ∙ q in let y : _≡_ {A = ℕ} 0 1 = cc in absurd (omega arith))
 
   pub made-bad : m ≡ Bad → false ≡ goodSettings (settingsOf g)
   unfolding made
-  made-bad q = by-bool (goodSettings (settingsOf g)) (λ p. let z : Good (record { n = g .n; delay = g .delay; own = g .own }) ≡ Bad = sym (e ∙ rw p) ∙ q in let y : _≡_ {A = ℕ} 0 1 = cc in absurd (omega arith)) sym
+  made-bad q = by-bool (goodSettings (settingsOf g)) (λ p. let z : Good (record { n = g .n; delay = g .delay; own = g .own; size = g .size }) ≡ Bad = sym (e ∙ rw p) ∙ q in let y : _≡_ {A = ℕ} 0 1 = cc in absurd (omega arith)) sym
 
 -- ---- clocks
 
@@ -73,7 +75,7 @@ unfolding lockGood stateFrom headerOf
 lock-is s w = rw (words-name (s .lock .name) w, and-true)
 
 pub tally-is : (g : Settings) (t : Tally) → Words (t .name)
-    → (viewAllowed (t .view) && blockAllowed (t .height) (nameOf (t .name)) && ltb (t .mask) (2 ^ g .n)) ≡ tallyGood (settingsOf g) (tallyOf t)
+    → (viewAllowed (settingsOf g) (t .view) && blockAllowed (t .height) (nameOf (t .name)) && ltb (t .mask) (2 ^ g .n)) ≡ tallyGood (settingsOf g) (opened (tallyOf t))
 unfolding tallyGood tallyOf isMask
 tally-is g t w = rw (words-name (t .name) w, and-true)
 
@@ -119,18 +121,18 @@ module _ (g : sizes.Settings) (v h b l m a : ℕ) where
   new-view-link : allowed g (newView v h b l m a) ≡ true → l < 256 ^ 4
   unfolding allowed viewAllowed within
   new-view-link e =
-      let view = viewAllowed v in
+      let view = viewAllowed g v in
       let block = blockAllowed h b in
       let below = ltb l v in
       let rest = certificateAllowed g h l m in
       let p = and-left (view && block && below) rest (and-left (view && block && below && rest) (eqb a (leader g v)) e) in
       let q = and-left view block (and-left (view && block) below p) in
-      omega (arith, ltb-true l v (and-right (view && block) below p), leb-true v lastView (and-right (leb firstView v) _ q))
+      omega (arith, ltb-true l v (and-right (view && block) below p), leb-true v (lastView (g .size)) (and-right (leb firstView v) _ q), views-most (g .size))
 
   propose-height : allowed g (propose v h b l m a) ≡ true → 1 ≤ h
   unfolding allowed
   propose-height e =
-      let view = viewAllowed v in
+      let view = viewAllowed g v in
       let high = leb 1 h in
       let block = blockAllowed h b in
       let parent = blockAllowed (h - 1) l in
@@ -175,28 +177,30 @@ module _ (x : Statement) (h : Certifies (bare x)) where
 -- ---- its tallies
 
 module _ (ts : List words.Tally) (x : words.Statement) where
-  pub there-missing : any (sameBlock (ownBlock x 0)) ts ≡ false → talliesThere ts x ≡ false
+  pub there-missing : any (ofBlock (ownBlock x 0)) ts ≡ false → talliesThere ts x ≡ false
   unfolding talliesThere
   there-missing e = rw e
 
-  module _ (t : words.Tally) (q : t ≡ certificate x) (e : any (sameBlock (ownBlock x 0)) ts ≡ true) where
+  module _ (t : words.Certificate) (q : t ≡ certificate x) (e : any (ofBlock (ownBlock x 0)) ts ≡ true) where
     pub there-genesis : t .view ≡ 0 → talliesThere ts x ≡ true
     unfolding talliesThere
     there-genesis z = rw (e, ← q, z)
 
-    pub there-both : (t .view ≡ 0 → ⊥) → talliesThere ts x ≡ any (sameBlock t) ts
+    pub there-both : (t .view ≡ 0 → ⊥) → talliesThere ts x ≡ any (ofBlock t) ts
     unfolding talliesThere
     there-both d = rw (e, ← q, ne-eqb _ _ d)
 
 -- ---- blame masks
 
-masks-are : (g : sizes.Settings) (ms : List ℕ) → length ms ≡ lastView → blamesGood g (0 ∷ ms) ≡ all (isMask g) ms
+masks-are : (g : sizes.Settings) (ms : List ℕ) → length ms ≡ lastView (g .size) → blamesGood g (0 ∷ ms) ≡ all (isMask g) ms
 unfolding blamesGood
-masks-are g ms e = rw e
+masks-are g ms e = rw (eq-eqb _ _ e)
 
-pub blames-are : (g : sizes.Settings) (b : List ℕ) → blamesGood g (blames b) ≡ all (isMask g) (rows (blameAt b) 0 lastView)
-unfolding blames
-blames-are g b = masks-are g (rows (blameAt b) 0 lastView) (rows-length (blameAt b) 0 lastView)
+pub blames-are : (g : sizes.Settings) (b : List ℕ) → g .size ≡ sizeIn b → blamesGood g (blames b) ≡ all (isMask g) (rows (blameAt b) 0 (lastView (sizeIn b)))
+unfolding blamesFor
+blames-are g b e =
+    let last = lastView (sizeIn b) in
+    masks-are g (rows (blameAt b) 0 last) (rows-length (blameAt b) 0 last ∙ ap lastView (sym e))
 
 -- ---- the log
 

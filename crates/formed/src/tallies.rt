@@ -4,14 +4,13 @@ ghost use Prim.Native.Nat.{_+_, _-_, _≤_, _<_};
 ghost use lib.ListN.{length};
 ghost use Rattle.rules.specs.Limits.{mostTallies};
 ghost use Rattle.rules.specs.Lists.{all, any, distinct};
-ghost use Rattle.rules.specs.Words.{sameBlock, certificate};
-ghost use Rattle.rules.specs.WellFormed.{tallyGood, talliesThere};
+ghost use Rattle.rules.specs.Words.{opened, ofBlock, certificate};
+ghost use Rattle.rules.specs.WellFormed.{tallyGood, sameTally, talliesThere};
 ghost use Rattle.settings.specs.Made.{settingsOf};
-ghost use Rattle.store.specs.Layout.{storeLength, statementTable, tallyTable};
+ghost use Rattle.store.specs.Layout.{sizeIn, storeLength, statementTable, tallyTable};
 ghost use Rattle.store.specs.Decode.{rows, tallyAt, statements, tallies};
 ghost use Rattle.store.specs.Meaning.{tallyOf};
 ghost use Rattle.formed.specs.Lent.{Counts, Marked, Place, bare, Certifies, AllCertify};
-use super::TALLIES;
 use super::TALLY_SIZE;
 use super::marks;
 use allowed::clauses;
@@ -21,11 +20,13 @@ use wire::Statement;
 
 // Whether a tally is of a view and a block that are allowed, with a mask of these stations.
 fn tally_good(settings: Settings, tally: Tally) -> bool
-    ensures { λ r. ⌜ r ≡ tallyGood (settingsOf settings) (tallyOf tally) ⌝ }
+    ensures { λ r. ⌜ r ≡ tallyGood (settingsOf settings) (opened (tallyOf tally)) ⌝ }
 {
     let name = tally.name;
     let block = clauses::block_allowed(tally.height as u64, name);
-    clauses::view_allowed(tally.view as u64) & block & clauses::mask_within(settings, tally.mask)
+    clauses::view_allowed(settings, tally.view as u64)
+        & block
+        & clauses::mask_within(settings, tally.mask)
 }
 
 // Whether every tally is good.
@@ -46,8 +47,8 @@ pub fn all_good(store: &[u8], settings: Settings, count: usize) -> bool
 
 // The place of a tally of this block, from one place up to another; that other, if there is none.
 fn seek(store: &[u8], from: usize, end: usize, block: Tally) -> usize
-    requires { ⌜ (length (now store) ≡ storeLength) × (end ≤ mostTallies) ⌝ }
-    ensures { λ r. ⌜ Place end (any (sameBlock (tallyOf block)) (rows (tallyAt (now (store .entry))) from (end - from))) r ⌝ }
+    requires { ⌜ (length (now store) ≡ storeLength (sizeIn (now store))) × (end ≤ mostTallies (sizeIn (now store))) ⌝ }
+    ensures { λ r. ⌜ Place end (any (ofBlock (tallyOf block)) (rows (tallyAt (now (store .entry))) from (end - from))) r ⌝ }
 {
     let mut i = from;
     loop {
@@ -64,7 +65,7 @@ fn seek(store: &[u8], from: usize, end: usize, block: Tally) -> usize
 // The place of a tally of this block, looked for from a place on and then before it; the count, if there is none.
 fn find(store: &[u8], begin: usize, count: usize, block: Tally) -> usize
     requires { ⌜ Counts tallyTable (now store) count × (begin ≤ count) ⌝ }
-    ensures { λ r. ⌜ Place count (any (sameBlock (tallyOf block)) (tallies (now (store .entry)))) r ⌝ }
+    ensures { λ r. ⌜ Place count (any (ofBlock (tallyOf block)) (tallies (now (store .entry)))) r ⌝ }
 {
     let later = seek(store, begin, count, block);
     if later < count {
@@ -78,9 +79,14 @@ fn find(store: &[u8], begin: usize, count: usize, block: Tally) -> usize
 }
 
 // Whether a later tally is of the block of tally i: looked for only where its mark is met again.
-fn repeated(store: &[u8], marks: &[u32; 256], i: usize, count: usize) -> bool
-    requires { ⌜ Counts tallyTable (now store) count × Marked (now store) (tallyTable .base) (tallyTable .size) count (now marks) × (i < count) ⌝ }
-    ensures { λ r. ⌜ r ≡ any (sameBlock (tallyAt (now (store .entry)) i)) (rows (tallyAt (now (store .entry))) (i + 1) (count - (i + 1))) ⌝ }
+fn repeated(
+    store: &[u8],
+    marks: &[u32; Settings::MOST_TALLIES_LARGE],
+    i: usize,
+    count: usize,
+) -> bool
+    requires { ⌜ Counts tallyTable (now store) count × Marked (now store) (tallyTable .base (sizeIn (now store))) (tallyTable .size) count (now marks) × (i < count) ⌝ }
+    ensures { λ r. ⌜ r ≡ any (sameTally (tallyAt (now (store .entry)) i)) (rows (tallyAt (now (store .entry))) (i + 1) (count - (i + 1))) ⌝ }
 {
     if !marks::again(marks, i, count) {
         return false;
@@ -92,9 +98,9 @@ fn repeated(store: &[u8], marks: &[u32; 256], i: usize, count: usize) -> bool
 // Whether no two tallies are of one block.
 pub fn distinct(store: &[u8], count: usize) -> bool
     requires { ⌜ Counts tallyTable (now store) count ⌝ }
-    ensures { λ r. ⌜ r ≡ distinct sameBlock (tallies (now (store .entry))) ⌝ }
+    ensures { λ r. ⌜ r ≡ distinct sameTally (tallies (now (store .entry))) ⌝ }
 {
-    let marks = marks::marks_of(store, TALLIES, TALLY_SIZE, count);
+    let marks = marks::marks_of(store, store::tallies_in(store), TALLY_SIZE, count);
     let mut i: usize = 0;
     while i < count {
         if repeated(store, &marks, i, count) {

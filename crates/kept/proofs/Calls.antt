@@ -54,11 +54,11 @@ module _ {s : State} (w : WellFormed s) where
   ifRoom-kept r k =
       by-bool (hasRoom (r .now))
       (λ q.
-      let t = and-2 (leb (length (r .now .statements)) mostStatements) (leb (length (r .now .tallies)) mostTallies) q in
+      let t = and-2 (leb (length (r .now .statements)) (mostStatements (r .now .settings .size))) (leb (length (r .now .tallies)) (mostTallies (r .now .settings .size))) q in
       rw (q, ifRoom)
       (record {
         settings = k .settings;
-        formed = record { formed = k .formed; fewStatements = leb-true _ mostStatements (t .0); fewTallies = leb-true _ mostTallies (t .1) };
+        formed = record { formed = k .formed; fewStatements = leb-true _ (mostStatements (r .now .settings .size)) (t .0); fewTallies = leb-true _ (mostTallies (r .now .settings .size)) (t .1) };
         said = k .said;
       }))
       (λ q. rw (q, ifRoom) (stopping-kept 6 full))

@@ -14,6 +14,7 @@ use Rattle.rules.specs.Words.{Cause, full, split, clock, State}
 use Rattle.rules.specs.Inputs.{Work, handled, offered, ticked}
 use Rattle.rules.specs.Refusals.{done, refused, stopping, hasRoom, ifRoom, running, step, offer, tick}
 use Rattle.rules.specs.WellFormed.{wellFormed}
+use Rattle.rules.proofs.Bounds.{out-least, out-enough}
 use Rattle.rules.proofs.Tests.{by-bool, by-option}
 use Rattle.kept.specs.Parts.{WellFormed}
 use Rattle.kept.proofs.WellFormed.{parts}
@@ -55,7 +56,7 @@ module _ (s : State) where
       (λ m q. rw (r, q, offer) (ifRoom-bytes s (handled m s) 200 (handled-bytes m s))))
       (λ r. let z = refused-bytes 3 s in rw (r, offer) (omega arith))
 
-  pub tick-bytes : WellFormed s → bytes (tick s .out) ≤ largestTick
+  pub tick-bytes : WellFormed s → bytes (tick s .out) ≤ largestTick (s .settings .size)
   unfolding tick
   tick-bytes f =
       by-bool (running s)
@@ -66,16 +67,16 @@ module _ (s : State) where
       (λ w q.
       let k = clocks-parts s (f .formed .clocks) in
       let n = eqb-false (s .clock) lastClock c in
-      rw (r, c, q, tick) (ifRoom-bytes s w largestTick (ticked-bytes f r (omega arith) q)))))
+      rw (r, c, q, tick) (ifRoom-bytes s w (largestTick (s .settings .size)) (ticked-bytes f r (omega arith) q)))))
       (λ r. let z = refused-bytes 3 s in rw (r, tick) (omega arith))
 
   -- ---- the out buffer
 
-  pub step-room : (bs : List ℕ) → length (outgoing (step bs s .out)) ≤ leastOut
-  step-room bs = let h = step-bytes bs in omega arith
+  pub step-room : (bs : List ℕ) → length (outgoing (step bs s .out)) ≤ leastOut (s .settings .size)
+  step-room bs = let h = step-bytes bs in omega (arith, out-least (s .settings .size))
 
-  pub offer-room : (b : ℕ) → length (outgoing (offer b s .out)) ≤ leastOut
-  offer-room b = let h = offer-bytes b in omega arith
+  pub offer-room : (b : ℕ) → length (outgoing (offer b s .out)) ≤ leastOut (s .settings .size)
+  offer-room b = let h = offer-bytes b in omega (arith, out-least (s .settings .size))
 
-  pub tick-room : wellFormed s ≡ true → length (outgoing (tick s .out)) ≤ leastOut
-  tick-room e = let h = tick-bytes (parts s e) in omega arith
+  pub tick-room : wellFormed s ≡ true → length (outgoing (tick s .out)) ≤ leastOut (s .settings .size)
+  tick-room e = let h = tick-bytes (parts s e) in omega (arith, out-enough (s .settings .size))

@@ -5,7 +5,7 @@ use mathlib.Core.Bool.{true, false}
 use mathlib.Core.List.{List, [], _∷_}
 use lib.ListN.{length, take}
 use lib.Dec.{eqb}
-use Rattle.rules.specs.Limits.{leastOut}
+use Rattle.rules.specs.Limits.{Size, leastOut}
 use Rattle.rules.specs.Lists.{unbe}
 use Rattle.agreement.specs.Schedule.{Event, idle, commonTick, tickOf, given, offeredTo}
 use Rattle.store.specs.Layout.{storeLength}
@@ -30,11 +30,11 @@ unfoldable pub written : Called → List ℕ
 written c = take (c .result % 2 ^ 32) (c .out)
 
 -- the bytes that a store is made of, and the out buffer lent to station i for event k
-module _ (n D : ℕ) (event : ℕ → Event) (room : ℕ → List ℕ) (lent : ℕ → ℕ → List ℕ) where
+module _ (size : Size) (n D : ℕ) (event : ℕ → Event) (room : ℕ → List ℕ) (lent : ℕ → ℕ → List ℕ) where
   -- "hosts lend proper buffers"
   pub record Lends : Type 0 where
-    pub store : (i : ℕ) → length (room i) ≡ storeLength
-    pub out : (i k : ℕ) → leastOut ≤ length (lent i k)
+    pub store : (i : ℕ) → length (room i) ≡ storeLength size
+    pub out : (i k : ℕ) → leastOut size ≤ length (lent i k)
 
   -- station i's store at moment k: fresh, then as each call leaves it
   unfoldable pub storeAt : ℕ → ℕ → List ℕ

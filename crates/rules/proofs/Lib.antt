@@ -1,4 +1,5 @@
 pub mod Tests
+pub mod Bounds
 pub mod Bytes
 pub mod Masks
 pub mod Written

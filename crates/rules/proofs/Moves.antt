@@ -12,7 +12,7 @@ use Rattle.rules.specs.Limits.{lastClock}
 use Rattle.rules.specs.Lists.{first, any}
 use Rattle.rules.specs.Sizes.{only}
 use Rattle.rules.specs.Messages.{Message, newView, propose, vote, blame, blameSet, status, read, allowed, Effect, toAll}
-use Rattle.rules.specs.Words.{Statement, message, sameStatement, conflict, Tally, certificate, joinCertificate, waiting, State}
+use Rattle.rules.specs.Words.{Statement, message, sameStatement, conflict, Certificate, Tally, certificateOf, opened, certificate, joinCertificate, waiting, State}
 use Rattle.rules.specs.Inputs.{Work, saying, _▸_, withPhase, withClock, withTables, withLog, entering, isIn, quit, belowLock, votedFor, ballot, voting, certificateJoined, stored, statement, tallied, blamesOf, blamed, blameFull, blaming, handled, offered, due, commits, reports, logging, overdue, complain, leadsNow, ownNewView, lead, entersNow, nextLock, report, entered, current, pair, inOrder, votingAll, arrive, enter, ticked}
 use Rattle.rules.specs.Refusals.{Outcome, done, hasRoom, ifRoom, running, step, offer, tick}
 use Rattle.rules.proofs.Tests.{by-bool, by-option, no-some, no-bool}
@@ -30,7 +30,7 @@ pub data Origin (R : Outside) (s : State) : Message → Type 0 where
   made : {m : Message} (b : ℕ) → R .offers b m → offered b s ≡ some m → Origin R s m
 
 -- the certificate of a statement or a status, or the vote, as a tally
-unfoldable pub carried : Message → Option Tally
+unfoldable pub carried : Message → Option Certificate
 unfolding only
 carried (newView v h b c m a) = some (record { view = c; height = h; name = b; mask = m })
 carried (propose v h b p m a) = some (record { view = v; height = h - 1; name = p; mask = m })
@@ -57,7 +57,7 @@ abbrev pub arrived : State → State
 arrived s = entering (s .view + 1) (nextLock s) s
 
 pub data Move (R : Outside) (s : State) : State → List Effect → Type 0 where
-  joins : (m : Message) (t : Tally) → Origin R s m → carried m ≡ some t
+  joins : (m : Message) (t : Certificate) → Origin R s m → carried m ≡ some t
       → Move R s (withTables (s .statements) (joinCertificate t (s .tallies)) s) []
   stores : (x : Statement) → New R s x → isIn (x .view) s ≡ false → Move R s (stored x s) []
   passes : (x : Statement) → New R s x → isIn (x .view) s ≡ true → first (conflict x) (s .statements) ≡ none → belowLock x s ≡ true
@@ -192,7 +192,7 @@ module _ (R : Outside) where
   blaming-moves v m s a =
       by-bool (fillsNow v m s) (λ q. rw (q, blaming) (one (fills v m a q))) (λ q. rw (q, blaming) (one (accuses v m a q)))
 
-  tallied-moves : (m : Message) (t : Tally) (s : State) → Origin R s m → carried m ≡ some t → Does s (tallied t s)
+  tallied-moves : (m : Message) (t : Certificate) (s : State) → Origin R s m → carried m ≡ some t → Does s (tallied t s)
   unfolding tallied saying
   tallied-moves m t s g c = one (joins m t g c)
 

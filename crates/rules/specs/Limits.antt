@@ -1,6 +1,10 @@
 -- 01, 'Sizes of a group': every limit, and the only file of the definitions that has their digits. Assumes nothing.
 use Prim.Native.Nat.{ℕ}
 
+-- which of the two columns of limits a group goes by: 01's, or the larger one of 02's request 14
+pub data Size : Type 0 where
+  small large : Size
+
 -- "stations n = 2f+1: odd, 3 to 15"
 abbrev pub leastStations : ℕ
 leastStations = 3
@@ -19,28 +23,32 @@ mostDelay = 10_000
 abbrev pub firstView : ℕ
 firstView = 1
 
-abbrev pub lastView : ℕ
-lastView = 32
+unfoldable pub lastView : Size → ℕ
+lastView small = 32
+lastView large = 256
 
 -- "heights: 0 to 65,535"
 abbrev pub lastHeight : ℕ
 lastHeight = 65_535
 
 -- "stored statements: 128"
-abbrev pub mostStatements : ℕ
-mostStatements = 128
+unfoldable pub mostStatements : Size → ℕ
+mostStatements small = 128
+mostStatements large = 512
 
 -- "stored tallies: 256"
-abbrev pub mostTallies : ℕ
-mostTallies = 256
+unfoldable pub mostTallies : Size → ℕ
+mostTallies small = 256
+mostTallies large = 1_024
 
 -- "clock: 0 to 4,000,000,000"
 abbrev pub lastClock : ℕ
 lastClock = 4_000_000_000
 
 -- "out buffer: at least 32,768 bytes"
-abbrev pub leastOut : ℕ
-leastOut = 32_768
+unfoldable pub leastOut : Size → ℕ
+leastOut small = 32_768
+leastOut large = 131_072
 
 -- "a mask is 16 bits"
 abbrev pub maskBits : ℕ

@@ -6,13 +6,13 @@ use native.Mathlib.Omega.{arith}
 use native.Mathlib.Decide.{decLt}
 use lib.Dec.{ltb}
 use borrow.Author.Tests.{eq-eqb, ne-eqb, lt-ltb, le-ltb}
-use Rattle.rules.specs.Words.{Tally, below, higher}
+use Rattle.rules.specs.Words.{Certificate, below, higher}
 
 or-no : (a : Bool) → a ≡ a || false
 or-no true = refl
 or-no false = refl
 
-module _ (t u : Tally) where
+module _ (t u : Certificate) where
   pub rank-view : (t .view ≡ u .view → ⊥) → ltb (t .view) (u .view) ≡ below t u
   unfolding below
   rank-view d = simp (ne-eqb _ _ d) (or-no (ltb (t .view) (u .view)))
@@ -25,11 +25,11 @@ module _ (t u : Tally) where
 abbrev higherIf : Bool → Bool → Bool → Bool
 higherIf above under name = above || not under && name
 
-abbrev higherBy : Tally → Tally → Bool
+abbrev higherBy : Certificate → Certificate → Bool
 higherBy t u = higherIf (below u t) (below t u) (ltb (t .name) (u .name))
 
 -- of two tallies of different rank the one that ranks above is higher; of one rank the one with the smaller name
-module _ (t u : Tally) where
+module _ (t u : Certificate) where
   by-rank : higher t u ≡ higherBy t u
   unfolding higher
   by-rank = refl

@@ -12,9 +12,10 @@ use Rattle.rules.specs.Limits.{firstView, lastView}
 use Rattle.rules.specs.Lists.{iff, within, any, all}
 use Rattle.rules.specs.Sizes.{Settings, leader}
 use Rattle.rules.specs.Messages.{newView, propose, viewAllowed, blockAllowed, maskAllowed, certificateAllowed, allowed}
-use Rattle.rules.specs.Words.{Statement, message, sameStatement, conflict, Tally, certificate, below, State}
+use Rattle.rules.specs.Words.{Statement, message, sameStatement, conflict, Certificate, certificate, below, State}
 use Rattle.rules.specs.Inputs.{belowLock, isUsed, isOpened, current}
 use Rattle.rules.specs.WellFormed.{isName, statementGood}
+use Rattle.rules.proofs.Bounds.{views-most}
 use Rattle.rules.proofs.Tests.{by-bool, and-left, and-right, no-bool}
 use Rattle.fields.specs.Names.{nameOf}
 use Rattle.fields.specs.declared.Name.{Name}
@@ -152,18 +153,18 @@ module _ (x : code.Statement) (k : Certifies (statementOf x none)) where
 new-view-link : (g : Settings) (v h b c m a : ℕ) → allowed g (newView v h b c m a) ≡ true → c < 2 ^ 32
 unfolding allowed viewAllowed within
 new-view-link g v h b c m a e =
-    let view = viewAllowed v in
+    let view = viewAllowed g v in
     let block = blockAllowed h b in
     let cert = certificateAllowed g h c m in
     let s = and-left (view && block && ltb c v && cert) (eqb a (leader g v)) e in
     let l = and-left (view && block && ltb c v) cert s in
     let n = and-left (view && block) (ltb c v) l in
-    omega (arith, ltb-true c v (and-right (view && block) (ltb c v) l), leb-true v lastView (and-right (leb firstView v) (leb v lastView) (and-left view block n)))
+    omega (arith, ltb-true c v (and-right (view && block) (ltb c v) l), leb-true v (lastView (g .size)) (and-right (leb firstView v) (leb v (lastView (g .size))) (and-left view block n)), views-most (g .size))
 
 propose-height : (g : Settings) (v h b p m a : ℕ) → allowed g (propose v h b p m a) ≡ true → 0 < h
 unfolding allowed
 propose-height g v h b p m a e =
-    let view = viewAllowed v in
+    let view = viewAllowed g v in
     let block = blockAllowed h b in
     let parent = blockAllowed (h - 1) p in
     let mask = maskAllowed g m in
@@ -199,7 +200,7 @@ certifies-read x y e k =
 
 -- ---- a rank held against a lock
 
-module _ (x : Statement) (lock : Tally) where
+module _ (x : Statement) (lock : Certificate) where
   by-lock : ranksBelow x lock ≡ (x .isNewView && below (certificate x) lock)
   unfolding ranksBelow
   by-lock = refl
@@ -207,8 +208,8 @@ module _ (x : Statement) (lock : Tally) where
   pub lock-propose : x .isNewView ≡ false → false ≡ ranksBelow x lock
   lock-propose p = rw (by-lock, p)
 
-  pub lock-new-view : (t : Tally) → x .isNewView ≡ true → t ≡ certificate x → below t lock ≡ ranksBelow x lock
-  lock-new-view t p e = ap (λ (u : Tally). below u lock) e ∙ sym (by-lock ∙ ap (λ (a : Bool). a && below (certificate x) lock) p)
+  pub lock-new-view : (t : Certificate) → x .isNewView ≡ true → t ≡ certificate x → below t lock ≡ ranksBelow x lock
+  lock-new-view t p e = ap (λ (u : Certificate). below u lock) e ∙ sym (by-lock ∙ ap (λ (a : Bool). a && below (certificate x) lock) p)
 
 -- rules' name of it
 pub lock-is : (x : Statement) (s : State) → belowLock x s ≡ ranksBelow x (s .lock)

@@ -4,7 +4,7 @@ ghost use mathlib.Core.Bool.{true};
 ghost use mathlib.Core.Option.{none};
 ghost use Prim.Native.Nat.{_+_, _*_, _^_, _≤_, _<_};
 ghost use lib.ListN.{length};
-ghost use Rattle.rules.specs.Limits.{mostStations, leastOut};
+ghost use Rattle.rules.specs.Limits.{mostStations, mostStatements, leastOut};
 ghost use Rattle.rules.specs.Sizes.{only};
 ghost use Rattle.rules.specs.Messages.{viewAllowed};
 ghost use Rattle.rules.specs.Words.{message as said};
@@ -12,6 +12,7 @@ ghost use Rattle.rules.specs.Inputs as inputs;
 ghost use Rattle.rules.specs.Refusals.{stopping, hasRoom, ifRoom, running, tick};
 ghost use Rattle.fields.specs.Names.{nameOf};
 ghost use Rattle.wire.specs.Meaning.{statementOf, messageOf};
+ghost use Rattle.store.specs.Layout.{sizeIn};
 ghost use Rattle.store.specs.Decode.{stateOf, Form};
 ghost use Rattle.store.specs.Fresh.{answer, freshly};
 ghost use Rattle.store.specs.Meaning.{tallyOf, causeOf};
@@ -110,10 +111,10 @@ fn is_running(store: &[u8]) -> bool
 fn barred(store: &[u8], out: &[u8]) -> u64
     ensures { λ r. ⌜ r ≡ barred (now (store .entry)) (now (out .entry)) ⌝ }
 {
-    if store.len() != store::LENGTH {
+    if !store::is_whole(store) {
         return 1;
     }
-    if out.len() < Settings::LEAST_OUT {
+    if out.len() < store::least_out_in(store) {
         return 1;
     }
     if !formed::well_formed(store) {
@@ -159,7 +160,7 @@ fn counted(store: &mut [u8], tally: Tally) -> u64
 
 // A blame or a blame set.
 fn blamed(store: &mut [u8], out: &mut [u8], view: u32, mask: u16) -> u64
-    requires { ⌜ (Formed (now store)) × (viewAllowed view ≡ true) × (mask < 2 ^ (stateOf (now store) .settings .n)) × (200 ≤ length (now out)) ⌝ }
+    requires { ⌜ (Formed (now store)) × (viewAllowed (stateOf (now store) .settings) view ≡ true) × (mask < 2 ^ (stateOf (now store) .settings .n)) × (200 ≤ length (now out)) ⌝ }
     ensures { λ r. ⌜ Answers (ifRoom (stateOf (now (store .entry))) (inputs.blaming view mask (stateOf (now (store .entry))))) (now (out .entry)) (now (store .exit)) (now (out .exit)) r ⌝ }
 {
     acts::blaming(store, out, 0, view, mask) as u64
@@ -301,17 +302,17 @@ fn next_fits(store: &[u8]) -> bool
 
 // What follows the commits of a tick: blame, the leader's new-view, entering a view.
 fn moving(store: &mut [u8], out: &mut [u8], at: usize) -> usize
-    requires { ⌜ (Formed (now store)) × (hasRoom (inputs.lead (stateOf (now store)) .now) ≡ true) × (at + 20_779 ≤ length (now out)) ⌝ }
+    requires { ⌜ (Formed (now store)) × (hasRoom (inputs.lead (stateOf (now store)) .now) ≡ true) × (at + 299 + 160 * mostStatements (sizeIn (now store)) ≤ length (now out)) ⌝ }
     ensures { λ r. ⌜ Works (moving (stateOf (now (store .entry)))) (now (out .entry)) at (now (store .exit)) (now (out .exit)) r ⌝ }
 {
     let complained = turns::complain(store, out, at);
     let led = turns::lead(store, out, complained);
-    let mut order = [0u8; Settings::MOST_STATEMENTS];
+    let mut order = [0u16; Settings::MOST_STATEMENTS_LARGE];
     turns::enter(store, out, led, &mut order)
 }
 
 // The clock moves on and the new log is written; then what else is due.
-fn turning(store: &mut [u8], out: &mut [u8], clock: u32, gained: &[u8], len: usize) -> usize
+fn turning(store: &mut [u8], out: &mut [u8], clock: u32, gained: &[u16], len: usize) -> usize
     requires { ⌜ Ready (now store) (now gained) clock len (length (now out)) ⌝ }
     ensures { λ r. ⌜ Works (turning (grownLog (now (store .entry)) (now (gained .entry)) len) (stateOf (now (store .entry)))) (now (out .entry)) 0 (now (store .exit)) (now (out .exit)) r ⌝ }
 {
@@ -322,14 +323,14 @@ fn turning(store: &mut [u8], out: &mut [u8], clock: u32, gained: &[u8], len: usi
 
 // A tick of a station that runs: refused before anything is written, or done.
 fn ticked(store: &mut [u8], out: &mut [u8]) -> u64
-    requires { ⌜ (Formed (now store)) × (running (stateOf (now store)) ≡ true) × (leastOut ≤ length (now out)) ⌝ }
+    requires { ⌜ (Formed (now store)) × (running (stateOf (now store)) ≡ true) × (leastOut (sizeIn (now store)) ≤ length (now out)) ⌝ }
     ensures { λ r. ⌜ Answers (tick (stateOf (now (store .entry)))) (now (out .entry)) (now (store .exit)) (now (out .exit)) r ⌝ }
 {
     let station = Station::load(store);
     if station.clock as u64 == Settings::LAST_CLOCK {
         return stop(store, 8, Cause::Clock);
     }
-    let mut gained = [0u8; Settings::MOST_STATEMENTS];
+    let mut gained = [0u16; Settings::MOST_STATEMENTS_LARGE];
     let Merged::Grown(len) = commit::commits(store, station, &mut gained) else {
         return stop(store, 7, Cause::Split);
     };

@@ -6,9 +6,9 @@ use native.Mathlib.Omega.{arith}
 use lib.ListN.{length, length-append}
 use borrow.Author.Tests.{eq-eqb, ne-eqb}
 use Rattle.rules.specs.Limits.{mostTallies}
-use Rattle.rules.specs.Words.{Tally, sameBlock, join, joinCertificate, State}
+use Rattle.rules.specs.Words.{Certificate, Tally, opened, ofBlock, join, joinCertificate, State}
 use Rattle.rules.specs.Inputs.{withTables}
-use Rattle.store.specs.Layout.{tallyTable, countOf}
+use Rattle.store.specs.Layout.{tallyTable, sizeIn, countOf}
 use Rattle.store.specs.Decode.{tallyAt, tallies, stateFrom, stateOf, Left}
 use Rattle.store.specs.Changes.{firstFrom, growing, opening, joining, Joined, certifying}
 use Rattle.store.specs.declared.Found.{Found}
@@ -16,16 +16,16 @@ use Rattle.store.specs.declared.Found.the-variants.{At, Nothing}
 use Rattle.store.proofs.Rows.{rows-length}
 use Rattle.store.proofs.Searches.{found-within, join-found, join-missing, joined-found, joined-missing}
 
-module _ (b : List ℕ) (t : Tally) (r : Found) (e : r ≡ firstFrom (sameBlock t) 0 (tallies b)) where
+module _ (b : List ℕ) (t : Certificate) (r : Found) (e : r ≡ firstFrom (ofBlock t) 0 (tallies b)) where
   pub place-within : (j : ℕ) → r ≡ At j → j < countOf tallyTable b
   unfolding tallies
-  place-within j q = found-within (sameBlock t) (tallyAt b) (countOf tallyTable b) r e j q
+  place-within j q = found-within (ofBlock t) (tallyAt b) (countOf tallyTable b) r e j q
 
-  pub room-left : r ≡ Nothing → length (join t (tallies b)) ≤ mostTallies → countOf tallyTable b < mostTallies
+  pub room-left : r ≡ Nothing → length (join t (tallies b)) ≤ mostTallies (sizeIn b) → countOf tallyTable b < mostTallies (sizeIn b)
   unfolding tallies
   room-left q l =
       let n = ap length (join-missing t (tallies b) (sym e ∙ q)) in
-      omega (arith, length-append (tallies b) (t ∷ []), rows-length (tallyAt b) 0 (countOf tallyTable b))
+      omega (arith, length-append (tallies b) (opened t ∷ []), rows-length (tallyAt b) 0 (countOf tallyTable b))
 
   grown-joins : (j : ℕ) → r ≡ At j → {b′ : List ℕ} → Left b′ (growing j (t .mask) (stateOf b)) → Left b′ (joining t (stateOf b))
   unfolding growing joining stateOf stateFrom
@@ -41,7 +41,7 @@ module _ (b : List ℕ) (t : Tally) (r : Found) (e : r ≡ firstFrom (sameBlock 
   joined-there j q {b′} h =
       let l = grown-joins j q h in
       let e′ : tallies b′ ≡ join t (tallies b) = ap (λ (s : State). s .tallies) (l .is) in
-      record { left = l; place = sym (ap (firstFrom (sameBlock t) 0) e′ ∙ joined-found t (tallies b) j (sym e ∙ q)) }
+      record { left = l; place = sym (ap (firstFrom (ofBlock t) 0) e′ ∙ joined-found t (tallies b) j (sym e ∙ q)) }
 
   pub joined-new : r ≡ Nothing → {b′ : List ℕ} {i : ℕ} → i ≡ countOf tallyTable b → Left b′ (opening t (stateOf b)) → Joined t (stateOf b) b′ i
   unfolding joining stateOf stateFrom withTables tallies
@@ -49,16 +49,16 @@ module _ (b : List ℕ) (t : Tally) (r : Found) (e : r ≡ firstFrom (sameBlock 
       let l = opened-joins q h in
       let e′ : tallies b′ ≡ join t (tallies b) = ap (λ (s : State). s .tallies) (l .is) in
       let n : i ≡ length (tallies b) = d ∙ sym (rows-length (tallyAt b) 0 (countOf tallyTable b)) in
-      record { left = l; place = ap At n ∙ sym (ap (firstFrom (sameBlock t) 0) e′ ∙ joined-missing t (tallies b) (sym e ∙ q)) }
+      record { left = l; place = ap At n ∙ sym (ap (firstFrom (ofBlock t) 0) e′ ∙ joined-missing t (tallies b) (sym e ∙ q)) }
 
-pub certificate-joins : (t : Tally) (us : List Tally) → (t .view ≡ 0 → ⊥) → joinCertificate t us ≡ join t us
+pub certificate-joins : (t : Certificate) (us : List Tally) → (t .view ≡ 0 → ⊥) → joinCertificate t us ≡ join t us
 unfolding joinCertificate
 certificate-joins t us d = rw (ne-eqb (t .view) 0 d, joinCertificate)
 
-pub certified-some : (t : Tally) (s : State) → (t .view ≡ 0 → ⊥) → certifying t s ≡ joining t s
+pub certified-some : (t : Certificate) (s : State) → (t .view ≡ 0 → ⊥) → certifying t s ≡ joining t s
 unfolding certifying joining
 certified-some t s d = ap (λ (us : List Tally). withTables (s .statements) us s) (certificate-joins t (s .tallies) d)
 
-pub certified-none : (t : Tally) (s : State) → t .view ≡ 0 → s ≡ certifying t s
+pub certified-none : (t : Certificate) (s : State) → t .view ≡ 0 → s ≡ certifying t s
 unfolding certifying withTables joinCertificate
 certified-none t s d = rw (eq-eqb (t .view) 0 d, joinCertificate)

@@ -6,17 +6,17 @@ use Rattle.settings.specs.Made.{settingsOf}
 use Rattle.fields.specs.Records.{fields}
 use Rattle.store.specs.Layout.{headerFormat, statementTable, tallyTable, logTable, countOf}
 use Rattle.store.specs.Decode.{nth, phaseOf, stateFrom, stateOf}
-use Rattle.store.specs.Meaning.{courseOf, tallyOf, headerOf}
+use Rattle.store.specs.Meaning.{courseOf, tallyOf, headerOf, Loads}
 use Rattle.store.specs.declared.Station.{Station}
 use Rattle.store.proofs.Values.{number-phase}
 
-module _ (s : Station) (b : List ℕ) (e : headerOf s ≡ fields b 0 headerFormat) where
+module _ (s : Station) (b : List ℕ) (e : Loads s b) where
   part : (i : ℕ) → nth (headerOf s) i ≡ nth (fields b 0 headerFormat) i
-  part i = ap (λ (vs : List ℕ). nth vs i) e
+  part i = ap (λ (vs : List ℕ). nth vs i) (e .header)
 
   pub loaded-settings : settingsOf (s .settings) ≡ stateOf b .settings
   unfolding headerOf stateOf stateFrom
-  loaded-settings = λ k. record { n = part 1 k; D = part 2 k; own = part 3 k }
+  loaded-settings = λ k. record { n = part 1 k; D = part 2 k; own = part 3 k; size = e .size k }
 
   pub loaded-phase : courseOf (s .phase) ≡ stateOf b .phase
   unfolding headerOf stateOf stateFrom

@@ -9,10 +9,11 @@ use Rattle.wire.specs.Meaning.{statementOf}
 use Rattle.wire.specs.declared.Statement.{Statement}
 use Rattle.store.specs.Layout.{statementFormat, tallyFormat}
 use Rattle.store.specs.Decode.{kindNumber, statementValues, tallyValues}
+use Rattle.rules.specs.Words.{opened}
 use Rattle.store.specs.Meaning.{tallyOf}
 use Rattle.store.specs.declared.Tally.{Tally}
 
-pub tally-fits : (t : Tally) → t .view < 2 ^ 32 → t .height < 2 ^ 32 → nameOf (t .name) < 256 ^ 32 → t .mask < 2 ^ 16 → Fit tallyFormat (tallyValues (tallyOf t))
+pub tally-fits : (t : Tally) → t .view < 2 ^ 32 → t .height < 2 ^ 32 → nameOf (t .name) < 256 ^ 32 → t .mask < 2 ^ 16 → Fit tallyFormat (tallyValues (opened (tallyOf t)))
 unfolding tallyOf
 tally-fits t v h n m = (v, (h, (n, (m, tt))))
 

@@ -8,18 +8,16 @@ use lib.ListN.{length}
 use borrow.Author.Tests.{eq-eqb, ne-eqb}
 use Rattle.rules.specs.Sizes.{Settings, leader}
 use Rattle.rules.specs.Messages.{Effect, toOne, status, effect, outgoing}
-use Rattle.rules.specs.Words.{Tally, highest, State}
+use Rattle.rules.specs.Words.{Certificate, highest, State}
 use Rattle.rules.specs.Inputs.{saying, entering, nextLock, report, entered}
 use Rattle.rules.proofs.Tests.{by-bool}
 use Rattle.rules.proofs.Allowed.{leader-lt}
 use Rattle.outgoing.specs.Wrote.{Says}
 use Rattle.outgoing.proofs.Writing.{says-none, says-one}
 use Rattle.fields.specs.Names.{nameOf}
-use Rattle.fields.specs.Records.{fields}
 use Rattle.settings.specs.Made.{settingsOf}
-use Rattle.store.specs.Layout.{headerFormat}
 use Rattle.store.specs.Decode.{tallies, stateFrom, stateOf, Left}
-use Rattle.store.specs.Meaning.{tallyOf, headerOf}
+use Rattle.store.specs.Meaning.{tallyOf, Loads}
 use Rattle.store.specs.declared.Station.{Station}
 use Rattle.store.specs.declared.Tally as code
 use Rattle.store.proofs.Loaded.{loaded-settings, loaded-view}
@@ -37,7 +35,7 @@ pub status-bytes : (i h b c m : ℕ) → length (effect (toOne i (status h b c m
 unfolding weight size
 status-bytes i h b c m = length-effect (toOne i (status h b c m))
 
-module _ (s : State) (v : ℕ) (t : Tally) (l : ℕ) (ev : v ≡ s .view + 1) (et : t ≡ highest (s .settings) v (s .tallies)) (el : l ≡ leader (s .settings) v) where
+module _ (s : State) (v : ℕ) (t : Certificate) (l : ℕ) (ev : v ≡ s .view + 1) (et : t ≡ highest (s .settings) v (s .tallies)) (el : l ≡ leader (s .settings) v) where
   lock-is : t ≡ nextLock s
   unfolding nextLock
   lock-is = et ∙ ap (λ (w : ℕ). highest (s .settings) w (s .tallies)) ev
@@ -74,7 +72,7 @@ module _ (s : State) (v : ℕ) (t : Tally) (l : ℕ) (ev : v ≡ s .view + 1) (e
 
 -- ---- by the loaded numbers
 
-module _ {b : List ℕ} (k : Formed b) (s : Station) (e : headerOf s ≡ fields b 0 headerFormat) (t : code.Tally) (h : tallyOf t ≡ highest (stateOf b .settings) (s .view + 1) (tallies b))
+module _ {b : List ℕ} (k : Formed b) (s : Station) (e : Loads s b) (t : code.Tally) (h : tallyOf t ≡ highest (stateOf b .settings) (s .view + 1) (tallies b))
     (l : ℕ) (el : l ≡ leader (settingsOf (s .settings)) (s .view + 1)) where
   leader-loaded : l ≡ leader (stateOf b .settings) (s .view + 1)
   leader-loaded = el ∙ ap (λ (g : Settings). leader g (s .view + 1)) (loaded-settings s b e)

@@ -56,30 +56,36 @@ add-records c =
 
 load-requires : tie.Need-load-requires
 load-requires c κs =
-    form-long _ (c .before .before .before .before .before .before .before .before .before .before .pre .0 .form)
+    omega (arith, form-long _ (c .before .before .before .before .before .before .before .before .before .before .pre .0 .form))
+
+most-statements-in-requires : tie.Need-most-statements-in-requires
+most-statements-in-requires c κs = search needs
 
 add-room : tie.Need-add-room
 add-room c =
-    let start = c .before .before .before .before .before .before .before .before .before .before .before .before .before in
-    let load = c .before .before .load in
-    omega (arith, loaded-tallies (load .result) (start .args .store .now) (load .ensures), form-tallies _ (start .pre .0 .form), c .before .before .before .before .needed .ensures, needed-few (tallyOf (c .before .before .before .before .before .before .before .before .certificate .result)) (c .before .before .before .before .before .before .before .find-certificate .result), c .before .before .before .needed2 .ensures, needed-few (tallyOf (c .before .before .before .before .before .before .own-block .result)) (c .before .before .before .before .before .find-tally .result))
+    let start = c .before .before .before .before .before .before .before .before .before .before .before .before .before .before in
+    let load = c .before .before .before .load in
+    omega (arith, loaded-tallies (load .result) (start .args .store .now) (load .ensures), form-tallies _ (start .pre .0 .form), c .before .before .before .before .before .needed .ensures, needed-few (tallyOf (c .before .before .before .before .before .before .before .before .before .certificate .result)) (c .before .before .before .before .before .before .before .before .find-certificate .result), c .before .before .before .before .needed2 .ensures, needed-few (tallyOf (c .before .before .before .before .before .before .before .own-block .result)) (c .before .before .before .before .before .before .find-tally .result))
+
+most-tallies-in-requires : tie.Need-most-tallies-in-requires
+most-tallies-in-requires c κs = search needs
 
 new-plan-requires : tie.Need-new-plan-requires
 new-plan-requires c κs = search needs
 
 returns-2 : tie.Need-returns-2
 returns-2 c =
-    let start = c .before .before .before .before .before .before .before .before .before .before .before .before .before .before in
+    let start = c .before .before .before .before .before .before .before .before .before .before .before .before .before .before .before .before in
     let b = start .args .store .now in
     let x = statementOf (start .args .x) none in
-    let found = c .before .before .before .before .before .before .before .before .before .before .before .before .find-statement in
-    let certificate = c .before .before .before .before .before .before .before .before .before .certificate in
-    let certified = c .before .before .before .before .before .before .before .before .find-certificate in
-    let block = c .before .before .before .before .before .before .before .own-block in
-    let own = c .before .before .before .before .before .before .find-tally in
-    let load = c .before .before .before .load in
+    let found = c .before .before .before .before .before .before .before .before .before .before .before .before .before .before .find-statement in
+    let certificate = c .before .before .before .before .before .before .before .before .before .before .before .certificate in
+    let certified = c .before .before .before .before .before .before .before .before .before .before .find-certificate in
+    let block = c .before .before .before .before .before .before .before .before .before .own-block in
+    let own = c .before .before .before .before .before .before .before .before .find-tally in
+    let load = c .before .before .before .before .before .load in
     c .new-plan .ensures
-    ∙ new-planned b x (start .pre .1) (tallyOf (certificate .result)) (tallyOf (block .result)) (certificate .ensures) (block .ensures) (own .result) (own .ensures) (is-new b x (found .result) (found .ensures) (c .before .before .before .before .before .before .before .before .before .before .enum-told .given .1)) (certified .result) (certified .ensures) _ _ _ _ (loaded-statements (load .result) b (load .ensures)) (loaded-tallies (load .result) b (load .ensures)) (c .before .before .before .before .before .needed .ensures) (c .before .before .before .before .needed2 .ensures)
+    ∙ new-planned b x (start .pre .1) (tallyOf (certificate .result)) (tallyOf (block .result)) (certificate .ensures) (block .ensures) (own .result) (own .ensures) (is-new b x (found .result) (found .ensures) (c .before .before .before .before .before .before .before .before .before .before .before .before .enum-told .given .1)) (certified .result) (certified .ensures) _ _ _ _ _ _ (c .before .before .before .before .most-statements-in .ensures) (c .before .most-tallies-in .ensures) (loaded-statements (load .result) b (load .ensures)) (loaded-tallies (load .result) b (load .ensures)) (c .before .before .before .before .before .before .before .needed .ensures) (c .before .before .before .before .before .before .needed2 .ensures)
 
 pub planned-spec : {M : Type 1} → statement M
 planned-spec =
@@ -97,6 +103,8 @@ planned-spec =
     needed-requires-2
     add-records
     load-requires
+    most-statements-in-requires
     add-room
+    most-tallies-in-requires
     new-plan-requires
     returns-2)

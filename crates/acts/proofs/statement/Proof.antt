@@ -9,6 +9,7 @@ use Rattle.acts.specs.declared.Plan.the-variants.{Repeat, New, Full}
 use Rattle.kept.proofs.Tables.{stored-formed}
 use Rattle.rules.proofs.Tests.{no-bool}
 use Rattle.store.proofs.Loaded.{loaded-statements}
+use native.Mathlib.Omega.{arith}
 use Rattle.store.proofs.Forms.{form-long}
 use Rattle.store.specs.Meaning.{tallyOf}
 use Rattle.store.specs.Decode.{stateOf}
@@ -39,7 +40,7 @@ enum-known-plan c = search needs
 
 load-requires : tie.Need-load-requires
 load-requires c κs =
-    form-long _ (c .before .before .before .before .before .before .pre .0 .form)
+    omega (arith, form-long _ (c .before .before .before .before .before .before .pre .0 .form))
 
 store-new-requires : tie.Need-store-new-requires
 store-new-requires c κs =

@@ -21,7 +21,7 @@ use Rattle.acts.proofs.voting.Tie as tie
 
 load-requires : tie.Need-load-requires
 load-requires c κs =
-    form-long _ (c .before .before .before .pre .0 .form)
+    omega (arith, form-long _ (c .before .before .before .pre .0 .form))
 
 below-lock-requires : tie.Need-below-lock-requires
 below-lock-requires c κs =

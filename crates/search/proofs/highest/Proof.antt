@@ -23,7 +23,7 @@ abbrev μ-loop : tie.MeasureT-loop
 
 load-requires : tie.Need-load-requires Inv-loop μ-loop
 load-requires c κs =
-    long (c .before .pre)
+    omega (arith, long (c .before .pre))
 
 zero-requires : tie.Need-zero-requires Inv-loop μ-loop
 zero-requires c κs =

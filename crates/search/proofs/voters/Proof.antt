@@ -2,7 +2,7 @@
 use mathlib.Core.Path.{sym, ap, _∙_}
 use native.Mathlib.Omega.{arith}
 use borrow.Author.Needs.{needs}
-use Rattle.rules.specs.Words.{Tally, sameBlock}
+use Rattle.rules.specs.Words.{Certificate, ofBlock}
 use Rattle.store.specs.Layout.{tallyTable, countOf}
 use Rattle.store.specs.Decode.{tallyAt, tallies}
 use Rattle.store.specs.Meaning.{tallyOf}
@@ -22,7 +22,7 @@ tally-at-requires : tie.Need-tally-at-requires
 unfolding tallies
 tally-at-requires c κs =
     let a = c .before .before .before .before .before .args in
-    (long (c .before .before .before .before .before .pre), omega (arith, few-tallies (c .before .before .before .before .before .pre), found-within (sameBlock (tallyOf (a .tally))) (tallyAt (a .store .now)) (countOf tallyTable (a .store .now)) (c .before .before .before .find-tally .result) (c .before .before .before .find-tally .ensures) (c .before .found .given .0 .0) (c .before .found .given .1)))
+    (long (c .before .before .before .before .before .pre), omega (arith, few-tallies (c .before .before .before .before .before .pre), found-within (ofBlock (tallyOf (a .tally))) (tallyAt (a .store .now)) (countOf tallyTable (a .store .now)) (c .before .before .before .find-tally .result) (c .before .before .before .find-tally .ensures) (c .before .found .given .0 .0) (c .before .found .given .1)))
 
 enum-told : tie.Need-enum-told
 enum-told c = search needs
@@ -31,13 +31,13 @@ returns : tie.Need-returns
 unfolding tallies tallyOf
 returns c =
     let a = c .before .before .before .before .before .before .args in
-    ap (λ (t : Tally). t .mask) (c .tally-at .ensures) ∙ sym (voters-first (tallyOf (a .tally)) (tallies (a .store .now)) ∙ ap maskOf (found-first (sameBlock (tallyOf (a .tally))) (tallyAt (a .store .now)) (countOf tallyTable (a .store .now)) (c .before .before .before .before .find-tally .result) (c .before .before .before .before .find-tally .ensures) (c .before .before .found .given .0 .0) (c .before .before .found .given .1)))
+    ap (λ (t : Certificate). t .mask) (c .tally-at .ensures) ∙ sym (voters-first (tallyOf (a .tally)) (tallies (a .store .now)) ∙ ap maskOf (found-first (ofBlock (tallyOf (a .tally))) (tallyAt (a .store .now)) (countOf tallyTable (a .store .now)) (c .before .before .before .before .find-tally .result) (c .before .before .before .before .find-tally .ensures) (c .before .before .found .given .0 .0) (c .before .before .found .given .1)))
 
 returns-2 : tie.Need-returns-2
 unfolding tallies
 returns-2 c =
     let a = c .before .before .before .before .args in
-    sym (voters-first (tallyOf (a .tally)) (tallies (a .store .now)) ∙ ap maskOf (missing-first (sameBlock (tallyOf (a .tally))) (tallyAt (a .store .now)) (countOf tallyTable (a .store .now)) (c .before .before .find-tally .result) (c .before .before .find-tally .ensures) (c .enum-told .given .1)))
+    sym (voters-first (tallyOf (a .tally)) (tallies (a .store .now)) ∙ ap maskOf (missing-first (ofBlock (tallyOf (a .tally))) (tallyAt (a .store .now)) (countOf tallyTable (a .store .now)) (c .before .before .find-tally .result) (c .before .before .find-tally .ensures) (c .enum-told .given .1)))
 
 pub voters-spec : {M : Type 1} → statement M
 voters-spec =

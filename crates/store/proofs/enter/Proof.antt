@@ -3,17 +3,18 @@ use Rattle.store.proofs.Starts.{entered}
 use Rattle.store.proofs.Sized.{tally-fits}
 use Rattle.store.proofs.Forms.{form-long}
 use Rattle.fields.proofs.Names.{name-lt}
+use native.Mathlib.Omega.{arith}
 use borrow.Author.Needs.{needs}
 use Rattle.store.proofs.enter.Statement.{statement}
 use Rattle.store.proofs.enter.Tie as tie
 
 load-requires : tie.Need-load-requires
 load-requires c κs =
-    form-long _ (c .before .before .pre)
+    omega (arith, form-long _ (c .before .before .pre))
 
 save-requires : tie.Need-save-requires
 save-requires c κs =
-    form-long _ (c .before .before .before .before .before .pre)
+    omega (arith, form-long _ (c .before .before .before .before .before .pre))
 
 same-length : tie.Need-same-length
 same-length c = search needs

@@ -6,11 +6,8 @@ use borrow.Author.Needs.{needs}
 use Rattle.store.proofs.is_tally.Statement.{statement}
 use Rattle.store.proofs.is_tally.Tie as tie
 
-mul-is-block : tie.Need-mul-is-block
-mul-is-block c = search needs
-
-add-is-block : tie.Need-add-is-block
-add-is-block c = search needs
+tally-place-requires : tie.Need-tally-place-requires
+tally-place-requires c κs = search needs
 
 key-of-requires : tie.Need-key-of-requires
 key-of-requires c κs = search needs
@@ -21,12 +18,13 @@ is-block-requires c κs = search needs
 returns : tie.Need-returns
 unfolding tallyOf
 returns c =
-    let after-shared-slice-known = c .before .before in
+    let after-tally-place = c .before .before in
+    let after-shared-slice-known = after-tally-place .before in
     let start = after-shared-slice-known .before in
     let a = start .args in
     let h : a .tally .height < 256 ^ 4 = start .good .1 .1 .0 .1 .1 .1 .0 .1 in
-    rw (c .is-block .ensures, c .before .key-of .ensures) (block-tally (a .store .now) (after-shared-slice-known .shared-slice-known .given) (tallyOf (a .tally)) (a .i) h)
+    rw (c .is-block .ensures, c .before .key-of .ensures, after-tally-place .tally-place .ensures .0) (block-tally (a .store .now) (after-shared-slice-known .shared-slice-known .given) (tallyOf (a .tally)) (a .i) h)
 
 pub is-tally-spec : {M : Type 1} → statement M
 is-tally-spec =
-    tie.close (tie.spec mul-is-block add-is-block key-of-requires is-block-requires returns)
+    tie.close (tie.spec tally-place-requires key-of-requires is-block-requires returns)

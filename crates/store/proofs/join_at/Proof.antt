@@ -3,8 +3,10 @@ use Rattle.store.proofs.Changes.{put-voters}
 use Rattle.store.proofs.Forms.{form-long, form-tallies}
 use Rattle.store.specs.Meaning.{tallyOf}
 use Rattle.store.specs.Decode.{tallyAt}
-use Rattle.rules.specs.Words.{Tally, grown}
+use Rattle.rules.specs.Words.{Certificate, grown}
 use Rattle.rules.specs.Sizes.{joined}
+use Rattle.rules.proofs.Bounds.{statements-most}
+use Rattle.store.specs.Layout.{sizeIn}
 use native.Mathlib.Omega.{arith}
 use mathlib.Core.Path.{_≡_, ap, _∙_}
 use borrow.Author.Needs.{needs}
@@ -19,28 +21,22 @@ tally-at-requires c κs =
 grown-requires : tie.Need-grown-requires
 grown-requires c κs = search needs
 
-mul-put : tie.Need-mul-put
-mul-put c =
-    let start = c .before .before .before .before .before in
-    omega (arith, form-tallies _ (start .pre .0), start .pre .1)
+tally-place-requires : tie.Need-tally-place-requires
+tally-place-requires c κs =
+    let start = c .before .before .before .before .before .before in
+    (form-long _ (start .pre .0), omega (arith, form-tallies _ (start .pre .0), start .pre .1))
 
 add-put : tie.Need-add-put
 add-put c =
-    let start = c .before .before .before .before .before in
-    omega (arith, form-tallies _ (start .pre .0), start .pre .1)
-
-add-put-2 : tie.Need-add-put-2
-add-put-2 c =
-    let start = c .before .before .before .before .before in
-    omega (arith, form-tallies _ (start .pre .0), start .pre .1)
+    let start = c .before .before .before .before .before .before .before in
+    omega (arith, form-tallies _ (start .pre .0), start .pre .1, c .tally-place .ensures .0, statements-most (sizeIn (start .args .store .now)))
 
 cast-put : tie.Need-cast-put
 cast-put c = search needs
 
 put-requires : tie.Need-put-requires
 put-requires c κs =
-    let start = c .before .before .before .before .before .before in
-    omega (arith, form-long _ (start .pre .0), form-tallies _ (start .pre .0), start .pre .1)
+    omega (arith, c .before .tally-place .ensures .1)
 
 same-length : tie.Need-same-length
 same-length c = search needs
@@ -49,13 +45,14 @@ returns : tie.Need-returns
 unfolding tallyOf grown
 returns c =
     let after-put = c .before .before in
-    let after-grown = after-put .before .before .before in
+    let after-tally-place = after-put .before .before in
+    let after-grown = after-tally-place .before .before .before in
     let after-tally-at = after-grown .before in
     let start = after-tally-at .before .before .before in
     let a = start .args in
     let mask : after-grown .grown .result .mask ≡ joined (tallyAt (a .store .now) (a .i) .mask) (a .mask) =
-    ap (λ (t : Tally). t .mask) (after-grown .grown .ensures) ∙ ap (λ (t : Tally). joined (t .mask) (a .mask)) (after-tally-at .tally-at .ensures) in
-    rw (after-put .put .ensures, mask) (put-voters (a .store .now) (start .pre .0) (a .i) (a .mask) (start .pre .1) (start .fits .mask .fits))
+    ap (λ (t : Certificate). t .mask) (after-grown .grown .ensures) ∙ ap (λ (t : Certificate). joined (t .mask) (a .mask)) (after-tally-at .tally-at .ensures) in
+    rw (after-put .put .ensures, after-tally-place .tally-place .ensures .0, mask) (put-voters (a .store .now) (start .pre .0) (a .i) (a .mask) (start .pre .1) (start .fits .mask .fits))
 
 pub join-at-spec : {M : Type 1} → statement M
 join-at-spec =
@@ -63,9 +60,8 @@ join-at-spec =
     (tie.spec
     tally-at-requires
     grown-requires
-    mul-put
+    tally-place-requires
     add-put
-    add-put-2
     cast-put
     put-requires
     same-length

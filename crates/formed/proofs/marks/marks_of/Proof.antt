@@ -11,7 +11,7 @@ use Rattle.formed.proofs.marks.marks_of.Tie as tie
 
 abbrev Inv-loop : tie.InvT-loop
 Inv-loop store base size count marks₀ i₀ marks i =
-    (i ≤ count) × (length marks ≡ 256) × Marked store base size i marks
+    (i ≤ count) × (length marks ≡ 1024) × Marked store base size i marks
 
 abbrev μ-loop : tie.MeasureT-loop
 μ-loop store base size count marks₀ i₀ marks i =

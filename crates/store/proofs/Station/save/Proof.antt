@@ -24,7 +24,12 @@ cast-put-2 : tie.Need-cast-put-2
 cast-put-2 c = search needs
 
 put-requires-3 : tie.Need-put-requires-3
-put-requires-3 c κs = search needs
+put-requires-3 c κs =
+    let after-put2 = c .before .before .before .before in
+    let after-put-settings = after-put2 .before .before .before .before .before in
+    let after-put = after-put-settings .before .before .before .before in
+    let start = after-put .before .before .before .before in
+    omega (arith, start .pre, after-put2 .put2 .kept .0, after-put-settings .put-settings .kept .0, after-put .put .kept .0)
 
 cast-put-3 : tie.Need-cast-put-3
 cast-put-3 c = search needs

@@ -1,6 +1,7 @@
 -- `Tally::with_voter` meets its contract: the mask of one station joins. Assumes nothing.
 use Rattle.store.specs.Meaning.{tallyOf}
-use Rattle.rules.specs.Words.{grown}
+use Rattle.rules.specs.Words.{certificateOf, opened, grown}
+use Prim.Native.Nat.{ℕ}
 use Rattle.rules.specs.Sizes.{only}
 use lib.Pow.{pow-lt}
 use native.Mathlib.Omega.{arith}
@@ -22,7 +23,7 @@ grown-requires c κs = search needs
 
 returns : tie.Need-returns
 returns c =
-    c .grown .ensures ∙ ap (grown (tallyOf (c .before .before .args .self))) (c .before .only .ensures)
+    c .grown .ensures ∙ ap (λ (m : ℕ). certificateOf (grown (opened (tallyOf (c .before .before .args .self))) m)) (c .before .only .ensures)
 
 pub with-voter-spec : {M : Type 1} → statement M
 with-voter-spec = tie.close (tie.spec only-requires cast-grown grown-requires returns)
