@@ -25,11 +25,11 @@ use Rattle.store.specs.declared.Found.{Found}
 use Rattle.store.specs.declared.Found.the-variants.{At}
 use Rattle.store.proofs.Rows.{rows-all}
 use Rattle.store.proofs.Searches.{alter-found}
-use Rattle.search.specs.Lookups.{Certifies}
-use Rattle.search.proofs.Statements.{same-unvoted, certifies-allowed}
 use Rattle.kept.specs.Said.{Sendable}
 use Rattle.kept.proofs.Statements.{stored-sendable}
 use Rattle.kept.proofs.Facts.{sizes-of}
+use Rattle.words.specs.Meaning.{Certifies}
+use Rattle.words.proofs.Statements.{same-unvoted, certifies-allowed}
 use Rattle.acts.specs.Works.{Formed}
 use Rattle.acts.specs.Answers.{Stands}
 use Rattle.acts.proofs.Works.{formed-parts, left-then}

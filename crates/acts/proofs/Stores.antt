@@ -7,7 +7,7 @@ use native.Mathlib.Omega.{arith}
 use native.Mathlib.Nat.{zero-add}
 use lib.Dec.{eqb}
 use lib.ListN.{getD}
-use Rattle.rules.specs.Limits.{firstView, lastView}
+use Rattle.rules.specs.Limits.{firstView, lastView, lastViewLarge}
 use Rattle.rules.specs.Messages.{viewAllowed}
 use Rattle.rules.specs.Sizes.{quorum}
 use Rattle.rules.specs.Words as words
@@ -57,7 +57,7 @@ module _ (s : Station) (b : List ℕ) (e : Loads s b) (v : ℕ) where
 -- ---- the blame masks
 
 -- an allowed view is one of the store's limits
-pub view-in : (b : List ℕ) (v : ℕ) → viewAllowed (stateOf b .settings) v ≡ true → (firstView ≤ v) × (v ≤ lastView (sizeIn b)) × (v ≤ 256)
+pub view-in : (b : List ℕ) (v : ℕ) → viewAllowed (stateOf b .settings) v ≡ true → (firstView ≤ v) × (v ≤ lastView (sizeIn b)) × (v ≤ lastViewLarge)
 unfolding stateOf stateFrom
 view-in b v a = view-within (stateOf b .settings) v a
 

@@ -9,7 +9,7 @@ use native.Mathlib.Nat.{zero-add}
 use lib.Dec.{leb}
 use lib.ListN.{length}
 use borrow.Author.Tests.{leb-true}
-use Rattle.rules.specs.Limits.{mostStatements, mostTallies}
+use Rattle.rules.specs.Limits.{mostStatements, mostTallies, mostStatementsLarge}
 use Rattle.rules.specs.Lists.{keep, sorted, all, distinct}
 use Rattle.rules.specs.Sizes.{Settings, goodSettings}
 use Rattle.rules.specs.Messages.{propose, viewAllowed, blockAllowed, maskAllowed, allowed}
@@ -90,7 +90,7 @@ module _ (b : List ℕ) where
   tick-out d = due-out (withClock (stateOf b .clock + 1) (stateOf b)) d
 
   -- nothing is gained
-  pub gained-none : (t : List ℕ) (n : ℕ) → n ≡ countOf logTable b → countOf logTable b ≤ 512 → tickLog b ≡ some (names b) → Committed b t (Grown n)
+  pub gained-none : (t : List ℕ) (n : ℕ) → n ≡ countOf logTable b → countOf logTable b ≤ mostStatementsLarge → tickLog b ≡ some (names b) → Committed b t (Grown n)
   unfolding rows
   gained-none t n e l q =
       let z : n - countOf logTable b ≡ 0 = omega arith in

@@ -4,7 +4,7 @@ ghost use mathlib.Core.Path.{_≡_};
 ghost use lib.ListN.{length, getD};
 ghost use Prim.Native.Nat.{_<_, _≤_, _^_};
 ghost use Rattle.rules.specs.Lists.{keep};
-ghost use Rattle.rules.specs.Limits.{mostStatements};
+ghost use Rattle.rules.specs.Limits.{mostStatements, mostStatementsLarge};
 ghost use mathlib.Core.Bool.{true};
 ghost use Rattle.rules.specs.WellFormed.{wellFormed};
 ghost use Rattle.rules.specs.Inputs.{isBlock, commits, votes};
@@ -59,7 +59,7 @@ pub fn find_block(store: &[u8], count: usize, height: u32, name: Name) -> Found
 
 // Puts the places of the chain of statement i into the table, from its height down; answers how many of the lowest are not stored.
 fn walk(store: &[u8], count: usize, i: usize, chain: &mut [u16]) -> usize
-    requires { ⌜ (Form (now store)) × (count ≡ countOf statementTable (now store)) × (i < count) × (length (now chain) ≡ 512) × (1 ≤ statementAt (now store) i .height) × (statementAt (now store) i .height ≤ 512) ⌝ }
+    requires { ⌜ (Form (now store)) × (count ≡ countOf statementTable (now store)) × (i < count) × (length (now chain) ≡ mostStatementsLarge) × (1 ≤ statementAt (now store) i .height) × (statementAt (now store) i .height ≤ mostStatementsLarge) ⌝ }
     ensures { λ r. ⌜ WalkedFrom (now (store .entry)) (now (chain .exit)) i r ⌝ }
 {
     let x = store::statement_at(store, i);
@@ -300,7 +300,7 @@ fn commit_due(
 
 // The commit stage of a tick from this store: the new log's length, its new names by place in the table, or refusal 7.
 pub fn commits(store: &[u8], station: Station, gained: &mut [u16]) -> Merged
-    requires { ⌜ (Form (now store)) × (wellFormed (stateOf (now store)) ≡ true) × (Loads station (now store)) × (length (now gained) ≡ 512) ⌝ }
+    requires { ⌜ (Form (now store)) × (wellFormed (stateOf (now store)) ≡ true) × (Loads station (now store)) × (length (now gained) ≡ mostStatementsLarge) ⌝ }
     ensures { λ r. ⌜ Committed (now (store .entry)) (now (gained .exit)) r ⌝ }
 {
     let logged = station.logged;

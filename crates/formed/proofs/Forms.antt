@@ -6,6 +6,7 @@ use mathlib.Core.List.{List}
 use native.Mathlib.Omega.{arith}
 use lib.Dec.{leb, eqb}
 use borrow.Author.Tests.{not-true, not-false, leb-true, eq-eqb}
+use Rattle.rules.specs.Limits.{mostStatementsLarge, mostTalliesLarge}
 use Rattle.rules.specs.Lists.{all, within}
 use Rattle.rules.proofs.Bounds.{statements-most, tallies-most}
 use Rattle.rules.proofs.Tests.{and-left, and-right}
@@ -17,13 +18,13 @@ use Rattle.store.proofs.Loaded.{loaded-statements, loaded-tallies, loaded-logge
 use Rattle.formed.specs.Lent.{Lent, Counts, fits}
 
 -- a count in range is below the larger limits too
-pub few-statements : {b : List ℕ} {n : ℕ} → Counts statementTable b n → n ≤ 512
+pub few-statements : {b : List ℕ} {n : ℕ} → Counts statementTable b n → n ≤ mostStatementsLarge
 few-statements {b} k = omega (arith, k .room, statements-most (sizeIn b))
 
-pub few-tallies : {b : List ℕ} {n : ℕ} → Counts tallyTable b n → n ≤ 1024
+pub few-tallies : {b : List ℕ} {n : ℕ} → Counts tallyTable b n → n ≤ mostTalliesLarge
 few-tallies {b} k = omega (arith, k .room, tallies-most (sizeIn b))
 
-pub few-names : {b : List ℕ} {n : ℕ} → Counts logTable b n → n ≤ 512
+pub few-names : {b : List ℕ} {n : ℕ} → Counts logTable b n → n ≤ mostStatementsLarge
 few-names {b} k = omega (arith, k .room, statements-most (sizeIn b))
 
 -- a table's count and unused records

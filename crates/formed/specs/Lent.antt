@@ -15,6 +15,7 @@ use Rattle.fields.specs.Places.{number}
 use Rattle.fields.specs.Records.{fields}
 use Rattle.wire.specs.Meaning.{statementOf}
 use Rattle.wire.specs.declared.Statement.{Statement}
+use Rattle.words.specs.Meaning.{Certifies}
 use Rattle.settings.specs.Made.{sizeFrom}
 use Rattle.store.specs.Layout.{sizeIn, headerFormat, storeLength, Table, statementTable, tallyTable, logTable, countOf}
 use Rattle.store.specs.Decode.{nth, statementAt, statements, tallies, blames, names, stateFrom}
@@ -66,11 +67,6 @@ voteInOrder clock v = elim v [ none ↦ true | some c ↦ leb c clock ]
 unfoldable pub isLink : ℕ → ℕ → ℕ → words.Statement → Bool
 unfolding isBlock
 isLink height name parent x = isBlock height name x && eqb parent (x .link)
-
--- a statement's certificate is a tally: its view is a number of four bytes, its height is not below 0
-pub record Certifies (x : words.Statement) : Type 0 where
-  pub view : x .isNewView ≡ true → x .link < 256 ^ 4
-  pub height : x .isNewView ≡ false → 1 ≤ x .height
 
 -- each of the first n statements
 abbrev pub AllCertify : List ℕ → ℕ → Type 0

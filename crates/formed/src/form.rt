@@ -6,11 +6,11 @@ ghost use Rattle.rules.specs.Lists.{all, within};
 ghost use Rattle.store.specs.Layout.{statementTable};
 ghost use Rattle.store.specs.Decode.{kinds, hasForm};
 ghost use Rattle.formed.specs.Lent.{Lent, Counts, fits};
-use super::NAME_SIZE;
-use super::STATEMENT_SIZE;
-use super::STATEMENTS;
-use super::TALLY_SIZE;
+use store::NAME_SIZE;
+use store::STATEMENT_SIZE;
+use store::STATEMENTS;
 use store::Station;
+use store::TALLY_SIZE;
 
 // Whether a table's count is in range and its unused records are zero.
 fn table_fits(store: &[u8], base: usize, size: usize, room: usize, count: usize) -> bool

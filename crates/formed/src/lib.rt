@@ -18,15 +18,6 @@ mod marks;
 mod statements;
 mod tallies;
 
-// Where each table begins, and the size of its records.
-const STATEMENTS: usize = 68;
-
-const STATEMENT_SIZE: usize = 80;
-
-const TALLY_SIZE: usize = 42;
-
-const NAME_SIZE: usize = 32;
-
 // Whether tallies, blame masks and log are well formed, where the statements are.
 fn tables_good(store: &[u8], station: Station) -> bool
     requires { ⌜ Ready (now store) station ⌝ }

@@ -4,6 +4,7 @@ ghost use mathlib.Core.Path.{_≡_};
 ghost use Prim.Native.Nat.{_+_, _-_, _*_, _≤_, _<_};
 ghost use lib.ListN.{length};
 ghost use lib.Dec.{eqb};
+ghost use Rattle.rules.specs.Limits.{mostTalliesLarge};
 ghost use Rattle.rules.specs.Lists.{any};
 ghost use Rattle.store.specs.Decode.{rows, nth};
 ghost use Rattle.formed.specs.Lent.{Marked};
@@ -19,7 +20,7 @@ pub fn marks_of(
     size: usize,
     count: usize,
 ) -> [u32; Settings::MOST_TALLIES_LARGE]
-    requires { ⌜ (count ≤ 1024) × (42 ≤ size) × (base + size * count ≤ length (now store)) ⌝ }
+    requires { ⌜ (count ≤ mostTalliesLarge) × (42 ≤ size) × (base + size * count ≤ length (now store)) ⌝ }
     ensures { λ r. ⌜ Marked (now (store .entry)) base size count r ⌝ }
 {
     let mut marks: [u32; Settings::MOST_TALLIES_LARGE] = [0; Settings::MOST_TALLIES_LARGE];
@@ -33,7 +34,7 @@ pub fn marks_of(
 
 // Whether mark i is met again. Every later one is looked at: without a way out the loop takes several at once.
 pub fn again(marks: &[u32; Settings::MOST_TALLIES_LARGE], i: usize, count: usize) -> bool
-    requires { ⌜ (i < count) × (count ≤ 1024) ⌝ }
+    requires { ⌜ (i < count) × (count ≤ mostTalliesLarge) ⌝ }
     ensures { λ r. ⌜ r ≡ any (eqb (nth (now (marks .entry)) i)) (rows (nth (now (marks .entry))) (i + 1) (count - (i + 1))) ⌝ }
 {
     let mark = marks[i];

@@ -9,10 +9,10 @@ ghost use Rattle.rules.specs.WellFormed.{statementGood};
 ghost use Rattle.store.specs.Layout.{sizeIn, storeLength, statementTable};
 ghost use Rattle.store.specs.Decode.{rows, voteOf, statementAt, statements};
 ghost use Rattle.formed.specs.Lent.{Counts, Marked, alone, bare, voteInOrder};
-use super::STATEMENT_SIZE;
-use super::STATEMENTS;
 use super::marks;
 use settings::Settings;
+use store::STATEMENT_SIZE;
+use store::STATEMENTS;
 use store::Station;
 use wire::Statement;
 

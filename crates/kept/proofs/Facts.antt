@@ -6,7 +6,7 @@ use mathlib.Core.Bool.{false}
 use mathlib.Core.List.{List, [], _∷_, List·Memᴰ as Mem}
 use mathlib.Core.Option.{none, some, Option·some-injective}
 use lib.ListN.{length, getD}
-use Rattle.rules.specs.Limits.{firstView, lastView, lastHeight, mostStations, mostStatements}
+use Rattle.rules.specs.Limits.{firstView, lastView, lastHeight, mostStations, mostStatements, lastViewLarge}
 use Rattle.rules.specs.Lists.{first}
 use Rattle.rules.specs.Words.{Statement, Tally, State}
 use Rattle.rules.specs.Inputs.{isBlock, chainTo, chain}
@@ -30,7 +30,7 @@ module _ {s : State} (f : Formed s) where
   pub clocks-of : Clocks s
   clocks-of = clocks-parts s (f .clocks)
 
-  pub view-of : (firstView ≤ s .view) × (s .view ≤ lastView (s .settings .size)) × (s .view ≤ 256)
+  pub view-of : (firstView ≤ s .view) × (s .view ≤ lastView (s .settings .size)) × (s .view ≤ lastViewLarge)
   view-of = view-within (s .settings) (s .view) (f .view)
 
   pub lock-of : CertificateGood (s .settings) (s .view) (s .lock)
@@ -42,7 +42,7 @@ module _ {s : State} (f : Formed s) where
     pub statement-of : Stated (s .settings) x
     statement-of = stored-stated f x m
 
-    pub statement-limits : (firstView ≤ x .view) × (x .view ≤ lastView (s .settings .size)) × (x .height ≤ lastHeight) × (x .author < s .settings .n) × (x .mask < 2 ^ mostStations) × (x .view ≤ 256)
+    pub statement-limits : (firstView ≤ x .view) × (x .view ≤ lastView (s .settings .size)) × (x .height ≤ lastHeight) × (x .author < s .settings .n) × (x .mask < 2 ^ mostStations) × (x .view ≤ lastViewLarge)
     statement-limits =
         let d = statement-of in
         let v = view-within (s .settings) (x .view) (d .view) in
@@ -58,7 +58,7 @@ module _ {s : State} (f : Formed s) where
     pub tally-of : TallyGood (s .settings) t
     tally-of = tally-parts (s .settings) t (all-mem (tallyGood (s .settings)) (f .tables .tallies) m)
 
-    pub tally-limits : (firstView ≤ t .view) × (t .view ≤ lastView (s .settings .size)) × (t .height ≤ lastHeight) × (t .mask < 2 ^ mostStations) × (t .view ≤ 256)
+    pub tally-limits : (firstView ≤ t .view) × (t .view ≤ lastView (s .settings .size)) × (t .height ≤ lastHeight) × (t .mask < 2 ^ mostStations) × (t .view ≤ lastViewLarge)
     tally-limits =
         let d = tally-of in
         let v = view-within (s .settings) (t .view) (d .view) in

@@ -7,7 +7,7 @@ use mathlib.Core.List.{List, []}
 use lib.ListN.{length, drop}
 use lib.Seq.{take-at}
 use lib.Dec.{eqb, lit≤}
-use Rattle.rules.specs.Limits.{Size, small, large, leastOut}
+use Rattle.rules.specs.Limits.{Size, small, large, leastOut, leastOutLarge}
 use Rattle.rules.specs.Lists.{be, unbe}
 use Rattle.rules.specs.Sizes.{Settings, goodSettings}
 use Rattle.rules.specs.Messages.{outgoing}
@@ -102,7 +102,7 @@ pub answered-store : (x : Outcome) (o : List ℕ) → answered x o .store ≡ en
 unfolding answered
 answered-store x o = refl
 
-out-most : (z : Size) → leastOut z ≤ 131_072
+out-most : (z : Size) → leastOut z ≤ leastOutLarge
 unfolding leastOut
 out-most small = lit≤ tt
 out-most large = lit≤ tt

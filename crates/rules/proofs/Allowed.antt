@@ -8,7 +8,7 @@ use mathlib.Core.Bool.{true}
 use lib.Dec.{leb, ltb, eqb, lit≤}
 use lib.Pow.{pow-lt}
 use borrow.Author.Tests.{ltb-true, leb-true, eqb-true, eqb-false, lt-ltb, le-leb, ne-eqb}
-use Rattle.rules.specs.Limits.{Size, leastStations, mostStations, leastDelay, mostDelay, firstView, lastView, lastHeight}
+use Rattle.rules.specs.Limits.{Size, leastStations, mostStations, leastDelay, mostDelay, firstView, lastView, lastHeight, lastViewLarge}
 use Rattle.rules.specs.Lists.{iff, within}
 use Rattle.rules.specs.Sizes.{Settings, goodSettings, leader, only, quorum}
 use Rattle.rules.specs.Messages.{Message, newView, propose, vote, blame, blameSet, status, viewAllowed, blockAllowed, maskAllowed, certificateAllowed, allowed}
@@ -70,7 +70,7 @@ only-lt g i h = pow-lt h
 
 -- ---- views, blocks, certificates
 
-pub view-within : (g : Settings) (v : ℕ) → viewAllowed g v ≡ true → (firstView ≤ v) × (v ≤ lastView (g .size)) × (v ≤ 256)
+pub view-within : (g : Settings) (v : ℕ) → viewAllowed g v ≡ true → (firstView ≤ v) × (v ≤ lastView (g .size)) × (v ≤ lastViewLarge)
 unfolding viewAllowed
 view-within g v e = let t = within-le firstView (lastView (g .size)) v e in (t .0, t .1, omega (arith, views-most (g .size)))
 
@@ -131,7 +131,7 @@ module _ (g : Settings) (m : ℕ) where
   pub certificate-mask : (h c : ℕ) → certificateAllowed g h c m ≡ true → m < 2 ^ g .n
   certificate-mask h c e = elim (certificate-cases h c e) [ inl t ↦ rw (t .2) (none-lt g) | inr t ↦ mask-parts (t .2) .0 ]
 
-  pub certificate-view : (h c : ℕ) → certificateAllowed g h c m ≡ true → (c ≤ lastView (g .size)) × (c ≤ 256)
+  pub certificate-view : (h c : ℕ) → certificateAllowed g h c m ≡ true → (c ≤ lastView (g .size)) × (c ≤ lastViewLarge)
   certificate-view h c e =
       let w = views-most (g .size) in
       elim (certificate-cases h c e) [ inl t ↦ (omega arith, omega arith) | inr t ↦ (t .1, omega arith) ]

@@ -1,9 +1,9 @@
 -- What holds of the limits in both columns: the bounds that fields and buffers are made for. Assumes nothing.
 use Prim.Native.Nat.{ℕ, _*_, _+_, _≤_}
 use lib.Dec.{lit≤}
-use Rattle.rules.specs.Limits.{Size, small, large, lastView, mostStatements, mostTallies, leastOut}
+use Rattle.rules.specs.Limits.{Size, small, large, lastView, mostStatements, mostTallies, leastOut, lastViewLarge, mostStatementsLarge, mostTalliesLarge}
 
-pub views-most : (z : Size) → lastView z ≤ 256
+pub views-most : (z : Size) → lastView z ≤ lastViewLarge
 unfolding lastView
 views-most small = lit≤ tt
 views-most large = lit≤ tt
@@ -13,12 +13,12 @@ unfolding lastView
 views-some small = lit≤ tt
 views-some large = lit≤ tt
 
-pub statements-most : (z : Size) → mostStatements z ≤ 512
+pub statements-most : (z : Size) → mostStatements z ≤ mostStatementsLarge
 unfolding mostStatements
 statements-most small = lit≤ tt
 statements-most large = lit≤ tt
 
-pub tallies-most : (z : Size) → mostTallies z ≤ 1024
+pub tallies-most : (z : Size) → mostTallies z ≤ mostTalliesLarge
 unfolding mostTallies
 tallies-most small = lit≤ tt
 tallies-most large = lit≤ tt

@@ -11,6 +11,7 @@ use Rattle.rules.specs.Lists.{first, keep}
 use Rattle.rules.specs.Words.{Statement, conflict, Certificate, Tally, ofBlock, voters}
 use Rattle.rules.specs.Inputs.{pair}
 use Rattle.rules.proofs.Tests.{by-bool}
+use Rattle.words.proofs.Statements.{other-view}
 use Rattle.store.specs.Decode.{rows}
 use Rattle.store.specs.Changes.{firstFrom}
 use Rattle.store.specs.declared.Found.{Found}
@@ -18,7 +19,6 @@ use Rattle.store.specs.declared.Found.the-variants.{At, Nothing}
 use Rattle.store.proofs.Rows.{rows-from}
 use Rattle.search.specs.Lookups.{ofView, rivalIn}
 use Rattle.search.specs.Finds.{foundIn, Inside, Finds}
-use Rattle.search.proofs.Statements.{other-view}
 use Rattle.search.proofs.Searches.{rows-end, found-first}
 
 -- ---- what was found, taken apart

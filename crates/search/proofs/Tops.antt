@@ -13,8 +13,8 @@ use Rattle.rules.proofs.Tests.{by-bool}
 use Rattle.rules.specs.Inputs.{top}
 use Rattle.fields.specs.Names.{nameOf}
 use Rattle.fields.specs.declared.Name.{Name}
+use Rattle.words.specs.Meaning.{blockOf}
 use Rattle.store.specs.Decode.{rows}
-use Rattle.store.specs.Meaning.{tallyOf}
 use Rattle.store.specs.declared.Found.{Found}
 use Rattle.store.specs.declared.Found.the-variants.{At, Nothing}
 use Rattle.search.specs.Lookups.{chosen}
@@ -118,10 +118,6 @@ module _ (g : Settings) (v : ℕ) where
   highest-cons : (t : Tally) (ts : List Tally) → highest g v (t ∷ ts) ≡ chosen g v (certificateOf t) (highest g v ts)
   unfolding highest certified chosen
   highest-cons t ts = refl
-
-  pub from-genesis : (name : Name) → nameOf name ≡ 0 → tallyOf (record { view = 0; height = 0; name = name; mask = 0 }) ≡ genesis
-  unfolding tallyOf
-  from-genesis name e = rw e
 
   module _ (f : ℕ → Tally) (n : ℕ) where
     pub highest-none : (i : ℕ) → n ≤ i → genesis ≡ highest g v (rows f i (n - i))

@@ -9,16 +9,6 @@ use Rattle.rules.specs.Lists.{first, keep}
 use Rattle.rules.specs.Sizes.{Settings, quorum}
 use Rattle.rules.specs.Words.{Statement, conflict, Certificate, Tally, certificateOf, certificate, certified, below, higher}
 
--- a new-view's link is a view, and a propose is above genesis, so that the certificate's numbers fit their words
-pub record Certifies (x : Statement) : Type 0 where
-  pub view : x .isNewView ≡ true → x .link < 2 ^ 32
-  pub above : x .isNewView ≡ false → 0 < x .height
-
--- rules' `belowLock`, with the lock alone
-unfoldable pub ranksBelow : Statement → Certificate → Bool
-unfolding below certificate
-ranksBelow x lock = x .isNewView && below (certificate x) lock
-
 -- one step of rules' `highest`
 unfoldable pub chosen : Settings → ℕ → Certificate → Certificate → Certificate
 unfolding quorum higher

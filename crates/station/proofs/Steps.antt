@@ -33,9 +33,10 @@ use Rattle.wire.specs.declared.Message.{Message}
 use Rattle.wire.specs.declared.Message.the-variants.{Stated, Vote, Blame, BlameSet, Status}
 use Rattle.wire.specs.declared.Read.{Read}
 use Rattle.wire.specs.declared.Read.the-variants.{Readable, Unreadable}
+use Rattle.words.specs.Meaning.{blockOf}
 use Rattle.store.specs.Layout.{sizeIn}
 use Rattle.store.specs.Decode.{stateOf}
-use Rattle.store.specs.Meaning.{tallyOf, Loads}
+use Rattle.store.specs.Meaning.{Loads}
 use Rattle.store.specs.declared.Tally.{Tally}
 use Rattle.store.specs.declared.Station.{Station}
 use Rattle.store.proofs.Loaded.{loaded-settings}
@@ -86,13 +87,13 @@ module _ (s : State) {m : Message} where
 
   module _ {v h : ℕ} {b : Name} where
     pub vote-handled : {a k : ℕ} → m ≡ Vote v h b a → k ≡ only a
-        → ifRoom s (tallied (tallyOf (record { view = v; height = h; name = b; mask = k })) s) ≡ ifRoom s (handled (messageOf m) s)
-    unfolding handled messageOf tallyOf
+        → ifRoom s (tallied (blockOf (record { view = v; height = h; name = b; mask = k })) s) ≡ ifRoom s (handled (messageOf m) s)
+    unfolding handled messageOf blockOf
     vote-handled e q = rw (e, q)
 
     pub status-handled : {k : ℕ} → m ≡ Status h b v k
-        → ifRoom s (tallied (tallyOf (record { view = v; height = h; name = b; mask = k })) s) ≡ ifRoom s (handled (messageOf m) s)
-    unfolding handled messageOf tallyOf
+        → ifRoom s (tallied (blockOf (record { view = v; height = h; name = b; mask = k })) s) ≡ ifRoom s (handled (messageOf m) s)
+    unfolding handled messageOf blockOf
     status-handled e = rw e
 
   pub blame-handled : {v a k : ℕ} → m ≡ Blame v a → k ≡ only a → ifRoom s (blaming v k s) ≡ ifRoom s (handled (messageOf m) s)

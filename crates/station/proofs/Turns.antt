@@ -9,7 +9,7 @@ use native.Mathlib.Omega.{arith}
 use lib.Dec.{eqb, lit<, lit≤}
 use lib.ListN.{length, drop, length-drop}
 use borrow.Author.Tests.{eq-eqb, ne-eqb, not-true, not-false}
-use Rattle.rules.specs.Limits.{Size, small, large, mostStatements, lastClock, leastOut}
+use Rattle.rules.specs.Limits.{Size, small, large, mostStatements, lastClock, leastOut, mostStatementsLarge}
 use Rattle.rules.specs.Lists.{any}
 use Rattle.rules.specs.Sizes.{Settings}
 use Rattle.rules.specs.Words as words
@@ -219,7 +219,7 @@ module _ {b t : List ℕ} {n : ℕ} (k : Formed b) (h : stateOf b .clock < lastC
       omega (arith, length-drop old L, log-few)
 
   module _ {c : ℕ} {b₁ : List ℕ} (e : c ≡ S .clock + 1) (l : Left b₁ (withClock c S)) where
-    pub enough-now : {room : ℕ} → length t ≡ 512 → leastOut (sizeIn b) ≤ room → Enough b₁ t n 0 room
+    pub enough-now : {room : ℕ} → length t ≡ mostStatementsLarge → leastOut (sizeIn b) ≤ room → Enough b₁ t n 0 room
     enough-now m p = gained-enough b b₁ t n c g l m gained-few (omega (arith, gained-few, tick-enough (sizeIn b)))
 
     now-later : stateOf b₁ ≡ later S

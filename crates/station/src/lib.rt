@@ -15,8 +15,9 @@ ghost use Rattle.wire.specs.Meaning.{statementOf, messageOf};
 ghost use Rattle.store.specs.Layout.{sizeIn};
 ghost use Rattle.store.specs.Decode.{stateOf, Form};
 ghost use Rattle.store.specs.Fresh.{answer, freshly};
-ghost use Rattle.store.specs.Meaning.{tallyOf, causeOf};
+ghost use Rattle.store.specs.Meaning.{causeOf};
 ghost use Rattle.kept.specs.Said.{Sendable};
+ghost use Rattle.words.specs.Meaning.{blockOf};
 ghost use Rattle.calls.specs.Calls.{stepCalled, offerCalled, tickCalled, Gives};
 ghost use Rattle.acts.specs.Works.{Formed, Works};
 ghost use Rattle.turns.specs.Gains.{grownLog};
@@ -30,7 +31,6 @@ use store::Cause;
 use store::Found;
 use store::Phase;
 use store::Station;
-use store::Tally;
 use wire::Message;
 use wire::Read;
 use wire::Statement;
@@ -148,9 +148,9 @@ fn stated(store: &mut [u8], out: &mut [u8], x: Statement) -> u64
 }
 
 // A vote or a status.
-fn counted(store: &mut [u8], tally: Tally) -> u64
+fn counted(store: &mut [u8], tally: Certificate) -> u64
     requires { ⌜ Form (now store) ⌝ }
-    ensures { λ r. ⌜ Mutely (ifRoom (stateOf (now (store .entry))) (inputs.tallied (tallyOf tally) (stateOf (now (store .entry))))) (now (store .exit)) r ⌝ }
+    ensures { λ r. ⌜ Mutely (ifRoom (stateOf (now (store .entry))) (inputs.tallied (blockOf tally) (stateOf (now (store .entry))))) (now (store .exit)) r ⌝ }
 {
     if !acts::tallied(store, tally) {
         return stop(store, 6, Cause::Full);
@@ -245,7 +245,7 @@ fn extended(store: &[u8], name: Name) -> Offer
         return Offer::NotTaken;
     };
     let top = store::statement_at(store, i);
-    let mask = search::voters(store, search::own_block(top, 0));
+    let mask = search::voters(store, words::own_block(top, 0));
     if !settings.quorum(mask as u64) {
         return Offer::NotTaken;
     }

@@ -11,7 +11,7 @@ use lib.ListN.{length, getD, set}
 use Rattle.rules.specs.Limits.{Size, small, lastView, mostStatements, mostTallies}
 use Rattle.rules.specs.Lists.{all, within}
 use Rattle.rules.specs.Sizes.{joined}
-use Rattle.rules.specs.Words.{Statement, Certificate, Tally, opened, Phase, grown}
+use Rattle.rules.specs.Words.{Statement, Tally, Phase, grown}
 use Rattle.rules.specs.Inputs.{withPhase, withClock, withTables, withBlames, withLog, noted, blamesOf, blamed}
 use Rattle.rules.proofs.Bounds.{statements-most, tallies-most}
 use Rattle.rules.proofs.Masks.{joined-lt}
@@ -21,7 +21,9 @@ use Rattle.fields.specs.Records.{fields, puts, Fit}
 use Rattle.fields.proofs.Records.{length-puts, bytes-puts, fields-puts}
 use Rattle.fields.proofs.Laws.{number-lt, number-put-same, length-put, bytes-put}
 use Rattle.store.specs.Layout.{headerFormat, statementFormat, tallyFormat, nameFormat, Table, statementTable, tallyTable, logTable, blameBase, endOf, storeLength, sizeIn, countOf, placeOf}
-use Rattle.store.specs.Decode.{nth, phaseNumber, kindNumber, voteOf, statementFrom, statementValues, tallyFrom, tallyValues, statementAt, tallyFor, blameFor, nameFor, kindAt, statements, tallies, blames, blamesFor, names, kinds, rows, stateFrom, stateOf, Form, Left}
+use Rattle.store.specs.Decode.{nth, phaseNumber, kindNumber, voteOf, statementFrom, statementValues, tallyFrom, tallyValues, statementAt, tallyFor, tallyAt, blameFor, nameFor, kindAt, statements, tallies, blames, blamesFor, names, kinds, rows, stateFrom, stateOf, Form, Left}
+use Rattle.store.specs.Meaning.{tallyOf}
+use Rattle.store.specs.declared.Tally as code
 use Rattle.store.specs.Changes.{growing, opening, storing, noting, appending}
 use Rattle.store.proofs.Values.{number-phase, number-kind}
 use Rattle.store.proofs.Rows.{rows-at, change-none}
@@ -70,10 +72,6 @@ noted-row b i c = let e : voteOf (c + 1) ≡ some c = rw add-one in simp e
 grown-row : (z : Size) (b : List ℕ) (i m : ℕ) → tallyFrom (set (fields b (placeOf tallyTable z i) tallyFormat) 3 (joined (tallyFor z b i .mask) m)) ≡ grown (tallyFor z b i) m
 unfolding grown tallyFor
 grown-row z b i m = refl
-
-voters-fit : (z : Size) (b : List ℕ) → Bytes b → (i m : ℕ) → m < 256 ^ 2 → joined (tallyFor z b i .mask) m < 256 ^ 2
-unfolding tallyFor
-voters-fit z b h i m l = joined-lt 16 _ m (number-lt b h _ 2) l
 
 -- the kinds of statements are another reading of their table
 kinds-held : (b : List ℕ) (k : Form b) → Holds (sizeIn b) statementTable kindAt b (kinds b)
@@ -213,16 +211,16 @@ module _ (b : List ℕ) (k : Form b) where
       left (sizeIn b) bytes (long ∙ q .long) eh (statements-kept b b′ k xs) holds (blames-kept b b′ k (part high (omega arith) (omega arith)))
       (log-kept b b′ k record { count = mid .same 66 2 (omega arith) (omega arith); records = part high (omega arith) (omega arith) }) (kinds-kept b b′ k xs)
 
-  pub add-tally : (t : Certificate) → countOf tallyTable b < mostTallies (sizeIn b) → Fit tallyFormat (tallyValues (opened t))
-      → Left (put (puts b (placeOf tallyTable (sizeIn b) (countOf tallyTable b)) tallyFormat (tallyValues (opened t))) 64 2 (countOf tallyTable b + 1)) (opening t (stateOf b))
+  pub add-tally : (t : Tally) → countOf tallyTable b < mostTallies (sizeIn b) → Fit tallyFormat (tallyValues t)
+      → Left (put (puts b (placeOf tallyTable (sizeIn b) (countOf tallyTable b)) tallyFormat (tallyValues t)) 64 2 (countOf tallyTable b + 1)) (opening t (stateOf b))
   unfolding opening withTables stateOf stateFrom
   add-tally t l fit =
       let n = countOf tallyTable b in
-      let b′ = put (puts b (placeOf tallyTable (sizeIn b) n) tallyFormat (tallyValues (opened t))) 64 2 (n + 1) in
-      let a = add-record (sizeIn b) tallyTable (tallyFor (sizeIn b)) (localTally (sizeIn b)) b (q .tallies) 12 (placedTallies (sizeIn b)) tallyFormat orderedTally (k .bytes) (q .long) (tallyValues (opened t)) (opened t) l fit (tally-row (sizeIn b) b′ n) in
+      let b′ = put (puts b (placeOf tallyTable (sizeIn b) n) tallyFormat (tallyValues t)) 64 2 (n + 1) in
+      let a = add-record (sizeIn b) tallyTable (tallyFor (sizeIn b)) (localTally (sizeIn b)) b (q .tallies) 12 (placedTallies (sizeIn b)) tallyFormat orderedTally (k .bytes) (q .long) (tallyValues t) t l fit (tally-row (sizeIn b) b′ n) in
       in-tallies b′ (a .bytes) (a .long) (a .header) (part (a .low) (omega arith) (omega arith)) (a .mid) (a .high) (a .holds)
 
-  pub put-voters : (j m : ℕ) → j < countOf tallyTable b → m < 256 ^ 2
+  put-voters : (j m : ℕ) → j < countOf tallyTable b → joined (tallyFor (sizeIn b) b j .mask) m < 256 ^ 2
       → Left (put b (placeOf tallyTable (sizeIn b) j + 40) 2 (joined (tallyFor (sizeIn b) b j .mask) m)) (growing j m (stateOf b))
   unfolding growing withTables stateOf stateFrom
   put-voters j m l fit =
@@ -231,10 +229,18 @@ module _ (b : List ℕ) (k : Form b) where
       let b′ = put b (at + 40) 2 v in
       let n = q .tallies .used .within in
       let row : fields b′ at tallyFormat ≡ set (fields b at tallyFormat) 3 v =
-      field-put b at 0 42 tallyFormat orderedTally (omega (arith, q .long)) 3 v (omega arith) (voters-fit (sizeIn b) b (k .bytes) j m fit) in
+      field-put b at 0 42 tallyFormat orderedTally (omega (arith, q .long)) 3 v (omega arith) fit in
       let x = put-record (sizeIn b) tallyTable (tallyFor (sizeIn b)) (localTally (sizeIn b)) b (q .tallies) 12 (placedTallies (sizeIn b)) j 40 2 v (λ t. grown t m) l (omega arith) (tally-row (sizeIn b) b′ j row ∙ grown-row (sizeIn b) b j m) in
       in-tallies b′ (bytes-put b (k .bytes) (at + 40) 2 v) (length-put b (at + 40) 2 v) (header-kept b b′ k (part (x .low) (omega arith) (omega arith)))
       (part (x .low) (omega arith) (omega arith)) (part (x .low) (omega arith) (omega arith)) (x .high) (x .holds)
+
+  -- by the tally that grew
+  pub grown-at : (j m : ℕ) (t u : code.Tally) → j < countOf tallyTable b → tallyOf t ≡ tallyAt b j → tallyOf u ≡ grown (tallyOf t) m
+      → {b′ : List ℕ} → b′ ≡ put b (placeOf tallyTable (sizeIn b) j + 40) 2 (u .mask) → u .mask < 256 ^ 2 → Left b′ (growing j m (stateOf b))
+  unfolding tallyOf grown
+  grown-at j m t u l e f p fit =
+      let mask : u .mask ≡ joined (tallyAt b j .mask) m = ap (λ (t : Tally). t .mask) f ∙ ap (λ (t : Tally). joined (t .mask) m) e in
+      rw (p, mask) (put-voters j m l (rw (← mask) fit))
 
   -- ---- the blame masks
 

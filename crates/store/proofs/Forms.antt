@@ -7,7 +7,7 @@ use native.Mathlib.Omega.{arith}
 use lib.ListN.{length}
 use lib.Dec.{leb, eqb}
 use borrow.Author.Tests.{eqb-true, leb-true, eq-eqb, ne-eqb, le-leb}
-use Rattle.rules.specs.Limits.{Size, small, large, lastView, mostStatements, mostTallies}
+use Rattle.rules.specs.Limits.{Size, small, large, lastView, mostStatements, mostTallies, mostStatementsLarge, mostTalliesLarge}
 use Rattle.rules.specs.Lists.{all, within}
 use Rattle.rules.specs.Words.{Statement, Tally}
 use Rattle.rules.proofs.Bounds.{statements-most, tallies-most}
@@ -121,11 +121,11 @@ left z {b} {h} {xs} {ts} {ms} {l} bytes long eh x t em n k =
 pub form-long : (b : List ℕ) → Form b → length b ≡ storeLength (sizeIn b)
 form-long b k = parts b (k .form) .long
 
-pub form-statements : (b : List ℕ) → Form b → (countOf statementTable b ≤ mostStatements (sizeIn b)) × (countOf statementTable b ≤ 512)
+pub form-statements : (b : List ℕ) → Form b → (countOf statementTable b ≤ mostStatements (sizeIn b)) × (countOf statementTable b ≤ mostStatementsLarge)
 form-statements b k = let h = parts b (k .form) .statements .used .within in (h, omega (arith, statements-most (sizeIn b)))
 
-pub form-tallies : (b : List ℕ) → Form b → (countOf tallyTable b ≤ mostTallies (sizeIn b)) × (countOf tallyTable b ≤ 1024)
+pub form-tallies : (b : List ℕ) → Form b → (countOf tallyTable b ≤ mostTallies (sizeIn b)) × (countOf tallyTable b ≤ mostTalliesLarge)
 form-tallies b k = let h = parts b (k .form) .tallies .used .within in (h, omega (arith, tallies-most (sizeIn b)))
 
-pub form-log : (b : List ℕ) → Form b → (countOf logTable b ≤ mostStatements (sizeIn b)) × (countOf logTable b ≤ 512)
+pub form-log : (b : List ℕ) → Form b → (countOf logTable b ≤ mostStatements (sizeIn b)) × (countOf logTable b ≤ mostStatementsLarge)
 form-log b k = let h = parts b (k .form) .log .used .within in (h, omega (arith, statements-most (sizeIn b)))

@@ -1,16 +1,18 @@
 -- Joining by the place found: the tally there grows, or one is opened; genesis in view 0 is left out. Assumes nothing.
 use Prim.Native.Nat.{ℕ, _<_, _≤_}
-use mathlib.Core.Path.{_≡_, sym, ap, _∙_}
+use mathlib.Core.Path.{_≡_, refl, sym, ap, _∙_}
 use mathlib.Core.List.{List, [], _∷_}
 use native.Mathlib.Omega.{arith}
+use lib.Bits.{or-zero-l}
 use lib.ListN.{length, length-append}
 use borrow.Author.Tests.{eq-eqb, ne-eqb}
 use Rattle.rules.specs.Limits.{mostTallies}
-use Rattle.rules.specs.Words.{Certificate, Tally, opened, ofBlock, join, joinCertificate, State}
+use Rattle.rules.specs.Words.{Certificate, Tally, opened, sameBlock, ofBlock, grown, join, joinCertificate, State}
+use Rattle.rules.specs.Sizes.{joined}
 use Rattle.rules.specs.Inputs.{withTables}
 use Rattle.store.specs.Layout.{tallyTable, sizeIn, countOf}
 use Rattle.store.specs.Decode.{tallyAt, tallies, stateFrom, stateOf, Left}
-use Rattle.store.specs.Changes.{firstFrom, growing, opening, joining, Joined, certifying}
+use Rattle.store.specs.Changes.{firstFrom, withVoters, growing, opening, joining, Joined, certifying}
 use Rattle.store.specs.declared.Found.{Found}
 use Rattle.store.specs.declared.Found.the-variants.{At, Nothing}
 use Rattle.store.proofs.Rows.{rows-length}
@@ -31,7 +33,7 @@ module _ (b : List ℕ) (t : Certificate) (r : Found) (e : r ≡ firstFrom (ofBl
   unfolding growing joining stateOf stateFrom
   grown-joins j q h = rw (join-found t (tallies b) j (sym e ∙ q)) h
 
-  opened-joins : r ≡ Nothing → {b′ : List ℕ} → Left b′ (opening t (stateOf b)) → Left b′ (joining t (stateOf b))
+  opened-joins : r ≡ Nothing → {b′ : List ℕ} → Left b′ (opening (opened t) (stateOf b)) → Left b′ (joining t (stateOf b))
   unfolding opening joining stateOf stateFrom
   opened-joins q h = rw (join-missing t (tallies b) (sym e ∙ q)) h
 
@@ -43,13 +45,23 @@ module _ (b : List ℕ) (t : Certificate) (r : Found) (e : r ≡ firstFrom (ofBl
       let e′ : tallies b′ ≡ join t (tallies b) = ap (λ (s : State). s .tallies) (l .is) in
       record { left = l; place = sym (ap (firstFrom (ofBlock t) 0) e′ ∙ joined-found t (tallies b) j (sym e ∙ q)) }
 
-  pub joined-new : r ≡ Nothing → {b′ : List ℕ} {i : ℕ} → i ≡ countOf tallyTable b → Left b′ (opening t (stateOf b)) → Joined t (stateOf b) b′ i
+  pub joined-new : r ≡ Nothing → {b′ : List ℕ} {i : ℕ} → i ≡ countOf tallyTable b → Left b′ (opening (opened t) (stateOf b)) → Joined t (stateOf b) b′ i
   unfolding joining stateOf stateFrom withTables tallies
   joined-new q {b′} {i} d h =
       let l = opened-joins q h in
       let e′ : tallies b′ ≡ join t (tallies b) = ap (λ (s : State). s .tallies) (l .is) in
       let n : i ≡ length (tallies b) = d ∙ sym (rows-length (tallyAt b) 0 (countOf tallyTable b)) in
       record { left = l; place = ap At n ∙ sym (ap (firstFrom (ofBlock t) 0) e′ ∙ joined-missing t (tallies b) (sym e ∙ q)) }
+
+-- whoever votes, the search is for the block
+pub voters-apart : (m : ℕ) (t : Certificate) (us : List Tally) → firstFrom (ofBlock t) 0 us ≡ firstFrom (ofBlock (withVoters m t)) 0 us
+unfolding sameBlock
+voters-apart m t us = refl
+
+-- who joins an empty tally first are all its voters
+pub empty-grown : (t : Certificate) (m : ℕ) {u v : Tally} → u ≡ opened (withVoters 0 t) → v ≡ grown u m → v ≡ opened (withVoters m t)
+unfolding grown joined
+empty-grown t m e f = f ∙ ap (λ (w : Tally). grown w m) e ∙ ap (λ (n : ℕ). opened (withVoters n t)) (or-zero-l m)
 
 pub certificate-joins : (t : Certificate) (us : List Tally) → (t .view ≡ 0 → ⊥) → joinCertificate t us ≡ join t us
 unfolding joinCertificate

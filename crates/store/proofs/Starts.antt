@@ -11,7 +11,7 @@ use borrow.Author.Tests.{leb-true, ltb-true, eq-eqb, ne-eqb}
 use Rattle.rules.specs.Limits.{leastStations, mostStations, leastDelay, mostDelay, Size, lastView}
 use Rattle.rules.specs.Lists.{all, within}
 use Rattle.rules.specs.Sizes.{Settings, goodSettings}
-use Rattle.rules.specs.Words.{opened, inView, State, fresh}
+use Rattle.rules.specs.Words.{inView, State, fresh}
 use Rattle.settings.specs.Made.{made, pick, sizeFrom}
 use Rattle.settings.specs.declared.Size as declared-size
 use Rattle.settings.specs.declared.Settings as declared
@@ -23,11 +23,12 @@ use Rattle.fields.specs.Places.{number, put, Bytes}
 use Rattle.fields.specs.Records.{fields, puts, Fit}
 use Rattle.fields.proofs.Laws.{number-put-same, number-split, length-put, bytes-put}
 use Rattle.fields.proofs.Records.{fit-fields}
-use Rattle.store.specs.Layout.{headerFormat, tallyFormat, Table, statementTable, tallyTable, logTable, blameBase, storeLength, sizeIn, countOf}
-use Rattle.store.specs.Decode.{tallyValues, statementAt, tallyFor, blameFor, nameFor, kindAt, blames, blamesFor, kinds, rows, statements, tallies, names, stateFrom, stateOf, headerValues, Form, Left, encode}
-use Rattle.store.specs.Meaning.{tallyOf, headerOf, Loads}
+use Rattle.words.specs.Meaning.{blockOf}
+use Rattle.words.specs.declared.Certificate.{Certificate}
+use Rattle.store.specs.Layout.{headerFormat, certificateFormat, Table, statementTable, tallyTable, logTable, blameBase, storeLength, sizeIn, countOf}
+use Rattle.store.specs.Decode.{certificateValues, statementAt, tallyFor, blameFor, nameFor, kindAt, blames, blamesFor, kinds, rows, statements, tallies, names, stateFrom, stateOf, headerValues, Form, Left, encode}
+use Rattle.store.specs.Meaning.{headerOf, Loads}
 use Rattle.store.specs.declared.Phase.the-variants.{InView}
-use Rattle.store.specs.declared.Tally.{Tally}
 use Rattle.store.specs.declared.Station.{Station}
 use Rattle.store.specs.Fresh.{answer, freshly}
 use Rattle.store.proofs.Loaded.{loaded-settings, loaded-clock, loaded-statements, loaded-tallies, loaded-logged}
@@ -159,12 +160,12 @@ module _ (b : List ℕ) (n d own : ℕ) (y : declared-size.Size) (same : sizeFro
 
 -- ---- entry
 
-pub entered : (b : List ℕ) (k : Form b) (s : Station) → Loads s b → (v : ℕ) (t : Tally) → v < 256 ^ 4 → Fit tallyFormat (tallyValues (opened (tallyOf t)))
+pub entered : (b : List ℕ) (k : Form b) (s : Station) → Loads s b → (v : ℕ) (t : Certificate) → v < 256 ^ 4 → Fit certificateFormat (certificateValues (blockOf t))
     → Left
     (puts b 0 headerFormat
     (headerOf (record { settings = s .settings; phase = InView; view = v; entry = s .clock; clock = s .clock; lock = t; statements = s .statements; tallies = s .tallies; logged = s .logged })))
-    (entering v (tallyOf t) (stateOf b))
-unfolding headerOf tallyOf entering stateOf stateFrom
+    (entering v (blockOf t) (stateOf b))
+unfolding headerOf blockOf entering stateOf stateFrom
 entered b k s e v t lv lt =
     let f : Fit headerFormat (headerOf s) = subst (Fit headerFormat) (sym (e .header)) (fit-fields b (k .bytes) 0 headerFormat) in
     let g = f .1 in
@@ -185,7 +186,7 @@ entered b k s e v t lv lt =
             view = v;
             entry = then i;
             clock = then i;
-            lock = tallyOf t;
+            lock = blockOf t;
             statements = statements b;
             tallies = tallies b;
             blames = blames b;

@@ -3,7 +3,7 @@ use Prim.Native.Nat.{ℕ, zero, suc}
 use mathlib.Core.Path.{_≡_}
 use mathlib.Core.Bool.{Bool, true, false}
 use mathlib.Core.List.{List, [], _∷_, _++_}
-use Rattle.rules.specs.Words.{Statement, Certificate, Tally, opened, sameBlock, ofBlock, grown, join, joinCertificate, State}
+use Rattle.rules.specs.Words.{Statement, Certificate, Tally, sameBlock, ofBlock, grown, join, joinCertificate, State}
 use Rattle.rules.specs.Inputs.{withTables, withLog, noted}
 use Rattle.store.specs.Decode.{tallies, Left}
 use Rattle.store.specs.declared.Found.{Found}
@@ -33,10 +33,14 @@ unfoldable pub growing : ℕ → ℕ → State → State
 unfolding withTables changeAt grown
 growing i m s = withTables (s .statements) (changeAt (λ t. grown t m) i (s .tallies)) s
 
--- a tally is opened
-unfoldable pub opening : Certificate → State → State
+-- a tally is put behind the others
+unfoldable pub opening : Tally → State → State
 unfolding withTables
-opening t s = withTables (s .statements) (s .tallies ++ opened t ∷ []) s
+opening t s = withTables (s .statements) (s .tallies ++ t ∷ []) s
+
+-- a block of a view, with these voters
+abbrev pub withVoters : ℕ → Certificate → Certificate
+withVoters m t = record { view = t .view; height = t .height; name = t .name; mask = m }
 
 -- a mask joins its tally, "opened if missing"
 unfoldable pub joining : Certificate → State → State

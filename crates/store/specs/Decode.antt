@@ -8,7 +8,7 @@ use lib.ListN.{length, getD, replicate, drop}
 use lib.Dec.{leb, eqb}
 use Rattle.rules.specs.Limits.{Size, small, lastView}
 use Rattle.rules.specs.Lists.{unbe, all, within}
-use Rattle.rules.specs.Words.{Statement, Tally, Phase, inView, waiting, stopped, full, split, clock, State}
+use Rattle.rules.specs.Words.{Statement, Certificate, Tally, Phase, inView, waiting, stopped, full, split, clock, State}
 use Rattle.rules.specs.WellFormed.{wellFormed}
 use Rattle.fields.specs.Places.{number, Bytes}
 use Rattle.fields.specs.Records.{Format, fields}
@@ -66,6 +66,12 @@ statementFrom vs =
 abbrev pub statementValues : Statement → List ℕ
 statementValues x =
     x .view ∷ x .height ∷ x .name ∷ kindNumber (x .isNewView) ∷ x .author ∷ x .mask ∷ x .link ∷ voteNumber (x .voted) ∷ []
+
+abbrev pub certificateFrom : List ℕ → Certificate
+certificateFrom vs = record { view = nth vs 0; height = nth vs 1; name = nth vs 2; mask = nth vs 3 }
+
+abbrev pub certificateValues : Certificate → List ℕ
+certificateValues t = t .view ∷ t .height ∷ t .name ∷ t .mask ∷ []
 
 abbrev pub tallyFrom : List ℕ → Tally
 tallyFrom vs = record { view = nth vs 0; height = nth vs 1; name = nth vs 2; mask = nth vs 3 }

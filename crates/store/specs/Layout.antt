@@ -18,8 +18,12 @@ abbrev pub statementFormat : Format
 statementFormat = (0, 4) ∷ (4, 4) ∷ (8, 32) ∷ (40, 1) ∷ (41, 1) ∷ (42, 2) ∷ (44, 32) ∷ (76, 4) ∷ []
 
 -- view, height, name, mask
+abbrev pub certificateFormat : Format
+certificateFormat = (0, 4) ∷ (4, 4) ∷ (8, 32) ∷ (40, 2) ∷ []
+
+-- a tally's record has no more than a certificate has
 abbrev pub tallyFormat : Format
-tallyFormat = (0, 4) ∷ (4, 4) ∷ (8, 32) ∷ (40, 2) ∷ []
+tallyFormat = certificateFormat
 
 abbrev pub maskFormat : Format
 maskFormat = (0, 2) ∷ []
@@ -33,6 +37,18 @@ sizeOf [] = 0
 sizeOf (f ∷ []) = f .0 + f .1
 sizeOf (f ∷ g ∷ fs) = sizeOf (g ∷ fs)
 
+abbrev pub headerSize : ℕ
+headerSize = sizeOf headerFormat
+
+abbrev pub statementSize : ℕ
+statementSize = sizeOf statementFormat
+
+abbrev pub certificateSize : ℕ
+certificateSize = sizeOf certificateFormat
+
+abbrev pub tallySize : ℕ
+tallySize = sizeOf tallyFormat
+
 -- a table: where its first record is, a record's size, how many it has room for, and where their count stands
 pub record Table : Type 0 where
   pub base : Size → ℕ
@@ -45,10 +61,10 @@ abbrev pub endOf : Table → Size → ℕ
 endOf t z = t .base z + t .size * t .room z
 
 abbrev pub statementTable : Table
-statementTable = record { base = λ z. sizeOf headerFormat; size = sizeOf statementFormat; room = mostStatements; countAt = 62 }
+statementTable = record { base = λ z. headerSize; size = statementSize; room = mostStatements; countAt = 62 }
 
 abbrev pub tallyTable : Table
-tallyTable = record { base = endOf statementTable; size = sizeOf tallyFormat; room = mostTallies; countAt = 64 }
+tallyTable = record { base = endOf statementTable; size = tallySize; room = mostTallies; countAt = 64 }
 
 -- the blame mask of view 1 is the first of them
 abbrev pub blameBase : Size → ℕ

@@ -1,8 +1,10 @@
 -- What the code's tally, phase and station mean in the words of the rules, and in the numbers of the store's header. Assumes nothing.
 use mathlib.Core.Path.{_≡_}
-use Prim.Native.Nat.{ℕ}
+use Prim.Native.Nat.{ℕ, _<_}
 use mathlib.Core.List.{List, [], _∷_}
 use Rattle.fields.specs.Names.{nameOf}
+use Rattle.rules.specs.Limits.{maskBits}
+use Rattle.rules.specs.Sizes.{only}
 use Rattle.rules.specs.Words as words
 use Rattle.fields.specs.Records.{fields}
 use Rattle.settings.specs.Made.{sizeFrom}
@@ -13,6 +15,8 @@ use Rattle.store.specs.declared.Cause.the-variants.{Full, Split, Clock}
 use Rattle.store.specs.declared.Phase.{Phase}
 use Rattle.store.specs.declared.Phase.the-variants.{InView, Waiting, Stopped}
 use Rattle.store.specs.declared.Tally.{Tally}
+use Rattle.store.specs.declared.Voters.{Voters}
+use Rattle.store.specs.declared.Voters.the-variants.{One, Mask}
 use Rattle.store.specs.declared.Station.{Station}
 
 -- why a station stopped
@@ -27,9 +31,19 @@ courseOf InView = words.inView
 courseOf (Waiting q) = words.waiting q
 courseOf (Stopped c) = words.stopped (causeOf c)
 
-unfoldable pub tallyOf : Tally → words.Certificate
+-- a record of the table
+unfoldable pub tallyOf : Tally → words.Tally
 unfolding nameOf
 tallyOf t = record { view = t .view; height = t .height; name = nameOf (t .name); mask = t .mask }
+
+-- who joins a tally, as a mask; one voter is a station that a mask has a bit for
+abbrev pub votersOf : Voters → ℕ
+votersOf (One i) = only i
+votersOf (Mask m) = m
+
+abbrev pub Numbered : Voters → Type 0
+Numbered (One i) = i < maskBits
+Numbered (Mask m) = Unit {0}
 
 -- the numbers of a station, as the header has them
 unfoldable pub headerOf : Station → List ℕ

@@ -14,23 +14,25 @@ ghost use Rattle.fields.specs.Places.{number, put as written};
 ghost use Rattle.fields.specs.Records.{fields, puts};
 ghost use Rattle.settings.specs.Made.{sizeFrom, settingsOf};
 ghost use Rattle.wire.specs.Meaning.{statementOf};
-ghost use Rattle.store.specs.Layout.{headerFormat, statementFormat, tallyFormat, statementTable, tallyTable, logTable, blameBase, storeLength, sizeIn, countOf, placeOf};
-ghost use Rattle.store.specs.Decode.{phaseOf, phaseNumber, kindNumber, statementValues, tallyFrom, tallyValues, statementAt, tallyAt, blameAt, nameAt, kindAt, voteAt, statements, tallies, stateOf, headerValues, Form, Left};
-ghost use Rattle.store.specs.Meaning.{courseOf, tallyOf, headerOf, Loads};
+ghost use Rattle.words.specs.Meaning.{blockOf};
+ghost use Rattle.store.specs.Layout.{headerFormat, statementFormat, certificateFormat, headerSize, statementSize, certificateSize, tallySize, statementTable, tallyTable, logTable, blameBase, storeLength, sizeIn, countOf, placeOf};
+ghost use Rattle.store.specs.Decode.{phaseOf, phaseNumber, kindNumber, statementValues, certificateFrom, certificateValues, statementAt, tallyAt, blameAt, nameAt, kindAt, voteAt, statements, tallies, stateOf, headerValues, Form, Left};
+ghost use Rattle.store.specs.Meaning.{courseOf, tallyOf, votersOf, Numbered, headerOf, Loads};
 ghost use Rattle.store.specs.Fresh.{answer, freshly};
-ghost use Rattle.store.specs.Changes.{firstFrom, blockAt, growing, opening, joining, Joined, certifying, storing, noting, appending};
+ghost use Rattle.store.specs.Changes.{firstFrom, blockAt, withVoters, growing, opening, joining, Joined, certifying, storing, noting, appending};
 use fields::Name;
 use settings::Made;
 use settings::Settings;
 use settings::Size;
 use wire::Statement;
+use words::Certificate;
 
 // The exact length of a store, with the small limits and with the large ones.
 pub const LENGTH: usize = LOG + NAME_SIZE * Settings::MOST_STATEMENTS;
 
 pub const LENGTH_LARGE: usize = LOG_LARGE + NAME_SIZE * Settings::MOST_STATEMENTS_LARGE;
 
-// Where the header's numbers are; the lock is a tally's record.
+// Where the header's numbers are; the lock is a certificate.
 const PHASE: usize = 0;
 
 const N: usize = 4;
@@ -54,15 +56,15 @@ const TALLY_COUNT: usize = 64;
 const LOG_COUNT: usize = 66;
 
 // Where each table begins, and the size of its records.
-const STATEMENTS: usize = LOG_COUNT + 2;
+pub const STATEMENTS: usize = LOG_COUNT + 2;
 
-const STATEMENT_SIZE: usize = VOTE + 4;
+pub const STATEMENT_SIZE: usize = VOTE + 4;
 
 const TALLIES: usize = STATEMENTS + STATEMENT_SIZE * Settings::MOST_STATEMENTS;
 
 const TALLIES_LARGE: usize = STATEMENTS + STATEMENT_SIZE * Settings::MOST_STATEMENTS_LARGE;
 
-const TALLY_SIZE: usize = VOTERS + 2;
+pub const TALLY_SIZE: usize = VOTERS + 2;
 
 const BLAMES: usize = TALLIES + TALLY_SIZE * Settings::MOST_TALLIES;
 
@@ -74,7 +76,7 @@ const LOG: usize = BLAMES + BLAME_SIZE * (Settings::LAST_VIEW as usize);
 
 const LOG_LARGE: usize = BLAMES_LARGE + BLAME_SIZE * (Settings::LAST_VIEW_LARGE as usize);
 
-const NAME_SIZE: usize = 32;
+pub const NAME_SIZE: usize = 32;
 
 // Where the numbers of a record are: of a block, a tally's last, a statement's last.
 const VIEW: usize = 0;
@@ -109,12 +111,18 @@ pub enum Phase {
     Stopped(Cause),
 }
 
-// A block of a view, with the mask of its voters.
+// A record of the table of tallies: a block of a view, with the mask of its voters.
 pub struct Tally {
     pub view: u32,
     pub height: u32,
     pub name: Name,
     pub mask: u16,
+}
+
+// Who joins a tally: one voter, or the mask of several.
+pub enum Voters {
+    One(u64),
+    Mask(u16),
 }
 
 // What stands in the store's header: all of a station but its tables.
@@ -124,7 +132,7 @@ pub struct Station {
     pub view: u32,
     pub entry: u32,
     pub clock: u32,
-    pub lock: Tally,
+    pub lock: Certificate,
     pub statements: usize,
     pub tallies: usize,
     pub logged: usize,
@@ -196,7 +204,7 @@ pub fn least_out_in(store: &[u8]) -> usize
 // The place of tally i, of the blame mask of view i + 1, of the name logged at height i + 1.
 pub fn tally_place(store: &[u8], i: usize) -> usize
     requires { ⌜ (length (now store) ≡ storeLength (sizeIn (now store))) × (i < mostTallies (sizeIn (now store))) ⌝ }
-    ensures { λ r. ⌜ (r ≡ placeOf tallyTable (sizeIn (now (store .entry))) i) × (r + 42 ≤ length (now (store .entry))) ⌝ }
+    ensures { λ r. ⌜ (r ≡ placeOf tallyTable (sizeIn (now (store .entry))) i) × (r + tallySize ≤ length (now (store .entry))) ⌝ }
 {
     tallies_in(store) + TALLY_SIZE * i
 }
@@ -280,16 +288,16 @@ fn phase_of(number: u32) -> Phase
     }
 }
 
-// The tally whose record is at a place.
-fn get_tally(store: &[u8], at: usize) -> Tally
-    requires { ⌜ at + 42 ≤ length (now store) ⌝ }
-    ensures { λ r. ⌜ tallyOf r ≡ certificateOf (tallyFrom (fields (now (store .entry)) at tallyFormat)) ⌝ }
+// The certificate whose numbers begin at a place.
+fn get_certificate(store: &[u8], at: usize) -> Certificate
+    requires { ⌜ at + certificateSize ≤ length (now store) ⌝ }
+    ensures { λ r. ⌜ blockOf r ≡ certificateFrom (fields (now (store .entry)) at certificateFormat) ⌝ }
 {
     let view = get_four(store, at + VIEW);
     let height = get_four(store, at + HEIGHT);
     let name = fields::get_name(store, at + NAME);
     let mask = get_two(store, at + VOTERS);
-    Tally {
+    Certificate {
         view,
         height,
         name,
@@ -300,9 +308,16 @@ fn get_tally(store: &[u8], at: usize) -> Tally
 // Tally i.
 pub fn tally_at(store: &[u8], i: usize) -> Tally
     requires { ⌜ (length (now store) ≡ storeLength (sizeIn (now store))) × (i < mostTallies (sizeIn (now store))) ⌝ }
-    ensures { λ r. ⌜ tallyOf r ≡ certificateOf (tallyAt (now (store .entry)) i) ⌝ }
+    ensures { λ r. ⌜ tallyOf r ≡ tallyAt (now (store .entry)) i ⌝ }
 {
-    get_tally(store, tally_place(store, i))
+    let block = get_certificate(store, tally_place(store, i));
+    let name = block.name;
+    Tally {
+        view: block.view,
+        height: block.height,
+        name,
+        mask: block.mask,
+    }
 }
 
 // The kind of statement i, as on the wire: 1 new-view, 2 propose.
@@ -385,21 +400,58 @@ fn phase_number(phase: Phase) -> u64
 }
 
 impl Tally {
+    // A block's tally before anybody joins it.
+    pub fn empty(block: Certificate) -> Tally
+        ensures { λ r. ⌜ tallyOf r ≡ opened (withVoters 0 (blockOf block)) ⌝ }
+    {
+        let name = block.name;
+        Tally {
+            view: block.view,
+            height: block.height,
+            name,
+            mask: 0,
+        }
+    }
+
+    // What the tally certifies.
+    pub fn certificate(self) -> Certificate
+        ensures { λ r. ⌜ blockOf r ≡ certificateOf (tallyOf self) ⌝ }
+    {
+        let name = self.name;
+        Certificate {
+            view: self.view,
+            height: self.height,
+            name,
+            mask: self.mask,
+        }
+    }
+
     // The tally with a voter's bit joined.
     pub fn with_voter(self, station: u64) -> Tally
         requires { ⌜ station < maskBits ⌝ }
-        ensures { λ r. ⌜ tallyOf r ≡ certificateOf (grown (opened (tallyOf self)) (only station)) ⌝ }
+        ensures { λ r. ⌜ tallyOf r ≡ grown (tallyOf self) (only station) ⌝ }
     {
         self.grown(settings::only(station) as u16)
     }
 
     // The tally with a mask joined.
     pub fn grown(self, mask: u16) -> Tally
-        ensures { λ r. ⌜ tallyOf r ≡ certificateOf (grown (opened (tallyOf self)) mask) ⌝ }
+        ensures { λ r. ⌜ tallyOf r ≡ grown (tallyOf self) mask ⌝ }
     {
         let mut tally = self;
         tally.mask = tally.mask | mask;
         tally
+    }
+
+    // The tally with whoever joins it.
+    pub fn joined(self, voters: Voters) -> Tally
+        requires { ⌜ Numbered voters ⌝ }
+        ensures { λ r. ⌜ tallyOf r ≡ grown (tallyOf self) (votersOf voters) ⌝ }
+    {
+        match voters {
+            Voters::One(station) => self.with_voter(station),
+            Voters::Mask(mask) => self.grown(mask),
+        }
     }
 }
 
@@ -421,23 +473,23 @@ fn is_block(store: &[u8], at: usize, key: u64, name: Name) -> bool
     name.same(fields::get_name(store, at + NAME))
 }
 
-// Whether tally i is of the same block.
-pub fn is_tally(store: &[u8], i: usize, tally: Tally) -> bool
+// Whether tally i is of this block.
+pub fn is_tally(store: &[u8], i: usize, block: Certificate) -> bool
     requires { ⌜ (length (now store) ≡ storeLength (sizeIn (now store))) × (i < mostTallies (sizeIn (now store))) ⌝ }
-    ensures { λ r. ⌜ r ≡ ofBlock (tallyOf tally) (tallyAt (now (store .entry)) i) ⌝ }
+    ensures { λ r. ⌜ r ≡ ofBlock (blockOf block) (tallyAt (now (store .entry)) i) ⌝ }
 {
     is_block(
         store,
         tally_place(store, i),
-        key_of(tally.view, tally.height),
-        tally.name,
+        key_of(block.view, block.height),
+        block.name,
     )
 }
 
-// The place of the first tally of the same block.
-pub fn find_tally(store: &[u8], tally: Tally) -> Found
+// The place of the first tally of this block.
+pub fn find_tally(store: &[u8], block: Certificate) -> Found
     requires { ⌜ Form (now store) ⌝ }
-    ensures { λ r. ⌜ r ≡ blockAt (tallyOf tally) (tallies (now (store .entry))) ⌝ }
+    ensures { λ r. ⌜ r ≡ blockAt (blockOf block) (tallies (now (store .entry))) ⌝ }
 {
     let count = get_count(store, TALLY_COUNT);
     let mut i: usize = 0;
@@ -445,7 +497,7 @@ pub fn find_tally(store: &[u8], tally: Tally) -> Found
         if count <= i {
             break Found::Nothing;
         }
-        if is_tally(store, i, tally) {
+        if is_tally(store, i, block) {
             break Found::At(i);
         }
         i += 1;
@@ -495,13 +547,19 @@ fn put_block(store: &mut [u8], at: usize, view: u32, height: u32, name: Name)
     fields::put_name(store, at + NAME, name);
 }
 
-// Writes a tally's record.
-fn put_tally(store: &mut [u8], at: usize, tally: Tally)
-    requires { ⌜ at + 42 ≤ length (now store) ⌝ }
-    ensures { λ _. ⌜ now (store .exit) ≡ puts (now (store .entry)) at tallyFormat (tallyValues (opened (tallyOf tally))) ⌝ }
+// Writes a certificate's numbers.
+fn put_certificate(store: &mut [u8], at: usize, certificate: Certificate)
+    requires { ⌜ at + certificateSize ≤ length (now store) ⌝ }
+    ensures { λ _. ⌜ now (store .exit) ≡ puts (now (store .entry)) at certificateFormat (certificateValues (blockOf certificate)) ⌝ }
 {
-    put_block(store, at, tally.view, tally.height, tally.name);
-    fields::put(store, at + VOTERS, 2, tally.mask as u64);
+    put_block(
+        store,
+        at,
+        certificate.view,
+        certificate.height,
+        certificate.name,
+    );
+    fields::put(store, at + VOTERS, 2, certificate.mask as u64);
 }
 
 // A kind's number, as on the wire.
@@ -513,7 +571,7 @@ fn kind_number(is_new_view: bool) -> u64
 
 // Writes a statement's record, not voted for.
 fn put_statement(store: &mut [u8], at: usize, statement: Statement)
-    requires { ⌜ at + 80 ≤ length (now store) ⌝ }
+    requires { ⌜ at + statementSize ≤ length (now store) ⌝ }
     ensures { λ _. ⌜ now (store .exit) ≡ puts (now (store .entry)) at statementFormat (statementValues (statementOf statement none)) ⌝ }
 {
     let kind = kind_number(statement.is_new_view);
@@ -554,47 +612,55 @@ pub fn open_tally(store: &mut [u8], tally: Tally) -> usize
     ensures { λ r. ⌜ (r ≡ countOf tallyTable (now (store .entry))) × (Left (now (store .exit)) (opening (tallyOf tally) (stateOf (now (store .entry))))) ⌝ }
 {
     let count = get_count(store, TALLY_COUNT);
-    put_tally(store, tally_place(store, count), tally);
+    put_certificate(store, tally_place(store, count), tally.certificate());
     fields::put(store, TALLY_COUNT, 2, (count + 1) as u64);
     count
 }
 
-// A mask joins tally i.
-pub fn join_at(store: &mut [u8], i: usize, mask: u16)
+// Tally i has its new mask.
+fn put_voters(store: &mut [u8], i: usize, mask: u16)
     requires { ⌜ (Form (now store)) × (i < countOf tallyTable (now store)) ⌝ }
-    ensures { λ _. ⌜ Left (now (store .exit)) (growing i mask (stateOf (now (store .entry)))) ⌝ }
+    ensures { λ _. ⌜ (now (store .exit) ≡ written (now (store .entry)) (placeOf tallyTable (sizeIn (now (store .entry))) i + 40) 2 mask) × (mask < 256 ^ 2) ⌝ }
 {
-    let tally = tally_at(store, i).grown(mask);
-    fields::put(store, tally_place(store, i) + VOTERS, 2, tally.mask as u64);
+    fields::put(store, tally_place(store, i) + VOTERS, 2, mask as u64);
 }
 
-// A tally's mask joins the tally of its block, opened if missing, as a search found it; gives back where it now stands.
-pub fn join_found(store: &mut [u8], tally: Tally, place: Found) -> usize
-    requires { ⌜ (Form (now store)) × (length (join (tallyOf tally) (tallies (now store))) ≤ mostTallies (sizeIn (now store))) × (place ≡ blockAt (tallyOf tally) (tallies (now store))) ⌝ }
-    ensures { λ r. ⌜ Joined (tallyOf tally) (stateOf (now (store .entry))) (now (store .exit)) r ⌝ }
+// Whoever joins tally i.
+fn join_at(store: &mut [u8], i: usize, voters: Voters)
+    requires { ⌜ (Form (now store)) × (i < countOf tallyTable (now store)) × (Numbered voters) ⌝ }
+    ensures { λ _. ⌜ Left (now (store .exit)) (growing i (votersOf voters) (stateOf (now (store .entry)))) ⌝ }
+{
+    let tally = tally_at(store, i).joined(voters);
+    put_voters(store, i, tally.mask);
+}
+
+// Whoever joins the tally of a block, opened if missing, as a search found it; gives back where it now stands.
+pub fn join_found(store: &mut [u8], block: Certificate, place: Found, voters: Voters) -> usize
+    requires { ⌜ (Form (now store)) × (length (join (withVoters (votersOf voters) (blockOf block)) (tallies (now store))) ≤ mostTallies (sizeIn (now store))) × (place ≡ blockAt (blockOf block) (tallies (now store))) × (Numbered voters) ⌝ }
+    ensures { λ r. ⌜ Joined (withVoters (votersOf voters) (blockOf block)) (stateOf (now (store .entry))) (now (store .exit)) r ⌝ }
 {
     match place {
         Found::At(i) => {
-            join_at(store, i, tally.mask);
+            join_at(store, i, voters);
             i
         }
-        Found::Nothing => open_tally(store, tally),
+        Found::Nothing => open_tally(store, Tally::empty(block).joined(voters)),
     }
 }
 
-// The same, with the search.
-pub fn join_tally(store: &mut [u8], tally: Tally)
-    requires { ⌜ (Form (now store)) × (length (join (tallyOf tally) (tallies (now store))) ≤ mostTallies (sizeIn (now store))) ⌝ }
-    ensures { λ _. ⌜ Left (now (store .exit)) (joining (tallyOf tally) (stateOf (now (store .entry)))) ⌝ }
+// A certificate's mask joins the tally of its block, with the search.
+fn join_tally(store: &mut [u8], certificate: Certificate)
+    requires { ⌜ (Form (now store)) × (length (join (blockOf certificate) (tallies (now store))) ≤ mostTallies (sizeIn (now store))) ⌝ }
+    ensures { λ _. ⌜ Left (now (store .exit)) (joining (blockOf certificate) (stateOf (now (store .entry)))) ⌝ }
 {
-    let place = find_tally(store, tally);
-    join_found(store, tally, place);
+    let place = find_tally(store, certificate);
+    join_found(store, certificate, place, Voters::Mask(certificate.mask));
 }
 
-// The same of a certificate: genesis has no tally in view 0.
-pub fn join_certificate(store: &mut [u8], certificate: Tally)
-    requires { ⌜ (Form (now store)) × (length (joinCertificate (tallyOf certificate) (tallies (now store))) ≤ mostTallies (sizeIn (now store))) ⌝ }
-    ensures { λ _. ⌜ Left (now (store .exit)) (certifying (tallyOf certificate) (stateOf (now (store .entry)))) ⌝ }
+// The same, but that genesis has no tally in view 0.
+pub fn join_certificate(store: &mut [u8], certificate: Certificate)
+    requires { ⌜ (Form (now store)) × (length (joinCertificate (blockOf certificate) (tallies (now store))) ≤ mostTallies (sizeIn (now store))) ⌝ }
+    ensures { λ _. ⌜ Left (now (store .exit)) (certifying (blockOf certificate) (stateOf (now (store .entry)))) ⌝ }
 {
     if certificate.view != 0 {
         join_tally(store, certificate);
@@ -639,7 +705,7 @@ pub fn set_clock(store: &mut [u8], clock: u32)
 
 // Writes the settings to the header.
 fn put_settings(store: &mut [u8], settings: Settings)
-    requires { ⌜ 68 ≤ length (now store) ⌝ }
+    requires { ⌜ headerSize ≤ length (now store) ⌝ }
     ensures { λ _. ⌜ now (store .exit) ≡ written (written (written (now (store .entry)) 4 1 (settings .n)) 5 2 (settings .delay)) 7 1 (settings .own) ⌝ }
 {
     fields::put(store, N, 1, settings.n);
@@ -649,7 +715,7 @@ fn put_settings(store: &mut [u8], settings: Settings)
 
 // Writes the counts to the header.
 fn put_counts(store: &mut [u8], statements: usize, tallies: usize, logged: usize)
-    requires { ⌜ 68 ≤ length (now store) ⌝ }
+    requires { ⌜ headerSize ≤ length (now store) ⌝ }
     ensures { λ _. ⌜ now (store .exit) ≡ written (written (written (now (store .entry)) 62 2 statements) 64 2 tallies) 66 2 logged ⌝ }
 {
     fields::put(store, STATEMENT_COUNT, 2, statements as u64);
@@ -660,7 +726,7 @@ fn put_counts(store: &mut [u8], statements: usize, tallies: usize, logged: usize
 impl Station {
     // The station of the header's numbers.
     pub fn load(store: &[u8]) -> Station
-        requires { ⌜ 68 ≤ length (now store) ⌝ }
+        requires { ⌜ headerSize ≤ length (now store) ⌝ }
         ensures { λ r. ⌜ Loads r (now (store .entry)) ⌝ }
     {
         let size = size_in(store);
@@ -671,7 +737,7 @@ impl Station {
         let view = get_four(store, CURRENT);
         let entry = get_four(store, ENTRY);
         let clock = get_four(store, CLOCK);
-        let lock = get_tally(store, LOCK);
+        let lock = get_certificate(store, LOCK);
         let statements = get_count(store, STATEMENT_COUNT);
         let tallies = get_count(store, TALLY_COUNT);
         let logged = get_count(store, LOG_COUNT);
@@ -694,7 +760,7 @@ impl Station {
     }
     // Writes the header's numbers back.
     pub fn save(self, store: &mut [u8])
-        requires { ⌜ 68 ≤ length (now store) ⌝ }
+        requires { ⌜ headerSize ≤ length (now store) ⌝ }
         ensures { λ _. ⌜ now (store .exit) ≡ puts (now (store .entry)) 0 headerFormat (headerOf self) ⌝ }
     {
         let phase = self.phase;
@@ -703,15 +769,15 @@ impl Station {
         fields::put(store, CURRENT, 4, self.view as u64);
         fields::put(store, ENTRY, 4, self.entry as u64);
         fields::put(store, CLOCK, 4, self.clock as u64);
-        put_tally(store, LOCK, self.lock);
+        put_certificate(store, LOCK, self.lock);
         put_counts(store, self.statements, self.tallies, self.logged);
     }
 }
 
 // A view is entered, with its lock.
-pub fn enter(store: &mut [u8], view: u32, lock: Tally)
+pub fn enter(store: &mut [u8], view: u32, lock: Certificate)
     requires { ⌜ Form (now store) ⌝ }
-    ensures { λ _. ⌜ Left (now (store .exit)) (entering view (tallyOf lock) (stateOf (now (store .entry)))) ⌝ }
+    ensures { λ _. ⌜ Left (now (store .exit)) (entering view (blockOf lock) (stateOf (now (store .entry)))) ⌝ }
 {
     let old = Station::load(store);
     let settings = old.settings;
@@ -733,12 +799,7 @@ pub fn enter(store: &mut [u8], view: u32, lock: Tally)
 fn starting(settings: Settings) -> Station
     ensures { λ r. ⌜ headerOf r ≡ headerValues (fresh (settingsOf settings)) ⌝ }
 {
-    let lock = Tally {
-        view: 0,
-        height: 0,
-        name: Name::zero(),
-        mask: 0,
-    };
+    let lock = Certificate::genesis();
     Station {
         settings,
         phase: Phase::InView,

@@ -20,7 +20,7 @@ use Rattle.fields.specs.declared.Name.{Name}
 use Rattle.wire.specs.Meaning.{statementOf}
 use Rattle.wire.specs.declared.Statement.{Statement}
 use Rattle.store.specs.Decode.{tallies, stateFrom, stateOf}
-use Rattle.store.specs.Meaning.{tallyOf, Loads}
+use Rattle.store.specs.Meaning.{Loads}
 use Rattle.store.specs.declared.Station.{Station}
 use Rattle.store.specs.declared.Tally.{Tally}
 use Rattle.store.proofs.Loaded.{loaded-view}
@@ -30,6 +30,7 @@ use Rattle.kept.proofs.Facts.{sizes-of}
 use Rattle.kept.proofs.Sendable.{sendable}
 use Rattle.kept.proofs.Tallies.{highest-good}
 use Rattle.kept.proofs.Ticks.{leads-own}
+use Rattle.words.specs.Meaning.{blockOf}
 use Rattle.acts.specs.Works.{Formed}
 use Rattle.acts.proofs.Works.{formed-parts}
 use Rattle.acts.proofs.Votes.{loaded-own}
@@ -54,16 +55,16 @@ own-sendable {s} f e =
     sendable (newView (s .view) (t .height) (t .name) (t .view) (t .mask) (s .settings .own)) (sizes-of f)
     (both (both (both (both (f .view) (c .block)) (lt-ltb (t .view) (s .view) (c .earlier))) (c .isAllowed)) o) (c .name)
 
-module _ {b : List ℕ} (k : Formed b) (s : Station) (e : Loads s b) (t : Tally) (h : tallyOf t ≡ highest (stateOf b .settings) (s .view) (tallies b)) where
+module _ {b : List ℕ} (k : Formed b) (s : Station) (e : Loads s b) (t : Tally) (h : blockOf t ≡ highest (stateOf b .settings) (s .view) (tallies b)) where
   abbrev made : Statement
   made = record { «is_new_view» = true; view = s .view; height = t .height; name = t .name; link = linkTo (t .view); mask = t .mask; author = s .settings .own }
 
-  best : tallyOf t ≡ highest (stateOf b .settings) (stateOf b .view) (stateOf b .tallies)
+  best : blockOf t ≡ highest (stateOf b .settings) (stateOf b .view) (stateOf b .tallies)
   unfolding stateOf stateFrom
   best = h ∙ ap (λ (v : ℕ). highest (stateOf b .settings) v (tallies b)) (loaded-view s b e)
 
   pub made-is : message (statementOf made none) ≡ ownNewView (stateOf b)
-  unfolding message statementOf ownNewView tallyOf
+  unfolding message statementOf ownNewView blockOf
   made-is =
       λ i. newView (loaded-view s b e i) (best i .height) (best i .name) ((link-number (t .view) ∙ ap (λ (u : words.Certificate). u .view) best) i) (best i .mask) (loaded-own k s e i)
 

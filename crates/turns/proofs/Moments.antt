@@ -8,7 +8,7 @@ use native.Mathlib.Omega.{arith}
 use native.Mathlib.Nat.{mul-le-mul-left}
 use lib.Dec.{leb, ltb, eqb}
 use lib.ListN.{length}
-use Rattle.rules.specs.Limits.{lastView, mostDelay}
+use Rattle.rules.specs.Limits.{lastView, mostDelay, lastViewLarge, mostStatementsLarge}
 use Rattle.rules.specs.Sizes as sizes
 use Rattle.rules.specs.Sizes.{leader, holds}
 use Rattle.rules.specs.Messages.{viewAllowed}
@@ -77,7 +77,7 @@ votes-few s =
     keep-length (λ x. not (x .isNewView) && eqb (x .view) (s .view) && elim (x .voted) [ none ↦ false | some c ↦ true ]) (s .statements)
 
 -- so the wait is a small number
-pub short-wait : (m d : ℕ) → m ≤ 512 → d ≤ mostDelay → (2 * m + 6) * d + 2 ≤ 10_300_002
+pub short-wait : (m d : ℕ) → m ≤ mostStatementsLarge → d ≤ mostDelay → (2 * m + 6) * d + 2 ≤ 10_300_002
 short-wait m d f l = let h : (2 * m + 6) * d ≤ (2 * m + 6) * mostDelay = mul-le-mul-left (2 * m + 6) l in omega arith
 
 -- ---- by the loaded numbers
@@ -92,7 +92,7 @@ module _ {b : List ℕ} (k : Formed b) (s : Station) (e : Loads s b) where
   pub view-of-loaded : viewAllowed (S .settings) (s .view) ≡ true
   view-of-loaded = ap (viewAllowed (S .settings)) (loaded-view s b e) ∙ formed-parts k .formed .view
 
-  pub view-limits : (1 ≤ s .view) × (s .view ≤ lastView (sizeIn b)) × (s .view ≤ 256)
+  pub view-limits : (1 ≤ s .view) × (s .view ≤ lastView (sizeIn b)) × (s .view ≤ lastViewLarge)
   view-limits = view-in b (s .view) view-of-loaded
 
   pub short-delay : s .settings .delay ≤ mostDelay
@@ -101,7 +101,7 @@ module _ {b : List ℕ} (k : Formed b) (s : Station) (e : Loads s b) where
   pub some-stations : 0 < s .settings .n
   some-stations = let z = sizes-of (formed-parts k .formed) in omega (arith, part (λ g. g .n))
 
-  pub few-votes : (m : ℕ) → m ≡ votes S → m ≤ 512
+  pub few-votes : (m : ℕ) → m ≡ votes S → m ≤ mostStatementsLarge
   few-votes m q = omega (arith, votes-few S, formed-parts k .fewStatements, statements-most (S .settings .size))
 
   pub entered-before : s .entry ≤ s .clock

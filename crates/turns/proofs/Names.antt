@@ -6,7 +6,7 @@ use mathlib.Core.Option.{some}
 use native.Mathlib.Omega.{arith}
 use native.Mathlib.Nat.{zero-add}
 use lib.ListN.{length, getD, drop, length-append}
-use Rattle.rules.specs.Limits.{mostStatements}
+use Rattle.rules.specs.Limits.{mostStatements, mostStatementsLarge}
 use Rattle.rules.proofs.Bounds.{statements-most}
 use Rattle.rules.specs.Messages.{Effect, committed, effect, outgoing}
 use Rattle.rules.specs.Words.{Statement, State}
@@ -86,7 +86,7 @@ module _ (b t : List ℕ) where
 -- ---- so far
 
 -- the table's length is enough in both columns
-pub enough-few : {b t : List ℕ} {n at room : ℕ} → Enough b t n at room → n ≤ 512
+pub enough-few : {b t : List ℕ} {n at room : ℕ} → Enough b t n at room → n ≤ mostStatementsLarge
 enough-few {b} e = omega (arith, e .fits, statements-most (sizeIn b))
 
 -- the log has the names up to k, and they are reported
@@ -187,7 +187,7 @@ module _ (b b′ t : List ℕ) (n c : ℕ) (g : Gained b t n) (l : Left b′ (wi
       ap (λ (j : ℕ). rows (nameIn b′ t) j (n - j)) log-kept ∙ rows-same (nameIn b′ t) (nameIn b t) old (n - old) (λ k p q. name-kept k p (omega (arith, g .more))) in
       g .is ∙ ap some (sym (ap₂ _++_ names-kept rest))
 
-  pub gained-enough : {at room : ℕ} → length t ≡ 512 → n ≤ mostStatements (sizeIn b) → at + 39 * (n - countOf logTable b) ≤ room → Enough b′ t n at room
+  pub gained-enough : {at room : ℕ} → length t ≡ mostStatementsLarge → n ≤ mostStatements (sizeIn b) → at + 39 * (n - countOf logTable b) ≤ room → Enough b′ t n at room
   gained-enough {at} {room} h f p =
       record {
         form = l .form;

@@ -5,7 +5,7 @@ ghost use mathlib.Core.Option.{none};
 ghost use Prim.Native.Nat.{_+_, _*_, _^_, _≤_, _<_};
 ghost use lib.Dec.{eqb};
 ghost use lib.ListN.{length};
-ghost use Rattle.rules.specs.Limits.{mostStatements, maskBits};
+ghost use Rattle.rules.specs.Limits.{mostStatements, maskBits, mostStatementsLarge};
 ghost use Rattle.rules.specs.Sizes as sizes;
 ghost use Rattle.rules.specs.Words.{message as said};
 ghost use Rattle.rules.specs.Inputs as inputs;
@@ -213,7 +213,7 @@ fn vote_in_order(store: &mut [u8], out: &mut [u8], at: usize, order: &[u16], cou
     while j < count {
         let place = order[j] as usize;
         let x = store::statement_at(store, place);
-        let tally = store::find_tally(store, search::own_block(x, 0));
+        let tally = store::find_tally(store, words::own_block(x, 0));
         next = acts::voting(store, out, next, place, x, tally);
         j += 1;
     }
@@ -222,7 +222,7 @@ fn vote_in_order(store: &mut [u8], out: &mut [u8], at: usize, order: &[u16], cou
 
 // What the station finds in the view that it entered: a full blame mask or a conflict, and quits, or statements to vote on.
 fn arrive(store: &mut [u8], out: &mut [u8], at: usize, order: &mut [u16]) -> usize
-    requires { ⌜ (Formed (now store)) × (at + 160 * mostStatements (sizeIn (now store)) ≤ length (now out)) × (512 ≤ length (now order)) ⌝ }
+    requires { ⌜ (Formed (now store)) × (at + 160 * mostStatements (sizeIn (now store)) ≤ length (now out)) × (mostStatementsLarge ≤ length (now order)) ⌝ }
     ensures { λ r. ⌜ Works (inputs.arrive (stateOf (now (store .entry)))) (now (out .entry)) at (now (store .exit)) (now (out .exit)) r ⌝ }
 {
     let station = Station::load(store);
@@ -245,7 +245,7 @@ fn arrive(store: &mut [u8], out: &mut [u8], at: usize, order: &mut [u16]) -> usi
 
 // A waiting station whose wait is over enters the next view.
 pub fn enter(store: &mut [u8], out: &mut [u8], at: usize, order: &mut [u16]) -> usize
-    requires { ⌜ (Formed (now store)) × (at + 62 + 160 * mostStatements (sizeIn (now store)) ≤ length (now out)) × (512 ≤ length (now order)) ⌝ }
+    requires { ⌜ (Formed (now store)) × (at + 62 + 160 * mostStatements (sizeIn (now store)) ≤ length (now out)) × (mostStatementsLarge ≤ length (now order)) ⌝ }
     ensures { λ r. ⌜ Works (inputs.enter (stateOf (now (store .entry)))) (now (out .entry)) at (now (store .exit)) (now (out .exit)) r ⌝ }
 {
     if !enters_now(store) {

@@ -4,9 +4,9 @@ use Rattle.acts.proofs.Statements.{is-repeat, is-new, new-planned}
 use Rattle.acts.proofs.Places.{sendable-certifies}
 use Rattle.store.proofs.Loaded.{loaded-statements, loaded-tallies}
 use Rattle.store.proofs.Forms.{form-long, form-tallies}
-use Rattle.store.specs.Meaning.{tallyOf}
 use Rattle.store.specs.Decode.{stateOf}
 use Rattle.wire.specs.Meaning.{statementOf}
+use Rattle.words.specs.Meaning.{blockOf}
 use mathlib.Core.Option.{none}
 use mathlib.Core.Path.{_∙_}
 use native.Mathlib.Omega.{arith}
@@ -52,7 +52,7 @@ needed-requires-2 c κs = search needs
 
 add-records : tie.Need-add-records
 add-records c =
-    omega (arith, c .before .needed .ensures, needed-few (tallyOf (c .before .before .before .before .before .certificate .result)) (c .before .before .before .before .find-certificate .result), c .needed2 .ensures, needed-few (tallyOf (c .before .before .before .own-block .result)) (c .before .before .find-tally .result))
+    omega (arith, c .before .needed .ensures, needed-few (blockOf (c .before .before .before .before .before .certificate .result)) (c .before .before .before .before .find-certificate .result), c .needed2 .ensures, needed-few (blockOf (c .before .before .before .own-block .result)) (c .before .before .find-tally .result))
 
 load-requires : tie.Need-load-requires
 load-requires c κs =
@@ -65,7 +65,7 @@ add-room : tie.Need-add-room
 add-room c =
     let start = c .before .before .before .before .before .before .before .before .before .before .before .before .before .before in
     let load = c .before .before .before .load in
-    omega (arith, loaded-tallies (load .result) (start .args .store .now) (load .ensures), form-tallies _ (start .pre .0 .form), c .before .before .before .before .before .needed .ensures, needed-few (tallyOf (c .before .before .before .before .before .before .before .before .before .certificate .result)) (c .before .before .before .before .before .before .before .before .find-certificate .result), c .before .before .before .before .needed2 .ensures, needed-few (tallyOf (c .before .before .before .before .before .before .before .own-block .result)) (c .before .before .before .before .before .before .find-tally .result))
+    omega (arith, loaded-tallies (load .result) (start .args .store .now) (load .ensures), form-tallies _ (start .pre .0 .form), c .before .before .before .before .before .needed .ensures, needed-few (blockOf (c .before .before .before .before .before .before .before .before .before .certificate .result)) (c .before .before .before .before .before .before .before .before .find-certificate .result), c .before .before .before .before .needed2 .ensures, needed-few (blockOf (c .before .before .before .before .before .before .before .own-block .result)) (c .before .before .before .before .before .before .find-tally .result))
 
 most-tallies-in-requires : tie.Need-most-tallies-in-requires
 most-tallies-in-requires c κs = search needs
@@ -85,7 +85,7 @@ returns-2 c =
     let own = c .before .before .before .before .before .before .before .before .find-tally in
     let load = c .before .before .before .before .before .load in
     c .new-plan .ensures
-    ∙ new-planned b x (start .pre .1) (tallyOf (certificate .result)) (tallyOf (block .result)) (certificate .ensures) (block .ensures) (own .result) (own .ensures) (is-new b x (found .result) (found .ensures) (c .before .before .before .before .before .before .before .before .before .before .before .before .enum-told .given .1)) (certified .result) (certified .ensures) _ _ _ _ _ _ (c .before .before .before .before .most-statements-in .ensures) (c .before .most-tallies-in .ensures) (loaded-statements (load .result) b (load .ensures)) (loaded-tallies (load .result) b (load .ensures)) (c .before .before .before .before .before .before .before .needed .ensures) (c .before .before .before .before .before .before .needed2 .ensures)
+    ∙ new-planned b x (start .pre .1) (blockOf (certificate .result)) (blockOf (block .result)) (certificate .ensures) (block .ensures) (own .result) (own .ensures) (is-new b x (found .result) (found .ensures) (c .before .before .before .before .before .before .before .before .before .before .before .before .enum-told .given .1)) (certified .result) (certified .ensures) _ _ _ _ _ _ (c .before .before .before .before .most-statements-in .ensures) (c .before .most-tallies-in .ensures) (loaded-statements (load .result) b (load .ensures)) (loaded-tallies (load .result) b (load .ensures)) (c .before .before .before .before .before .before .before .needed .ensures) (c .before .before .before .before .before .before .needed2 .ensures)
 
 pub planned-spec : {M : Type 1} → statement M
 planned-spec =

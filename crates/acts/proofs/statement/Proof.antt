@@ -11,9 +11,9 @@ use Rattle.rules.proofs.Tests.{no-bool}
 use Rattle.store.proofs.Loaded.{loaded-statements}
 use native.Mathlib.Omega.{arith}
 use Rattle.store.proofs.Forms.{form-long}
-use Rattle.store.specs.Meaning.{tallyOf}
 use Rattle.store.specs.Decode.{stateOf}
 use Rattle.wire.specs.Meaning.{statementOf}
+use Rattle.words.specs.Meaning.{blockOf}
 use mathlib.Core.Option.{none}
 use mathlib.Core.Path.{sym, ap, _∙_}
 use borrow.Author.Needs.{needs}
@@ -33,7 +33,7 @@ join-certificate-requires c κs =
     let start = c .before .before .before .before .before .before in
     let x = statementOf (start .args .x) none in
     let repeats = plan-tells x (stateOf (start .args .store .now)) Repeat (sym (c .before .before .enum-told .given .1) ∙ start .pre .3) in
-    (start .pre .0 .form, repeat-fits (start .pre .0) x (tallyOf (c .certificate .result)) (c .certificate .ensures) repeats)
+    (start .pre .0 .form, repeat-fits (start .pre .0) x (blockOf (c .certificate .result)) (c .certificate .ensures) repeats)
 
 enum-known-plan : tie.Need-enum-known-plan
 enum-known-plan c = search needs
@@ -71,7 +71,7 @@ returns c =
     let certificate = c .before .before .before .certificate in
     let repeats = plan-tells x s Repeat (sym (c .before .before .before .before .before .enum-told .given .1) ∙ start .pre .3) in
     works-is (statement-repeat x s repeats)
-    (works-none (start .args .out .now) (start .args .at) (repeat-left (start .pre .0) x (tallyOf (certificate .result)) (certificate .ensures) (c .before .before .join-certificate .ensures)))
+    (works-none (start .args .out .now) (start .args .at) (repeat-left (start .pre .0) x (blockOf (certificate .result)) (certificate .ensures) (c .before .before .join-certificate .ensures)))
 
 same-length-2 : tie.Need-same-length-2
 same-length-2 c = search needs

@@ -2,9 +2,9 @@
 use Rattle.acts.proofs.Statements.{certificate-fits, certificate-found, own-fits, own-found, one-more-fits, new-stored}
 use Rattle.acts.proofs.Places.{sendable-certifies}
 use Rattle.rules.specs.Words.{ownBlock}
-use Rattle.store.specs.Meaning.{tallyOf}
 use Rattle.store.specs.Decode.{stateOf}
 use Rattle.wire.specs.Meaning.{statementOf}
+use Rattle.words.specs.Meaning.{blockOf}
 use mathlib.Core.Path.{refl}
 use mathlib.Core.Option.{none}
 use borrow.Author.Needs.{needs}
@@ -21,7 +21,7 @@ join-certified-requires c κs =
     let start = c .before .before .before in
     let b = start .args .store .now in
     let x = statementOf (start .args .x) none in
-    let t = tallyOf (c .certificate .result) in
+    let t = blockOf (c .certificate .result) in
     (start .pre .0, certificate-fits b x (start .pre .1) t (ownBlock x 0) (c .certificate .ensures) refl (start .pre .2), certificate-found b x (start .pre .1) t (ownBlock x 0) (c .certificate .ensures) refl (start .pre .2))
 
 own-block-requires : tie.Need-own-block-requires
@@ -34,8 +34,8 @@ join-found-requires c κs =
     let x = statementOf (start .args .x) none in
     let certificate = c .before .before .before .before .before .certificate in
     let joined = c .before .before .before .before .join-certified in
-    let t = tallyOf (certificate .result) in
-    let u = tallyOf (c .own-block .result) in
+    let t = blockOf (certificate .result) in
+    let u = blockOf (c .own-block .result) in
     (joined .ensures .form, own-fits b x (start .pre .1) t u (certificate .ensures) (c .own-block .ensures) (start .pre .2) (joined .ensures), own-found b x (start .pre .1) t u (certificate .ensures) (c .own-block .ensures) (start .pre .2) (joined .ensures))
 
 append-statement-requires : tie.Need-append-statement-requires
@@ -44,7 +44,7 @@ append-statement-requires c κs =
     let certificate = c .before .before .before .before .before .before .before .before .before .certificate in
     let block = c .before .before .before .before .own-block in
     let joined = c .before .before .before .join-found in
-    (joined .ensures .left .form, one-more-fits (start .args .store .now) (statementOf (start .args .x) none) (start .pre .1) (tallyOf (certificate .result)) (tallyOf (block .result)) (certificate .ensures) (block .ensures) (start .pre .2) (c .before .before .before .before .before .before .before .before .join-certified .ensures) (joined .ensures))
+    (joined .ensures .left .form, one-more-fits (start .args .store .now) (statementOf (start .args .x) none) (start .pre .1) (blockOf (certificate .result)) (blockOf (block .result)) (certificate .ensures) (block .ensures) (start .pre .2) (c .before .before .before .before .before .before .before .before .join-certified .ensures) (joined .ensures))
 
 same-length : tie.Need-same-length
 same-length c = search needs
@@ -54,7 +54,7 @@ returns c =
     let start = c .before .before .before .before .before .before .before .before .before .before .before .before .before .before .before in
     let certificate = c .before .before .before .before .before .before .before .before .before .before .before .before .certificate in
     let block = c .before .before .before .before .before .before .before .own-block in
-    new-stored (start .args .store .now) (statementOf (start .args .x) none) (start .pre .1) (tallyOf (certificate .result)) (tallyOf (block .result)) (certificate .ensures) (block .ensures) (start .pre .2) (c .before .before .before .before .before .before .before .before .before .before .before .join-certified .ensures) (c .before .before .before .before .before .before .join-found .ensures) (c .before .before .append-statement .ensures)
+    new-stored (start .args .store .now) (statementOf (start .args .x) none) (start .pre .1) (blockOf (certificate .result)) (blockOf (block .result)) (certificate .ensures) (block .ensures) (start .pre .2) (c .before .before .before .before .before .before .before .before .before .before .before .join-certified .ensures) (c .before .before .before .before .before .before .join-found .ensures) (c .before .before .append-statement .ensures)
 
 pub store-new-spec : {M : Type 1} → statement M
 store-new-spec =

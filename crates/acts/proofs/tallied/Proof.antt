@@ -3,7 +3,7 @@ use Rattle.acts.proofs.Plans.{needed-few, tallied-full, tallied-fits, t
 use Rattle.acts.specs.Plans.{needed}
 use Rattle.store.proofs.Loaded.{loaded-tallies}
 use Rattle.store.proofs.Forms.{form-long, form-tallies}
-use Rattle.store.specs.Meaning.{tallyOf}
+use Rattle.words.specs.Meaning.{blockOf}
 use native.Mathlib.Omega.{arith}
 use Prim.Native.Nat.{_+_}
 use mathlib.Core.Path.{ap₂}
@@ -28,7 +28,7 @@ add-if1 : tie.Need-add-if1
 add-if1 c =
     let start = c .before .before .before .before .before .before .before .before .before in
     let load = c .before .before .before .before .load in
-    omega (arith, loaded-tallies (load .result) (start .args .store .now) (load .ensures), form-tallies _ (start .pre), c .before .needed .ensures, needed-few (tallyOf (start .args .tally)) (c .before .before .before .before .before .before .find-certificate .result))
+    omega (arith, loaded-tallies (load .result) (start .args .store .now) (load .ensures), form-tallies _ (start .pre), c .before .needed .ensures, needed-few (blockOf (start .args .tally)) (c .before .before .before .before .before .before .find-certificate .result))
 
 same-length : tie.Need-same-length
 same-length c = search needs
@@ -38,14 +38,14 @@ returns c =
     let start = c .before .before .before .before .before .before .before .before .before .before in
     let found = c .before .before .before .before .before .before .before .find-certificate in
     let load = c .before .before .before .before .before .load in
-    tallied-full (start .pre) (tallyOf (start .args .tally)) (found .result) (found .ensures) _ (ap₂ _+_ (loaded-tallies (load .result) (start .args .store .now) (load .ensures)) (c .before .before .needed .ensures)) (omega (arith, c .if1 .taken, c .before .before .before .most-tallies-in .ensures))
+    tallied-full (start .pre) (blockOf (start .args .tally)) (found .result) (found .ensures) _ (ap₂ _+_ (loaded-tallies (load .result) (start .args .store .now) (load .ensures)) (c .before .before .needed .ensures)) (omega (arith, c .if1 .taken, c .before .before .before .most-tallies-in .ensures))
 
 join-certified-requires : tie.Need-join-certified-requires
 join-certified-requires c κs =
     let start = c .before .before .before .before .before .before .before .before .before .before .before in
     let found = c .before .before .before .before .before .before .before .before .find-certificate in
     let load = c .before .before .before .before .before .before .load in
-    (start .pre, tallied-fits (start .pre) (tallyOf (start .args .tally)) (found .result) (found .ensures) _ (ap₂ _+_ (loaded-tallies (load .result) (start .args .store .now) (load .ensures)) (c .before .before .before .needed .ensures)) (omega (arith, c .before .if1 .left, c .before .before .before .before .most-tallies-in .ensures)), found .ensures)
+    (start .pre, tallied-fits (start .pre) (blockOf (start .args .tally)) (found .result) (found .ensures) _ (ap₂ _+_ (loaded-tallies (load .result) (start .args .store .now) (load .ensures)) (c .before .before .before .needed .ensures)) (omega (arith, c .before .if1 .left, c .before .before .before .before .most-tallies-in .ensures)), found .ensures)
 
 same-length-2 : tie.Need-same-length-2
 same-length-2 c = search needs
@@ -55,7 +55,7 @@ returns-2 c =
     let start = c .before .before .before .before .before .before .before .before .before .before .before .before .before .before in
     let found = c .before .before .before .before .before .before .before .before .before .before .before .find-certificate in
     let load = c .before .before .before .before .before .before .before .before .before .load in
-    tallied-done (start .pre) (tallyOf (start .args .tally)) (found .result) (found .ensures) _ (ap₂ _+_ (loaded-tallies (load .result) (start .args .store .now) (load .ensures)) (c .before .before .before .before .before .before .needed .ensures)) (omega (arith, c .before .before .before .before .if1 .left, c .before .before .before .before .before .before .before .most-tallies-in .ensures)) (c .before .before .join-certified .ensures)
+    tallied-done (start .pre) (blockOf (start .args .tally)) (found .result) (found .ensures) _ (ap₂ _+_ (loaded-tallies (load .result) (start .args .store .now) (load .ensures)) (c .before .before .before .before .before .before .needed .ensures)) (omega (arith, c .before .before .before .before .if1 .left, c .before .before .before .before .before .before .before .most-tallies-in .ensures)) (c .before .before .join-certified .ensures)
 
 pub tallied-spec : {M : Type 1} → statement M
 tallied-spec =

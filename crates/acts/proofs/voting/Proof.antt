@@ -6,12 +6,12 @@ use Rattle.acts.proofs.Works.{formed-parts, ballot-bytes, works-is, wor
 use Rattle.kept.proofs.Facts.{clocks-of}
 use Rattle.store.proofs.Loaded.{loaded-clock}
 use Rattle.store.proofs.Forms.{form-long}
-use Rattle.store.specs.Meaning.{tallyOf}
 use Rattle.store.specs.Decode.{stateOf}
 use Rattle.wire.specs.Meaning.{statementOf, messageOf}
 use Rattle.rules.specs.Inputs.{ballot}
 use Rattle.rules.specs.Words.{ownBlock}
 use Rattle.rules.specs.Sizes.{only}
+use Rattle.words.specs.Meaning.{blockOf}
 use mathlib.Core.Option.{none}
 use native.Mathlib.Omega.{arith}
 use mathlib.Core.Path.{refl, sym, ap, _∙_}
@@ -55,7 +55,7 @@ join-found-requires : tie.Need-join-found-requires
 join-found-requires c κs =
     let p = c .before .before .before .before .before .before .before .before .before .before .before .before .before .before .before .pre in
     let vote = c .before .before .before .before .before .note-vote in
-    let u = tallyOf (c .own-block .result) in
+    let u = blockOf (c .own-block .result) in
     (vote .ensures .form, place-room (p .0) (p .1) _ _ u (c .own-block .ensures) (vote .ensures), place-found (p .0) (p .1) _ _ u _ (c .own-block .ensures) (p .2) (vote .ensures))
 
 cast-t25 : tie.Need-cast-t25
@@ -83,7 +83,7 @@ returns-2 c =
     let own = loaded-own k (c .before .before .before .before .before .before .before .before .before .before .before .before .before .before .before .before .before .before .before .load .result) (c .before .before .before .before .before .before .before .before .before .before .before .before .before .before .before .before .before .before .before .load .ensures) in
     works-is (voting-cast x s (sym (loaded-below k (c .before .before .before .before .before .before .before .before .before .before .before .before .before .before .before .before .before .before .before .load .result) (c .before .before .before .before .before .before .before .before .before .before .before .before .before .before .before .before .before .before .before .load .ensures) x) ∙ sym (c .before .before .before .before .before .before .before .before .before .before .before .before .before .before .before .before .before .below-lock .ensures) ∙ c .before .before .before .before .before .before .before .before .before .before .before .before .before .before .before .before .if1 .left))
     (works-saying (ballot x s)
-    (place-voted k (c .before .before .before .before .before .before .before .before .before .before .before .before .before .before .before .before .before .before .before .before .before .before .before .pre .1) (c .before .before .before .before .before .before .before .before .before .before .before .before .before .before .before .before .before .before .before .load .result .clock) (tallyOf (c .before .before .before .before .before .before .before .before .own-block .result)) (loaded-clock (c .before .before .before .before .before .before .before .before .before .before .before .before .before .before .before .before .before .before .before .load .result) (a .store .now) (c .before .before .before .before .before .before .before .before .before .before .before .before .before .before .before .before .before .before .before .load .ensures)) (c .before .before .before .before .before .before .before .before .own-block .ensures ∙ ap (ownBlock x) (c .before .before .before .before .before .before .before .before .before .only .ensures ∙ ap only own)) (c .before .before .before .before .before .before .before .before .before .before .before .before .before .note-vote .ensures) (c .before .before .before .before .before .before .before .join-found .ensures .left))
+    (place-voted k (c .before .before .before .before .before .before .before .before .before .before .before .before .before .before .before .before .before .before .before .before .before .before .before .pre .1) (c .before .before .before .before .before .before .before .before .before .before .before .before .before .before .before .before .before .before .before .load .result .clock) (blockOf (c .before .before .before .before .before .before .before .before .own-block .result)) (loaded-clock (c .before .before .before .before .before .before .before .before .before .before .before .before .before .before .before .before .before .before .before .load .result) (a .store .now) (c .before .before .before .before .before .before .before .before .before .before .before .before .before .before .before .before .before .before .before .load .ensures)) (c .before .before .before .before .before .before .before .before .own-block .ensures ∙ ap (ownBlock x) (c .before .before .before .before .before .before .before .before .before .only .ensures ∙ ap only own)) (c .before .before .before .before .before .before .before .before .before .before .before .before .before .note-vote .ensures) (c .before .before .before .before .before .before .before .join-found .ensures .left))
     (rw (← ballot-is (a .x) s (c .before .before .before .before .before .before .before .before .before .before .before .before .before .before .before .before .before .before .before .load .result .settings .own) own) (c .before .before .send-both .ensures)))
 
 pub voting-spec : {M : Type 1} → statement M

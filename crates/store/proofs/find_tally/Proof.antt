@@ -2,10 +2,10 @@
 use Rattle.store.proofs.Searches.{find-none, find-here, find-next}
 use Rattle.store.proofs.Forms.{form-long, form-tallies}
 use Rattle.store.specs.Changes.{firstFrom}
-use Rattle.store.specs.Meaning.{tallyOf}
 use Rattle.store.specs.Decode.{rows, tallyAt, tallies}
 use Rattle.store.specs.Layout.{countOf, tallyTable}
 use Rattle.rules.specs.Words.{ofBlock}
+use Rattle.words.specs.Meaning.{blockOf}
 use native.Mathlib.Nat.{sub-zero}
 use native.Mathlib.Omega.{arith}
 use mathlib.Core.Path.{_≡_, sym, _∙_}
@@ -16,7 +16,7 @@ use Rattle.store.proofs.find_tally.Tie as tie
 abbrev Inv-loop : tie.InvT-loop
 Inv-loop store tally count i₀ i =
     (i ≤ count) × (count ≡ countOf tallyTable store)
-    × (firstFrom (ofBlock (tallyOf tally)) 0 (tallies store) ≡ firstFrom (ofBlock (tallyOf tally)) i (rows (tallyAt store) i (count - i)))
+    × (firstFrom (ofBlock (blockOf tally)) 0 (tallies store) ≡ firstFrom (ofBlock (blockOf tally)) i (rows (tallyAt store) i (count - i)))
 
 abbrev μ-loop : tie.MeasureT-loop
 μ-loop store tally count i₀ i =
@@ -50,13 +50,13 @@ loop-again c =
     let start = at-loop .before .before .before in
     let a = start .args in
     let l = at-loop .loop in
-    (omega arith, l .inv .1, l .inv .2 ∙ find-next (tallyAt (a .store .now)) (ofBlock (tallyOf (a .tally))) _ (l .i) (omega arith) (sym (c .before .is-tally .ensures) ∙ c .if2 .left))
+    (omega arith, l .inv .1, l .inv .2 ∙ find-next (tallyAt (a .store .now)) (ofBlock (blockOf (a .block))) _ (l .i) (omega arith) (sym (c .before .is-tally .ensures) ∙ c .if2 .left))
 
 returns : tie.Need-returns Inv-loop μ-loop
 returns c =
     let a = c .before .before .before .before .args in
     let l = c .before .loop in
-    sym (l .inv .2 ∙ find-none (tallyAt (a .store .now)) (ofBlock (tallyOf (a .tally))) _ (l .i) (omega arith))
+    sym (l .inv .2 ∙ find-none (tallyAt (a .store .now)) (ofBlock (blockOf (a .block))) _ (l .i) (omega arith))
 
 returns-2 : tie.Need-returns-2 Inv-loop μ-loop
 returns-2 c =
@@ -64,7 +64,7 @@ returns-2 c =
     let start = at-loop .before .before .before in
     let a = start .args in
     let l = at-loop .loop in
-    sym (l .inv .2 ∙ find-here (tallyAt (a .store .now)) (ofBlock (tallyOf (a .tally))) _ (l .i) (omega arith) (sym (c .before .is-tally .ensures) ∙ c .if2 .taken))
+    sym (l .inv .2 ∙ find-here (tallyAt (a .store .now)) (ofBlock (blockOf (a .block))) _ (l .i) (omega arith) (sym (c .before .is-tally .ensures) ∙ c .if2 .taken))
 
 pub find-tally-spec : {M : Type 1} → statement M
 find-tally-spec =

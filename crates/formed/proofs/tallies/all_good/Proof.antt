@@ -2,7 +2,6 @@
 use Prim.Native.Nat.{_-_}
 use mathlib.Core.Path.{_≡_, sym, ap, _∙_}
 use borrow.Author.Tests.{not-true, not-false}
-use Rattle.rules.specs.Words.{opened}
 use Rattle.rules.specs.WellFormed.{tallyGood}
 use Rattle.rules.specs.Lists.{all}
 use Rattle.settings.specs.Made.{settingsOf}
@@ -33,7 +32,7 @@ tally-good-requires c κs = search needs
 
 returns : tie.Need-returns Inv-loop μ-loop
 returns c =
-    sym (c .before .before .before .before .loop .inv ∙ all-here (tallyAt _) _ _ _ (c .before .before .before .loop-test .taken) (ap (tallyGood _) (ap opened (sym (c .before .before .tally-at .ensures))) ∙ sym (c .before .tally-good .ensures) ∙ not-true _ (c .if1 .taken)))
+    sym (c .before .before .before .before .loop .inv ∙ all-here (tallyAt _) _ _ _ (c .before .before .before .loop-test .taken) (ap (tallyGood _) (sym (c .before .before .tally-at .ensures)) ∙ sym (c .before .tally-good .ensures) ∙ not-true _ (c .if1 .taken)))
 
 add-i : tie.Need-add-i Inv-loop μ-loop
 add-i c = search needs
@@ -43,7 +42,7 @@ loop-less c = search needs
 
 loop-again : tie.Need-loop-again Inv-loop μ-loop
 loop-again c =
-    c .before .before .before .before .loop .inv ∙ all-next (tallyAt _) _ _ _ (c .before .before .before .loop-test .taken) (ap (tallyGood _) (ap opened (sym (c .before .before .tally-at .ensures))) ∙ sym (c .before .tally-good .ensures) ∙ not-false _ (c .if1 .left))
+    c .before .before .before .before .loop .inv ∙ all-next (tallyAt _) _ _ _ (c .before .before .before .loop-test .taken) (ap (tallyGood _) (sym (c .before .before .tally-at .ensures)) ∙ sym (c .before .tally-good .ensures) ∙ not-false _ (c .if1 .left))
 
 returns-2 : tie.Need-returns-2 Inv-loop μ-loop
 returns-2 c =

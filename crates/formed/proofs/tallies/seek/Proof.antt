@@ -3,7 +3,7 @@ use Prim.Native.Nat.{_-_}
 use mathlib.Core.Path.{_≡_, refl, sym, _∙_}
 use Rattle.rules.specs.Words.{ofBlock}
 use Rattle.rules.specs.Lists.{any}
-use Rattle.store.specs.Meaning.{tallyOf}
+use Rattle.words.specs.Meaning.{blockOf}
 use Rattle.store.specs.Decode.{rows, tallyAt}
 use Rattle.formed.proofs.Walks.{any-end, any-here, any-next}
 use Rattle.formed.proofs.Searches.{place-here, place-end}
@@ -13,7 +13,7 @@ use Rattle.formed.proofs.tallies.seek.Tie as tie
 
 abbrev Inv-loop : tie.InvT-loop
 Inv-loop store from end block i₀ i =
-    any (ofBlock (tallyOf block)) (rows (tallyAt store) from (end - from)) ≡ any (ofBlock (tallyOf block)) (rows (tallyAt store) i (end - i))
+    any (ofBlock (blockOf block)) (rows (tallyAt store) from (end - from)) ≡ any (ofBlock (blockOf block)) (rows (tallyAt store) i (end - i))
 
 abbrev μ-loop : tie.MeasureT-loop
 μ-loop store from end block i₀ i =

@@ -1,12 +1,12 @@
--- `search::conflicts` meets its contract. Assumes nothing.
+-- `words::conflicts` meets its contract. Assumes nothing.
 use mathlib.Core.Path.{_∙_, ap}
 use mathlib.Core.Bool.{not}
 use mathlib.Core.Option.{none}
 use borrow.Author.Needs.{needs}
 use Rattle.wire.specs.Meaning.{statementOf}
-use Rattle.search.proofs.Statements.{other-view, new-views, new-view-first, propose-first, proposes}
-use Rattle.search.proofs.conflicts.Statement.{statement}
-use Rattle.search.proofs.conflicts.Tie as tie
+use Rattle.words.proofs.Statements.{other-view, new-views, new-view-first, propose-first, proposes}
+use Rattle.words.proofs.conflicts.Statement.{statement}
+use Rattle.words.proofs.conflicts.Tie as tie
 
 returns : tie.Need-returns
 unfolding statementOf

@@ -1,8 +1,8 @@
--- `get_tally` meets its contract: each field is the number at its place of the record. Assumes nothing.
-use Rattle.store.specs.Meaning.{tallyOf}
+-- `get_certificate` meets its contract: each field is the number at its place of the record. Assumes nothing.
+use Rattle.words.specs.Meaning.{blockOf}
 use borrow.Author.Needs.{needs}
-use Rattle.store.proofs.get_tally.Statement.{statement}
-use Rattle.store.proofs.get_tally.Tie as tie
+use Rattle.store.proofs.get_certificate.Statement.{statement}
+use Rattle.store.proofs.get_certificate.Tie as tie
 
 add-get-four : tie.Need-add-get-four
 add-get-four c = search needs
@@ -29,14 +29,14 @@ get-two-requires : tie.Need-get-two-requires
 get-two-requires c κs = search needs
 
 returns : tie.Need-returns
-unfolding tallyOf
+unfolding blockOf
 returns c =
     let after-get-four2 = c .before .before in
     let after-get-four = after-get-four2 .before in
     rw (after-get-four .get-four .ensures, after-get-four2 .get-four2 .ensures, c .before .get-name .ensures .0, c .get-two .ensures)
 
-pub get-tally-spec : {M : Type 1} → statement M
-get-tally-spec =
+pub get-certificate-spec : {M : Type 1} → statement M
+get-certificate-spec =
     tie.close
     (tie.spec
     add-get-four

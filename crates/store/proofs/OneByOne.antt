@@ -80,19 +80,19 @@ pub joined-one-by-one : (m k : ℕ) → m < 2 ^ maskBits → k < 2 ^ maskBits �
 joined-one-by-one m k h l = sym (one-by-one maskBits k m (omega arith) h ∙ ap (joined m) (mod-eq-of-lt l))
 
 -- a tally that a mask joins is the tally with its voters added one by one
-pub withVoters : ℕ → ℕ → Tally → Tally
+pub votersAdded : ℕ → ℕ → Tally → Tally
 unfolding holds grown only
-withVoters zero k t = t
-withVoters (suc d) k t = elim (holds k d) [ true ↦ grown (withVoters d k t) (only d) | false ↦ withVoters d k t ]
+votersAdded zero k t = t
+votersAdded (suc d) k t = elim (holds k d) [ true ↦ grown (votersAdded d k t) (only d) | false ↦ votersAdded d k t ]
 
-voters-mask : (d k : ℕ) (t : Tally) → withVoters d k t ≡ record { view = t .view; height = t .height; name = t .name; mask = oneByOne d k (t .mask) }
-unfolding withVoters oneByOne grown
+voters-mask : (d k : ℕ) (t : Tally) → votersAdded d k t ≡ record { view = t .view; height = t .height; name = t .name; mask = oneByOne d k (t .mask) }
+unfolding votersAdded oneByOne grown
 voters-mask zero k t = refl
 voters-mask (suc d) k t =
-    by-bool (holds k d) (λ e. rw (e, withVoters, oneByOne) (ap (λ (u : Tally). grown u (only d)) (voters-mask d k t)))
-    (λ e. rw (e, withVoters, oneByOne) (voters-mask d k t))
+    by-bool (holds k d) (λ e. rw (e, votersAdded, oneByOne) (ap (λ (u : Tally). grown u (only d)) (voters-mask d k t)))
+    (λ e. rw (e, votersAdded, oneByOne) (voters-mask d k t))
 
-pub grown-one-by-one : (t : Tally) (k : ℕ) → t .mask < 2 ^ maskBits → k < 2 ^ maskBits → grown t k ≡ withVoters maskBits k t
+pub grown-one-by-one : (t : Tally) (k : ℕ) → t .mask < 2 ^ maskBits → k < 2 ^ maskBits → grown t k ≡ votersAdded maskBits k t
 unfolding grown
 grown-one-by-one t k h l =
     ap (λ (m : ℕ). record { view = t .view; height = t .height; name = t .name; mask = m }) (joined-one-by-one (t .mask) k h l) ∙ sym (voters-mask maskBits k t)

@@ -1,8 +1,8 @@
--- `search::same` meets its contract. Assumes nothing.
+-- `words::same` meets its contract. Assumes nothing.
 use borrow.Author.Needs.{needs}
-use Rattle.search.proofs.Statements.{same-is}
-use Rattle.search.proofs.same.Statement.{statement}
-use Rattle.search.proofs.same.Tie as tie
+use Rattle.words.proofs.Statements.{same-is}
+use Rattle.words.proofs.same.Statement.{statement}
+use Rattle.words.proofs.same.Tie as tie
 
 same-requires : tie.Need-same-requires
 same-requires c κs = search needs

@@ -28,7 +28,7 @@ higherIf above under name = above || not under && name
 abbrev higherBy : Certificate → Certificate → Bool
 higherBy t u = higherIf (below u t) (below t u) (ltb (t .name) (u .name))
 
--- of two tallies of different rank the one that ranks above is higher; of one rank the one with the smaller name
+-- of two certificates of different rank the one that ranks above is higher; of one rank the one with the smaller name
 module _ (t u : Certificate) where
   by-rank : higher t u ≡ higherBy t u
   unfolding higher

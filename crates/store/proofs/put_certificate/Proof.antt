@@ -1,8 +1,8 @@
--- `put_tally` meets its contract: the block is put, then the mask. Assumes nothing.
-use Rattle.store.specs.Meaning.{tallyOf}
+-- `put_certificate` meets its contract: the block is put, then the mask. Assumes nothing.
+use Rattle.words.specs.Meaning.{blockOf}
 use borrow.Author.Needs.{needs}
-use Rattle.store.proofs.put_tally.Statement.{statement}
-use Rattle.store.proofs.put_tally.Tie as tie
+use Rattle.store.proofs.put_certificate.Statement.{statement}
+use Rattle.store.proofs.put_certificate.Tie as tie
 
 put-block-requires : tie.Need-put-block-requires
 put-block-requires c κs = search needs
@@ -20,12 +20,12 @@ same-length : tie.Need-same-length
 same-length c = search needs
 
 returns : tie.Need-returns
-unfolding tallyOf
+unfolding blockOf
 returns c =
     let after-put = c .before .before in
     let after-put-block = after-put .before .before .before .before .before in
     rw (after-put .put .ensures, after-put-block .put-block .ensures)
 
-pub put-tally-spec : {M : Type 1} → statement M
-put-tally-spec =
+pub put-certificate-spec : {M : Type 1} → statement M
+put-certificate-spec =
     tie.close (tie.spec put-block-requires add-put cast-put put-requires same-length returns)
