@@ -20,7 +20,7 @@ use Rattle.wire.specs.Meaning.{statementOf, Linked}
 use Rattle.wire.specs.declared.Statement as code
 use Rattle.store.specs.Layout.{statementTable, sizeIn, countOf}
 use Rattle.store.specs.Decode.{rows, statementAt, statements, tallies, stateFrom, stateOf, Left}
-use Rattle.store.specs.Changes.{pick, firstFrom, blockAt, joining, noting}
+use Rattle.store.specs.Changes.{pick, firstFrom, blockAt, withVoters, joining, noting}
 use Rattle.store.specs.declared.Found.{Found}
 use Rattle.store.specs.declared.Found.the-variants.{At}
 use Rattle.store.proofs.Rows.{rows-all}
@@ -69,6 +69,10 @@ unfolding statementOf
 sendable-linked g x m = sendable-certifies g x m .view
 
 -- ---- a block by its place
+
+pub voter-block : (x : Statement) (m : ℕ) {u : Certificate} → u ≡ ownBlock x 0 → withVoters m u ≡ ownBlock x m
+unfolding ownBlock
+voter-block x m e = ap (withVoters m) e
 
 -- whatever mask it comes with
 own-place : (x : Statement) (m i : ℕ) (us : List Tally) → firstFrom (ofBlock (ownBlock x 0)) i us ≡ firstFrom (ofBlock (ownBlock x m)) i us

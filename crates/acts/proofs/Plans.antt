@@ -9,13 +9,13 @@ use lib.ListN.{length}
 use borrow.Author.Tests.{eqb-true, eqb-false, eq-eqb, ne-eqb, le-leb, lt-leb}
 use Rattle.rules.specs.Limits.{mostTallies}
 use Rattle.rules.specs.Lists.{any}
-use Rattle.rules.specs.Words.{Statement, sameStatement, Certificate, Tally, ownBlock, certificate, join, joinCertificate, State}
+use Rattle.rules.specs.Words.{Statement, sameStatement, Certificate, Tally, ownBlock, certificate, sameBlock, join, joinCertificate, State}
 use Rattle.rules.specs.Inputs.{saying, stored, statement, tallied}
 use Rattle.rules.specs.Refusals.{hasRoom}
 use Rattle.rules.proofs.Tests.{by-bool}
 use Rattle.store.specs.Layout.{tallyTable, sizeIn, countOf}
 use Rattle.store.specs.Decode.{tallies, stateFrom, stateOf, Form, Left}
-use Rattle.store.specs.Changes.{blockAt, certifying}
+use Rattle.store.specs.Changes.{blockAt, withVoters, certifying}
 use Rattle.store.specs.declared.Found.{Found}
 use Rattle.store.specs.declared.Found.the-variants.{At, Nothing}
 use Rattle.store.proofs.Joining.{certificate-joins}
@@ -74,10 +74,22 @@ module _ (t : Certificate) where
 
 -- ---- a vote or a status, where k tallies would be in use
 
-module _ {b : List ℕ} (f : Form b) (t : Certificate) (r : Found) (e : r ≡ certifiedAt t (tallies b)) (k : ℕ) (d : k ≡ countOf tallyTable b + needed t r) where
+-- whoever votes, the tally is found by the block, and needs a record or not
+certified-apart : (m : ℕ) (t : Certificate) (us : List Tally) → certifiedAt t us ≡ certifiedAt (withVoters m t) us
+unfolding certifiedAt sameBlock
+certified-apart m t us = refl
+
+needed-apart : (m : ℕ) (t : Certificate) (r : Found) → needed (withVoters m t) r ≡ needed t r
+unfolding needed
+needed-apart m t r = refl
+
+module _ {b : List ℕ} (f : Form b) (u : Certificate) (m : ℕ) (r : Found) (e : r ≡ certifiedAt u (tallies b)) (k : ℕ) (d : k ≡ countOf tallyTable b + needed u r) where
+  abbrev t : Certificate
+  t = withVoters m u
+
   k-is : k ≡ length (joinCertificate t (tallies b))
   unfolding stateOf stateFrom
-  k-is = omega (arith, count-tallies b, certificate-adds t (tallies b) r e)
+  k-is = omega (arith, d, needed-apart m u r, count-tallies b, certificate-adds t (tallies b) r (e ∙ certified-apart m u (tallies b)))
 
   room-by : leb k (mostTallies (sizeIn b)) ≡ hasRoom (tallied t (stateOf b) .now)
   unfolding stateOf stateFrom

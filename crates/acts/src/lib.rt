@@ -24,8 +24,8 @@ ghost use Rattle.acts.specs.Answers.{answered, Stands};
 use store::Found;
 use store::Phase;
 use store::Station;
-use wire::Message;
 use store::Voters;
+use wire::Message;
 use wire::Statement;
 use words::Certificate;
 

@@ -34,10 +34,10 @@ use Rattle.wire.specs.declared.Message.the-variants.{Stated, Vote, Blame, Blame
 use Rattle.wire.specs.declared.Read.{Read}
 use Rattle.wire.specs.declared.Read.the-variants.{Readable, Unreadable}
 use Rattle.words.specs.Meaning.{blockOf}
+use Rattle.store.specs.Changes.{withVoters}
 use Rattle.store.specs.Layout.{sizeIn}
 use Rattle.store.specs.Decode.{stateOf}
 use Rattle.store.specs.Meaning.{Loads}
-use Rattle.store.specs.declared.Tally.{Tally}
 use Rattle.store.specs.declared.Station.{Station}
 use Rattle.store.proofs.Loaded.{loaded-settings}
 use Rattle.calls.specs.Calls.{stepCalled, Gives}
@@ -86,13 +86,13 @@ module _ (s : State) {m : Message} where
       ap (λ (f : State → _). ifRoom s (f s)) (sym (handled-stated x)) ∙ ap (λ (y : Message). ifRoom s (handled (messageOf y) s)) (sym e)
 
   module _ {v h : ℕ} {b : Name} where
-    pub vote-handled : {a k : ℕ} → m ≡ Vote v h b a → k ≡ only a
-        → ifRoom s (tallied (blockOf (record { view = v; height = h; name = b; mask = k })) s) ≡ ifRoom s (handled (messageOf m) s)
+    pub vote-handled : {a : ℕ} → m ≡ Vote v h b a
+        → ifRoom s (tallied (withVoters (only a) (blockOf (record { view = v; height = h; name = b; mask = 0 }))) s) ≡ ifRoom s (handled (messageOf m) s)
     unfolding handled messageOf blockOf
-    vote-handled e q = rw (e, q)
+    vote-handled e = rw e
 
     pub status-handled : {k : ℕ} → m ≡ Status h b v k
-        → ifRoom s (tallied (blockOf (record { view = v; height = h; name = b; mask = k })) s) ≡ ifRoom s (handled (messageOf m) s)
+        → ifRoom s (tallied (withVoters k (blockOf (record { view = v; height = h; name = b; mask = k }))) s) ≡ ifRoom s (handled (messageOf m) s)
     unfolding handled messageOf blockOf
     status-handled e = rw e
 

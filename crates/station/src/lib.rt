@@ -15,7 +15,8 @@ ghost use Rattle.wire.specs.Meaning.{statementOf, messageOf};
 ghost use Rattle.store.specs.Layout.{sizeIn};
 ghost use Rattle.store.specs.Decode.{stateOf, Form};
 ghost use Rattle.store.specs.Fresh.{answer, freshly};
-ghost use Rattle.store.specs.Meaning.{causeOf};
+ghost use Rattle.store.specs.Changes.{withVoters};
+ghost use Rattle.store.specs.Meaning.{causeOf, votersOf, Numbered};
 ghost use Rattle.kept.specs.Said.{Sendable};
 ghost use Rattle.words.specs.Meaning.{blockOf};
 ghost use Rattle.calls.specs.Calls.{stepCalled, offerCalled, tickCalled, Gives};
@@ -31,9 +32,11 @@ use store::Cause;
 use store::Found;
 use store::Phase;
 use store::Station;
+use store::Voters;
 use wire::Message;
 use wire::Read;
 use wire::Statement;
+use words::Certificate;
 
 // What an offer makes.
 enum Offer {
@@ -147,12 +150,12 @@ fn stated(store: &mut [u8], out: &mut [u8], x: Statement) -> u64
     acts::statement(store, out, 0, x, plan) as u64
 }
 
-// A vote or a status.
-fn counted(store: &mut [u8], tally: Certificate) -> u64
-    requires { ⌜ Form (now store) ⌝ }
-    ensures { λ r. ⌜ Mutely (ifRoom (stateOf (now (store .entry))) (inputs.tallied (blockOf tally) (stateOf (now (store .entry))))) (now (store .exit)) r ⌝ }
+// A vote or a status: whoever joins the tally of a block.
+fn counted(store: &mut [u8], block: Certificate, voters: Voters) -> u64
+    requires { ⌜ (Form (now store)) × (Numbered voters) ⌝ }
+    ensures { λ r. ⌜ Mutely (ifRoom (stateOf (now (store .entry))) (inputs.tallied (withVoters (votersOf voters) (blockOf block)) (stateOf (now (store .entry))))) (now (store .exit)) r ⌝ }
 {
-    if !acts::tallied(store, tally) {
+    if !acts::tallied(store, block, voters) {
         return stop(store, 6, Cause::Full);
     }
     0
@@ -187,16 +190,13 @@ fn handled(store: &mut [u8], out: &mut [u8], message: Message) -> u64
             name,
             author,
         } => {
-            let mask = voter(author);
-            counted(
-                store,
-                Tally {
-                    view,
-                    height,
-                    name,
-                    mask,
-                },
-            )
+            let block = Certificate {
+                view,
+                height,
+                name,
+                mask: 0,
+            };
+            counted(store, block, Voters::One(author as u64))
         }
         Message::Blame { view, author } => {
             let mask = voter(author);
@@ -208,15 +208,15 @@ fn handled(store: &mut [u8], out: &mut [u8], message: Message) -> u64
             name,
             cert,
             mask,
-        } => counted(
-            store,
-            Tally {
+        } => {
+            let block = Certificate {
                 view: cert,
                 height,
                 name,
                 mask,
-            },
-        ),
+            };
+            counted(store, block, Voters::Mask(mask))
+        }
     }
 }
 

@@ -19,7 +19,7 @@ use Rattle.settings.specs.Made.{settingsOf}
 use Rattle.store.specs.Decode.{tallies, stateFrom, stateOf, Left}
 use Rattle.store.specs.Meaning.{Loads}
 use Rattle.store.specs.declared.Station.{Station}
-use Rattle.store.specs.declared.Tally as code
+use Rattle.words.specs.declared.Certificate as code
 use Rattle.store.proofs.Loaded.{loaded-settings, loaded-view}
 use Rattle.kept.proofs.Facts.{sizes-of}
 use Rattle.kept.proofs.Lengths.{size, weight, length-effect, bytes-cons, bytes-none}
@@ -73,7 +73,7 @@ module _ (s : State) (v : ℕ) (t : Certificate) (l : ℕ) (ev : v ≡ s .view +
 
 -- ---- by the loaded numbers
 
-module _ {b : List ℕ} (k : Formed b) (s : Station) (e : Loads s b) (t : code.Tally) (h : blockOf t ≡ highest (stateOf b .settings) (s .view + 1) (tallies b))
+module _ {b : List ℕ} (k : Formed b) (s : Station) (e : Loads s b) (t : code.Certificate) (h : blockOf t ≡ highest (stateOf b .settings) (s .view + 1) (tallies b))
     (l : ℕ) (el : l ≡ leader (settingsOf (s .settings)) (s .view + 1)) where
   leader-loaded : l ≡ leader (stateOf b .settings) (s .view + 1)
   leader-loaded = el ∙ ap (λ (g : Settings). leader g (s .view + 1)) (loaded-settings s b e)

@@ -22,7 +22,7 @@ use Rattle.wire.specs.declared.Statement.{Statement}
 use Rattle.store.specs.Decode.{tallies, stateFrom, stateOf}
 use Rattle.store.specs.Meaning.{Loads}
 use Rattle.store.specs.declared.Station.{Station}
-use Rattle.store.specs.declared.Tally.{Tally}
+use Rattle.words.specs.declared.Certificate.{Certificate}
 use Rattle.store.proofs.Loaded.{loaded-view}
 use Rattle.kept.specs.Said.{Sendable}
 use Rattle.kept.specs.Parts as kept
@@ -55,7 +55,7 @@ own-sendable {s} f e =
     sendable (newView (s .view) (t .height) (t .name) (t .view) (t .mask) (s .settings .own)) (sizes-of f)
     (both (both (both (both (f .view) (c .block)) (lt-ltb (t .view) (s .view) (c .earlier))) (c .isAllowed)) o) (c .name)
 
-module _ {b : List ℕ} (k : Formed b) (s : Station) (e : Loads s b) (t : Tally) (h : blockOf t ≡ highest (stateOf b .settings) (s .view) (tallies b)) where
+module _ {b : List ℕ} (k : Formed b) (s : Station) (e : Loads s b) (t : Certificate) (h : blockOf t ≡ highest (stateOf b .settings) (s .view) (tallies b)) where
   abbrev made : Statement
   made = record { «is_new_view» = true; view = s .view; height = t .height; name = t .name; link = linkTo (t .view); mask = t .mask; author = s .settings .own }
 

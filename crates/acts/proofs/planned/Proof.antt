@@ -30,8 +30,8 @@ returns c =
     let found = c .before .before .find-statement in
     planned-repeat x (stateOf b) (is-repeat b x (found .result) (found .ensures) _ (c .enum-told2 .given .1))
 
-certificate-requires : tie.Need-certificate-requires
-certificate-requires c κs =
+certificate-of-requires : tie.Need-certificate-of-requires
+certificate-of-requires c κs =
     let start = c .before .before .before .before in
     sendable-certifies (stateOf (start .args .store .now) .settings) (start .args .x) (start .pre .1)
 
@@ -52,7 +52,7 @@ needed-requires-2 c κs = search needs
 
 add-records : tie.Need-add-records
 add-records c =
-    omega (arith, c .before .needed .ensures, needed-few (blockOf (c .before .before .before .before .before .certificate .result)) (c .before .before .before .before .find-certificate .result), c .needed2 .ensures, needed-few (blockOf (c .before .before .before .own-block .result)) (c .before .before .find-tally .result))
+    omega (arith, c .before .needed .ensures, needed-few (blockOf (c .before .before .before .before .before .certificate-of .result)) (c .before .before .before .before .find-certificate .result), c .needed2 .ensures, needed-few (blockOf (c .before .before .before .own-block .result)) (c .before .before .find-tally .result))
 
 load-requires : tie.Need-load-requires
 load-requires c κs =
@@ -65,7 +65,7 @@ add-room : tie.Need-add-room
 add-room c =
     let start = c .before .before .before .before .before .before .before .before .before .before .before .before .before .before in
     let load = c .before .before .before .load in
-    omega (arith, loaded-tallies (load .result) (start .args .store .now) (load .ensures), form-tallies _ (start .pre .0 .form), c .before .before .before .before .before .needed .ensures, needed-few (blockOf (c .before .before .before .before .before .before .before .before .before .certificate .result)) (c .before .before .before .before .before .before .before .before .find-certificate .result), c .before .before .before .before .needed2 .ensures, needed-few (blockOf (c .before .before .before .before .before .before .before .own-block .result)) (c .before .before .before .before .before .before .find-tally .result))
+    omega (arith, loaded-tallies (load .result) (start .args .store .now) (load .ensures), form-tallies _ (start .pre .0 .form), c .before .before .before .before .before .needed .ensures, needed-few (blockOf (c .before .before .before .before .before .before .before .before .before .certificate-of .result)) (c .before .before .before .before .before .before .before .before .find-certificate .result), c .before .before .before .before .needed2 .ensures, needed-few (blockOf (c .before .before .before .before .before .before .before .own-block .result)) (c .before .before .before .before .before .before .find-tally .result))
 
 most-tallies-in-requires : tie.Need-most-tallies-in-requires
 most-tallies-in-requires c κs = search needs
@@ -79,7 +79,7 @@ returns-2 c =
     let b = start .args .store .now in
     let x = statementOf (start .args .x) none in
     let found = c .before .before .before .before .before .before .before .before .before .before .before .before .before .before .find-statement in
-    let certificate = c .before .before .before .before .before .before .before .before .before .before .before .certificate in
+    let certificate = c .before .before .before .before .before .before .before .before .before .before .before .certificate-of in
     let certified = c .before .before .before .before .before .before .before .before .before .before .find-certificate in
     let block = c .before .before .before .before .before .before .before .before .before .own-block in
     let own = c .before .before .before .before .before .before .before .before .find-tally in
@@ -95,7 +95,7 @@ planned-spec =
     enum-told
     enum-told-2
     returns
-    certificate-requires
+    certificate-of-requires
     find-certificate-requires
     own-block-requires
     find-tally-requires
