@@ -14,6 +14,7 @@ pub mod Moves
 pub mod Kept
 pub mod Orderly
 pub mod Held
+pub mod Views
 pub mod Votes
 pub mod Locks
 pub mod Proper
