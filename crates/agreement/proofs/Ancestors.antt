@@ -26,7 +26,8 @@ use Rattle.agreement.specs.Schedule.{Event, commonTick, ticks, at, Says,
 use Rattle.agreement.proofs.Lineage.{up, propose-facts, chain-whole}
 use Rattle.agreement.proofs.Events.{begun, begun-same}
 use Rattle.agreement.proofs.Clock.{clock-suc, clock-before}
-use Rattle.agreement.proofs.Group.{Group, st, ck, Ok, G, SaidAt, begun-at, moves-of, at-settings, at-clock, kept-run, orderly-run, reach}
+use Rattle.agreement.proofs.Group.{Group, st, ck, Ok, G, SaidAt, begun-at, moves-of, at-settings, at-clock, kept-run, orderly-run}
+use Rattle.agreement.proofs.Follow.{reach}
 use Rattle.agreement.proofs.Behind.{SoundVote, Grounds, grounds}
 use Rattle.agreement.proofs.Logs.{tick-log, counted-same, stored-placed, all-placed, stored-lineage}
 

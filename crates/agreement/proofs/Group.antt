@@ -1,6 +1,6 @@
 -- What the proof needs of a schedule, and what then holds of each sound station at every moment. `next k` is the clock to which a
 -- tick at moment k would go: the clock after event k where the schedule goes on. Assumes nothing.
-use mathlib.Core.Path.{_≡_, subst, refl, sym, ap, _∙_}
+use mathlib.Core.Path.{_≡_, subst, subst₂, refl, sym, ap, _∙_}
 use Prim.Native.Nat.{ℕ, zero, suc, _+_, _/_, _≤_, _<_}
 use native.Mathlib.Omega.{arith}
 use native.Mathlib.Decide.{decLe, ℕ-discrete}
@@ -11,8 +11,8 @@ use mathlib.Core.Option.{some}
 use lib.ListN.{length, length-replicate}
 use Rattle.rules.specs.Limits.{Size, firstView, lastView}
 use Rattle.rules.specs.Lists.{distinct}
-use Rattle.rules.specs.Sizes.{Settings, goodSettings, leader, bit, count, quorum}
-use Rattle.rules.specs.Messages.{Message, newView, propose, vote, blame, blameSet, status, read, write, maskAllowed, certificateAllowed, allowed, Effect, toAll, toOne, committed}
+use Rattle.rules.specs.Sizes.{Settings, goodSettings, bit, count}
+use Rattle.rules.specs.Messages.{Message, newView, propose, vote, blame, blameSet, status, read, write, allowed, Effect, toAll, toOne, committed}
 use Rattle.rules.specs.Words.{Statement, message, sameStatement, Certificate, State, waiting, fresh}
 use Rattle.rules.specs.Inputs.{offered}
 use Rattle.rules.specs.Refusals.{Outcome, running, step}
@@ -22,25 +22,15 @@ use Rattle.rules.proofs.Moves.{carried, Moves}
 use Rattle.rules.proofs.Kept.{no-phase, moves-fixed, Kept, kept-refl, kept-trans, moves-kept, moves-late, settled-waits}
 use Rattle.rules.proofs.Orderly.{Orderly, fresh-orderly, moves-orderly, past-range}
 use Rattle.rules.proofs.Held.{Held, held-kept, step-held, HeldSaid, moves-said}
+use Rattle.rules.proofs.Views.{viewOf, ViewSaid, moves-views}
 use Rattle.rules.proofs.Votes.{Cast, CastSaid, moves-cast}
 use Rattle.rules.proofs.Proper.{Right, Proper, Known, Parented, fresh-proper, proper-map, moves-proper}
 use Rattle.kept.specs.Parts.{WellFormed}
 use Rattle.kept.proofs.Statements.{stored-said}
-use Rattle.kept.proofs.Calls.{sent-read}
-use Rattle.agreement.specs.Schedule.{Event, idle, commonTick, tickOf, given, offeredTo, happens, ticks, IsCommon, settingsOf, at, out, clock, Says, Sound, IsLent, Hands, Offers}
-use Rattle.agreement.proofs.Whole.{settings-alike, formed-at, sent-at}
+use Rattle.agreement.specs.Schedule.{Event, idle, commonTick, tickOf, given, offeredTo, happens, ticks, IsCommon, settingsOf, at, out, clock, Says, Sound, IsLent, Sends, Hands, Offers}
+use Rattle.agreement.proofs.Whole.{settings-alike, formed-at, sent-allowed}
 use Rattle.agreement.proofs.Clock.{clock-suc, clock-mono, clock-before}
 use Rattle.agreement.proofs.Events.{GivenBy, OfferedBy, Brings, begun, before, event-moves, begun-clock, begun-same, begun-kept, begun-orderly, begun-proper, before-all, mem-after, event-settled, ticks-two, happens-given}
-
--- what is allowed doesn't depend on the own number
-pub allowed-alike : (size : Size) (n D i j : ℕ) (m : Message) → allowed (settingsOf size n D i) m ≡ allowed (settingsOf size n D j) m
-unfolding allowed maskAllowed certificateAllowed quorum leader
-allowed-alike size n D i j (newView v h b c m a) = refl
-allowed-alike size n D i j (propose v h b p m a) = refl
-allowed-alike size n D i j (vote v h b a) = refl
-allowed-alike size n D i j (blame v a) = refl
-allowed-alike size n D i j (blameSet v m) = refl
-allowed-alike size n D i j (status h b c m) = refl
 
 pub record Group : Type 0 where
   pub size : Size
@@ -57,8 +47,12 @@ pub record Group : Type 0 where
   pub soon : (k : ℕ) → clock size n D event 0 (suc k) ≤ next k
   pub late : (k : ℕ) → next k ≤ clock size n D event 0 k + 1
   pub lent : (k : ℕ) → IsLent size n D event faulty (event k)
-  pub reaches : (i j : ℕ) → Sound size n D event faulty i → Sound size n D event faulty j → ¬ (i ≡ j) → (l k : ℕ) (m : Message) → Says size n D event i l (toAll m)
-      → clock size n D event 0 (suc l) + D + 1 ≤ next k → (h : ℕ) × (h < k) × (event h ≡ given j (write m))
+  -- what a sound station sent a sound one is handed over after that and before the tick D + 1 later
+  pub reaches : (i j : ℕ) → Sound size n D event faulty i → Sound size n D event faulty j → (l k : ℕ) (m : Message) → Sends size n D event faulty i j l m
+      → clock size n D event 0 (suc l) + D + 1 ≤ next k → (h : ℕ) × (l < h) × (h < k) × (event h ≡ given j (write m))
+  -- and is taken: of no message at most one view ahead of the receiver is the answer a refusal
+  pub takes : (i j : ℕ) → Sound size n D event faulty i → Sound size n D event faulty j → (l h : ℕ) (m : Message) → Sends size n D event faulty i j l m
+      → l < h → event h ≡ given j (write m) → viewOf m ≤ at size n D event j h .view + 1 → happens j (event h) (at size n D event j h) .number ≡ 0
   pub voters : (k j : ℕ) (m : Message) → Hands size n D event faulty k j m → (t : Certificate) → carried m ≡ some t → (i : ℕ) → Sound size n D event faulty i → bit (t .mask) i ≡ 1
       → (l : ℕ) × (l < k) × Says size n D event i l (toAll (vote (t .view) (t .height) (t .name) i))
   pub parents : (k j : ℕ) (m : Message) → Hands size n D event faulty k j m ⊎ Offers size n D event faulty k j m → Parented parentOf m
@@ -243,26 +237,17 @@ module _ (X : Group) where
     all-of (λ (y : Statement). Right (VotedBy (ck k)) parentOf (message y)) (st i k .statements) (proper-run i ok k .statements) x m,
   )
 
-  -- what a sound station says to all can be read by each, and is allowed
-  pub said-allowed : (i j : ℕ) → Ok i → (k : ℕ) (m : Message) → Says size n D event i k (toAll m) → (read (write m) ≡ some m) × (allowed (G j) m ≡ true)
-  said-allowed i j ok k m s =
-      let e = sent-at size n D event faulty (X .lent) i (good i ok) k m s in
-      (sent-read e, sym (allowed-alike size n D i j m) ∙ subst (λ (g : Settings). allowed g m ≡ true) (at-settings i ok k) (e .isAllowed))
-
   -- ---- what is said to all is held by all, the sender too, before the tick D + 1 later
 
-  given-held : (j : ℕ) → Ok j → (h : ℕ) (m : Message) → event h ≡ given j (write m) → read (write m) ≡ some m → allowed (G j) m ≡ true
-      → Held (G j) (st j (suc h)) m
+  taken-held : (i j : ℕ) → Ok i → Ok j → (l h : ℕ) (m : Message) → Sends size n D event faulty i j l m → l < h → event h ≡ given j (write m)
+      → viewOf m ≤ st j h .view + 1 → Held (G j) (st j (suc h)) m
   unfolding at
-  given-held j ok h m e r a =
-      let s = st j h in
-      let g = at-settings j ok h in
-      let z : happens j (event h) s .next ≡ step (write m) s .next =
-      ap (λ (y : Event). happens j y s .next) e ∙ ap (λ (o : Outcome). o .next) (happens-given j (write m) s) in
-      let run : running (step (write m) s .next) ≡ true = rw z at (X .runs j ok (suc h)) in
-      subst (λ (t : State). Held (G j) t m) (sym z)
-      (subst (λ (y : Settings). Held y (step (write m) s .next) m) g
-      (step-held (write m) m s (X .runs j ok h) r (subst (λ (y : Settings). allowed y m ≡ true) (sym g) a) (blames-length j ok h ∙ ap suc (views-run j ok h)) run))
+  taken-held i j hi hj l h m s o e v =
+      let u = st j h in
+      let z : happens j (event h) u ≡ step (write m) u = ap (λ (y : Event). happens j y u) e ∙ happens-given j (write m) u in
+      subst₂ (λ (y : Settings) (t : State). Held y t m) (at-settings j hj h) (sym (ap (λ (x : Outcome). x .next) z))
+      (step-held (write m) m u (sent-allowed size n D event faulty (X .lent) i (good i hi) j l m s .0) (blames-length j hj h ∙ ap suc (views-run j hj h))
+      (sym (ap (λ (x : Outcome). x .number) z) ∙ X .takes i j hi hj l h m s o e v))
 
   said-held : (i : ℕ) → Ok i → (l : ℕ) (m : Message) → Says size n D event i l (toAll m) → Held (G i) (st i (suc l)) m
   said-held i ok l m s =
@@ -274,8 +259,19 @@ module _ (X : Group) where
       let a = moves-said b t o w (begun-kept (event l) (st i l) .length ∙ blames-length i ok l ∙ ap suc z) (rw (← z) (view-run i ok (suc l) .1)) in
       subst (λ (y : Settings). Held y t m) g (out-all (HeldSaid (b .settings) t) i ok l (λ h c. tt) a (toAll m) s)
 
-  pub reach : (i j : ℕ) → Ok i → Ok j → (m : Message) (c k : ℕ) → SaidAt i c (toAll m) → c + D + 1 ≤ next k → Held (G j) (st j k) m
-  reach i j hi hj m c k (l, e, s) d =
+  -- what i says at event l is of no later view than the one it is then in
+  pub says-views : (i : ℕ) → Ok i → (l : ℕ) (e : Effect) → Says size n D event i l e → ViewSaid (st i (suc l) .view) e
+  says-views i ok l e s =
+      let (o, q, w) = moves-of i ok l in
+      out-all (ViewSaid (st i (suc l) .view)) i ok l (λ h b. tt) (moves-views (begun (event l) (st i l)) (st i (suc l)) o w) e s
+
+  -- from clock c on j is at most one view behind v
+  abbrev pub NearFrom : (j c v : ℕ) → Type 0
+  NearFrom j c v = (h : ℕ) → c ≤ ck h → v ≤ st j h .view + 1
+
+  pub reach-near : (i j : ℕ) → Ok i → Ok j → (m : Message) (c k : ℕ) → SaidAt i c (toAll m) → NearFrom j c (viewOf m) → c + D + 1 ≤ next k
+      → Held (G j) (st j k) m
+  reach-near i j hi hj m c k (l, e, s) near d =
       let u = X .late k in
       let delay = sizes (G 0) (X .settings) .leastD in
       elim (ℕ-discrete i j) [
@@ -284,9 +280,9 @@ module _ (X : Group) where
             subst (λ (a : ℕ). Held (G a) (st a k) m) q
             (held-kept (G i) (kept-run i hi (suc l) k (omega arith)) m (said-held i hi l m s)))
         | no q ↦ (
-            let (h, lh, ev) = X .reaches i j hi hj q l k m s (omega arith) in
-            let (rd, al) = said-allowed i j hi l m s in
-            held-kept (G j) (kept-run j hj (suc h) k (omega arith)) m (given-held j hj h m ev rd al))
+            let (h, lo, lh, ev) = X .reaches i j hi hj l k m (inl (s, q)) (omega arith) in
+            let o = clock-mono size n D event (suc l) h (omega arith) in
+            held-kept (G j) (kept-run j hj (suc h) k (omega arith)) m (taken-held i j hi hj l h m (inl (s, q)) lo ev (near h (omega arith))))
       ]
 
   -- ---- L4 in the run: a vote at event k

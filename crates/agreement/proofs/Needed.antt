@@ -1,20 +1,24 @@
--- The premises of 01 give what the proof needs. Of what is forged it needs the votes alone, of a block the parent alone, and that
--- a delivery comes after its sending is not used. Assumes nothing.
+-- The premises of 01 give what the proof needs. Of what is forged it needs the votes alone, of a block the parent alone. Assumes nothing.
 use mathlib.Core.Path.{_≡_, subst, refl, sym, ap, _∙_}
 use Prim.Native.Nat.{ℕ, suc, _+_, _≤_, _<_}
 use native.Mathlib.Omega.{arith}
+use mathlib.Core.Bool.{true}
 use mathlib.Core.Logic.{_⊎_, inl, inr}
 use mathlib.Core.Option.{some, Option·some-injective}
 use Rattle.rules.specs.Limits.{Size}
-use Rattle.rules.specs.Sizes.{bit}
-use Rattle.rules.specs.Messages.{Message, newView, propose, vote, blame, blameSet, status, write, toAll}
+use Rattle.rules.specs.Sizes.{Settings, bit}
+use Rattle.rules.specs.Messages.{Message, newView, propose, vote, blame, blameSet, status, write, allowed}
 use Rattle.rules.specs.Words.{Certificate}
+use Rattle.rules.specs.Refusals.{Outcome, running, step}
 use Rattle.rules.proofs.Tests.{no-some}
 use Rattle.rules.proofs.Tallies.{bit-only}
 use Rattle.rules.proofs.Moves.{carried}
+use Rattle.rules.proofs.Held.{step-taken}
+use Rattle.rules.proofs.Views.{viewOf}
 use Rattle.rules.proofs.Proper.{Parented}
-use Rattle.agreement.specs.Schedule.{Event, commonTick, given, ticks, IsCommon, clock, Says, HasVoted, Sound, SoundRun, Genuine, OneBlock, Premises}
-use Rattle.agreement.proofs.Events.{ticks-two}
+use Rattle.agreement.specs.Schedule.{Event, commonTick, given, happens, ticks, IsCommon, at, clock, HasVoted, Sound, GoodSettings, SoundRun, ProperBuffers, Sends, Genuine, OneBlock, Premises}
+use Rattle.agreement.proofs.Events.{ticks-two, happens-given}
+use Rattle.agreement.proofs.Whole.{settings-alike, settings-at, sent-allowed}
 use Rattle.agreement.proofs.Clock.{clock-suc, last-of, clock-alike}
 use Rattle.agreement.proofs.Group.{Group}
 
@@ -25,6 +29,19 @@ one-tick size n D event cm k = go (clock-suc size n D event k) (ticks-two (event
         → clock size n D event 0 (suc k) ≤ clock size n D event 0 k + 1
     go e (inl t) = omega arith
     go e (inr (t, f)) = omega arith
+
+-- who runs takes what was sent to it: it can be read, is allowed, and there is room
+pub running-takes : (size : Size) (n D : ℕ) (event : ℕ → Event) (faulty : ℕ) → GoodSettings size n D event faulty → ProperBuffers size n D event faulty → SoundRun size n D event faulty
+    → (i j : ℕ) → Sound size n D event faulty i → Sound size n D event faulty j → (l h : ℕ) (m : Message) → Sends size n D event faulty i j l m → l < h → event h ≡ given j (write m)
+    → viewOf m ≤ at size n D event j h .view + 1 → happens j (event h) (at size n D event j h) .number ≡ 0
+unfolding at
+running-takes size n D event faulty g lent runs i j hi hj l h m s o e v =
+    let t = at size n D event j h in
+    let z : happens j (event h) t ≡ step (write m) t = ap (λ (y : Event). happens j y t) e ∙ happens-given j (write m) t in
+    let (r, a) = sent-allowed size n D event faulty lent i (settings-alike size n D i g (hi .0)) j l m s in
+    let b = subst (λ (y : Settings). allowed y m ≡ true) (sym (settings-at size n D event faulty lent j (settings-alike size n D j g (hj .0)) h)) a in
+    ap (λ (x : Outcome). x .number) z
+    ∙ step-taken (write m) m t (runs j hj h) r b (subst (λ (x : Outcome). running (x .next) ≡ true) z (runs j hj (suc h)))
 
 module _ (size : Size) (n D : ℕ) (event : ℕ → Event) (faulty : ℕ) (heightOf parentOf : ℕ → ℕ) where
   pub genuine-voters : (k : ℕ) (m : Message) (t : Certificate) → carried m ≡ some t → Genuine size n D event faulty k m → (i : ℕ) → Sound size n D event faulty i → bit (t .mask) i ≡ 1
@@ -49,15 +66,15 @@ module _ (size : Size) (n D : ℕ) (event : ℕ → Event) (faulty : ℕ) (heigh
   block-parent (blameSet v m) o = tt
   block-parent (status h b c m) o = tt
 
-  -- what was said to all is delivered before every moment after which the clock is D + 1 later
-  pub delivered : Premises size n D event faulty heightOf parentOf → (i j : ℕ) → Sound size n D event faulty i → Sound size n D event faulty j → ¬ (i ≡ j) → (l k : ℕ) (m : Message)
-      → Says size n D event i l (toAll m) → clock size n D event 0 (suc l) + D + 1 ≤ clock size n D event 0 (suc k) → (h : ℕ) × (h < k) × (event h ≡ given j (write m))
-  delivered P i j hi hj ne l k m s d =
+  -- what was sent to all or to one is handed over after that and before every moment after which the clock is D + 1 later
+  pub delivered : Premises size n D event faulty heightOf parentOf → (i j : ℕ) → Sound size n D event faulty i → Sound size n D event faulty j → (l k : ℕ) (m : Message)
+      → Sends size n D event faulty i j l m → clock size n D event 0 (suc l) + D + 1 ≤ clock size n D event 0 (suc k) → (h : ℕ) × (l < h) × (h < k) × (event h ≡ given j (write m))
+  delivered P i j hi hj l k m s d =
       let (k′, a, b, c, e) = last-of size n D event (P .common) (clock size n D event 0 (suc l) + D) (suc k) (omega arith) in
       let ti : ticks i (event k′) ≡ 1 = ap (ticks i) e ∙ (unfold ticks in refl) in
       let ca = clock-alike size n D event (P .common) i in
-      let (h, u, w, g) = P .inTime i j hi hj l m (inl (s, ne)) k′ ti (ca k′ ∙ b ∙ ap (_+ D) (sym (ca (suc l)))) in
-      (h, omega arith, g)
+      let (h, u, w, g) = P .inTime i j hi hj l m s k′ ti (ca k′ ∙ b ∙ ap (_+ D) (sym (ca (suc l)))) in
+      (h, u, omega arith, g)
 
   abbrev pub to-group : Premises size n D event faulty heightOf parentOf → SoundRun size n D event faulty → Group
   to-group P R =
@@ -77,6 +94,7 @@ module _ (size : Size) (n D : ℕ) (event : ℕ → Event) (faulty : ℕ) (heigh
         late = one-tick size n D event (P .common);
         lent = P .lent;
         reaches = delivered P;
+        takes = running-takes size n D event faulty (P .settings) (P .lent) R;
         voters = λ k j m h t c i ok y. genuine-voters k m t c (P .noForgery k j m h) i ok y;
         parents = λ k j m o. block-parent m (P .oneName k j m o);
       }

@@ -12,7 +12,7 @@ use lib.Dec.{ltb, eqb}
 use borrow.Author.Tests.{lt-ltb, ltb-true}
 use Rattle.rules.specs.Limits.{Size}
 use Rattle.rules.specs.Sizes.{bit}
-use Rattle.rules.specs.Messages.{Message, vote, write, Effect, toAll}
+use Rattle.rules.specs.Messages.{Message, vote, write, Effect, toAll, toOne}
 use Rattle.rules.specs.Words.{full, split, clock as late, Phase, inView, waiting, stopped, Certificate, State, fresh}
 use Rattle.rules.specs.Inputs.{saying, offered}
 use Rattle.rules.specs.Refusals.{done, running}
@@ -20,11 +20,11 @@ use Rattle.rules.proofs.Tests.{by-bool, no-bool}
 use Rattle.rules.proofs.Moves.{carried}
 use Rattle.rules.proofs.Proper.{Parented}
 use Rattle.rules.proofs.Splits.{Split, dueCommits, step-split, offer-split, tick-split}
-use Rattle.agreement.specs.Schedule.{Event, idle, commonTick, tickOf, given, offeredTo, happens, ticks, IsCommon, at, out, clock, Says, Sound, NeverFull, SoundRun, IsLent, Hands, Offers, Premises}
+use Rattle.agreement.specs.Schedule.{Event, idle, commonTick, tickOf, given, offeredTo, happens, ticks, IsCommon, at, out, clock, Says, Sound, NeverFull, SoundRun, IsLent, Sends, Hands, Offers, Premises}
 use Rattle.agreement.proofs.Clock.{clock-suc}
 use Rattle.agreement.proofs.Group.{Group}
 use Rattle.agreement.proofs.Logs.{commits-agree}
-use Rattle.agreement.proofs.Needed.{one-tick, genuine-voters, block-parent, delivered}
+use Rattle.agreement.proofs.Needed.{one-tick, running-takes, genuine-voters, block-parent, delivered}
 
 still : (s : State) → running s ≡ true → Split s → ⊥
 unfolding running
@@ -193,22 +193,26 @@ module _ (size : Size) (n D : ℕ) (event : ℕ → Event) (k : ℕ) where
         lent-on (given j bs) h = h
         lent-on (offeredTo j b) h = h
 
-    cut-reaches : (i j : ℕ) → Sound size n D E faulty i → Sound size n D E faulty j → ¬ (i ≡ j) → (l q : ℕ) (m : Message) → Says size n D E i l (toAll m)
-        → clock size n D E 0 (suc l) + D + 1 ≤ F q → (h : ℕ) × (h < q) × (E h ≡ given j (write m))
+    sends-back : (i j l : ℕ) (m : Message) → Sends size n D E faulty i j l m → (l < k) × Sends size n D event faulty i j l m
+    sends-back i j l m (inl (s, ne)) = let (u, s′) = says-back i l (toAll m) s in (u, inl (s′, ne))
+    sends-back i j l m (inr s) = let (u, s′) = says-back i l (toOne j m) s in (u, inr s′)
+
+    cut-reaches : (i j : ℕ) → Sound size n D E faulty i → Sound size n D E faulty j → (l q : ℕ) (m : Message) → Sends size n D E faulty i j l m
+        → clock size n D E 0 (suc l) + D + 1 ≤ F q → (h : ℕ) × (l < h) × (h < q) × (E h ≡ given j (write m))
     unfolding F
-    cut-reaches i j hi hj ne l q m s d =
-        let (u, s′) = says-back i l (toAll m) s in
+    cut-reaches i j hi hj l q m s d =
+        let (u, s′) = sends-back i j l m s in
         let c = ticks-before (suc l) u in
         let t = after-tick in
         elim (decLt q k) [
           | yes y ↦ (
               let f = next-before k (clock size n D event 0) q y in
-              let (h, a, e) = delivered size n D event faulty heightOf parentOf P i j hi hj ne l q m s′ (omega arith) in
-              (h, a, cut-before k event h (omega arith) ∙ e))
+              let (h, o, a, e) = delivered size n D event faulty heightOf parentOf P i j hi hj l q m s′ (omega arith) in
+              (h, o, a, cut-before k event h (omega arith) ∙ e))
           | no y ↦ (
               let f = next-after k (clock size n D event 0) q (omega arith) in
-              let (h, a, e) = delivered size n D event faulty heightOf parentOf P i j hi hj ne l k m s′ (omega arith) in
-              (h, omega arith, cut-before k event h a ∙ e))
+              let (h, o, a, e) = delivered size n D event faulty heightOf parentOf P i j hi hj l k m s′ (omega arith) in
+              (h, o, omega arith, cut-before k event h a ∙ e))
         ]
 
     hands-back : (l j : ℕ) (m : Message) → Hands size n D E faulty l j m → (l < k) × Hands size n D event faulty l j m
@@ -232,7 +236,7 @@ module _ (size : Size) (n D : ℕ) (event : ℕ → Event) (k : ℕ) where
 
     abbrev cut-group : Group
     cut-group =
-        record { size = size; n = n; D = D; faulty = faulty; event = E; next = F; parentOf = parentOf; settings = P .settings; few = P .few; common = cut-common; runs = cut-runs; soon = cut-soon; late = cut-late; lent = cut-lent; reaches = cut-reaches; voters = cut-voters; parents = cut-parents }
+        record { size = size; n = n; D = D; faulty = faulty; event = E; next = F; parentOf = parentOf; settings = P .settings; few = P .few; common = cut-common; runs = cut-runs; soon = cut-soon; late = cut-late; lent = cut-lent; reaches = cut-reaches; takes = running-takes size n D E faulty (P .settings) cut-lent cut-runs; voters = cut-voters; parents = cut-parents }
 
     no-split-here : (i : ℕ) → Sound size n D event faulty i → ¬ (dueCommits (at size n D event i k) ≡ none)
     unfolding F

@@ -26,8 +26,8 @@ use Rattle.rules.proofs.Locks.{HasAll, Locked, moves-locked}
 use Rattle.agreement.specs.Schedule.{Event, at}
 use Rattle.agreement.proofs.Events.{Brings, begun, begun-same, begun-kept}
 use Rattle.agreement.proofs.Clock.{last-of}
-use Rattle.agreement.proofs.Group.{Group, st, ck, Ok, G, SaidAt, moves-of, at-settings, at-clock, kept-run, orderly-run, view-run, reach}
-use Rattle.agreement.proofs.Follow.{told-out, follow}
+use Rattle.agreement.proofs.Group.{Group, st, ck, Ok, G, SaidAt, moves-of, at-settings, at-clock, kept-run, orderly-run, view-run}
+use Rattle.agreement.proofs.Follow.{follow, reach, told-out}
 
 module _ (X : Group) where
   open Group X using (size, n, D, faulty, event, next, parentOf)

@@ -1,14 +1,16 @@
--- Every state of a run is well formed, and what a station says to all may be sent. Assumes nothing.
+-- Every state of a run is well formed, and what a station sends can be read by each and is allowed. Assumes nothing.
 use Prim.Native.Nat.{ℕ, zero, suc, _%_, _<_}
-use mathlib.Core.Path.{_≡_, refl, _∙_}
+use mathlib.Core.Path.{_≡_, subst, refl, sym, _∙_}
 use mathlib.Core.Bool.{true, false, _&&_}
 use mathlib.Core.List.{[]}
+use mathlib.Core.Logic.{inl, inr}
+use mathlib.Core.Option.{some}
 use lib.Dec.{ltb, eqb}
 use borrow.Author.Tests.{lt-ltb}
 use Rattle.rules.specs.Limits.{Size, leastStations, mostStations, leastDelay, mostDelay}
 use Rattle.rules.specs.Lists.{within}
-use Rattle.rules.specs.Sizes.{goodSettings}
-use Rattle.rules.specs.Messages.{Message, toAll}
+use Rattle.rules.specs.Sizes.{Settings, goodSettings, leader, quorum}
+use Rattle.rules.specs.Messages.{Message, newView, propose, vote, blame, blameSet, status, read, write, maskAllowed, certificateAllowed, allowed}
 use Rattle.rules.specs.Words.{State, fresh}
 use Rattle.rules.specs.Inputs.{saying}
 use Rattle.rules.specs.Refusals.{Outcome, done, step, offer, tick}
@@ -17,8 +19,8 @@ use Rattle.rules.proofs.Truths.{both}
 use Rattle.kept.specs.Parts.{WellFormed}
 use Rattle.kept.specs.Said.{Sendable}
 use Rattle.kept.proofs.WellFormed.{fresh-formed}
-use Rattle.kept.proofs.Calls.{Kept, step-kept, offer-kept, tick-kept, sent-all}
-use Rattle.agreement.specs.Schedule.{Event, idle, commonTick, tickOf, given, offeredTo, happens, settingsOf, at, out, Says, IsLent}
+use Rattle.kept.proofs.Calls.{Kept, step-kept, offer-kept, tick-kept, sent-all, sent-one, sent-read}
+use Rattle.agreement.specs.Schedule.{Event, idle, commonTick, tickOf, given, offeredTo, happens, settingsOf, at, out, IsLent, Sends}
 
 -- good settings are good for every own number below n
 pub settings-alike : (size : Size) (n D i : ℕ) → goodSettings (settingsOf size n D 0) ≡ true → i < n → goodSettings (settingsOf size n D i) ≡ true
@@ -26,6 +28,16 @@ unfolding goodSettings
 settings-alike size n D i g l =
     let a = eqb (n % 2) 1 && within leastStations mostStations n && within leastDelay mostDelay D in
     both (and-left a (ltb 0 n) g) (lt-ltb i n l)
+
+-- what is allowed doesn't depend on the own number
+allowed-alike : (size : Size) (n D i j : ℕ) (m : Message) → allowed (settingsOf size n D i) m ≡ allowed (settingsOf size n D j) m
+unfolding allowed maskAllowed certificateAllowed quorum leader
+allowed-alike size n D i j (newView v h b c m a) = refl
+allowed-alike size n D i j (propose v h b p m a) = refl
+allowed-alike size n D i j (vote v h b a) = refl
+allowed-alike size n D i j (blame v a) = refl
+allowed-alike size n D i j (blameSet v m) = refl
+allowed-alike size n D i j (status h b c m) = refl
 
 nothing-kept : {s : State} → WellFormed s → Kept s (done (saying s []))
 unfolding done saying
@@ -55,6 +67,15 @@ module _ (size : Size) (n D : ℕ) (event : ℕ → Event) (faulty : ℕ) where
     settings-at zero = refl
     settings-at (suc k) = event-kept i (event k) (at size n D event i k) (lent k) (formed-at k) .settings ∙ settings-at k
 
-    pub sent-at : (k : ℕ) (m : Message) → Says size n D event i k (toAll m) → Sendable (at size n D event i k .settings) m
+    -- what it sends to all or to one may be sent
+    sent-at : (j k : ℕ) (m : Message) → Sends size n D event faulty i j k m → Sendable (at size n D event i k .settings) m
     unfolding out
-    sent-at k m s = sent-all (event-kept i (event k) (at size n D event i k) (lent k) (formed-at k)) m s
+    sent-at j k m (inl (s, ne)) = sent-all (event-kept i (event k) (at size n D event i k) (lent k) (formed-at k)) m s
+    sent-at j k m (inr s) = sent-one (event-kept i (event k) (at size n D event i k) (lent k) (formed-at k)) j m s .1
+
+    -- it can be read by each, and is allowed
+    pub sent-allowed : (j k : ℕ) (m : Message) → Sends size n D event faulty i j k m
+        → (read (write m) ≡ some m) × (allowed (settingsOf size n D j) m ≡ true)
+    sent-allowed j k m s =
+        let e = sent-at j k m s in
+        (sent-read e, sym (allowed-alike size n D i j m) ∙ subst (λ (g : Settings). allowed g m ≡ true) (settings-at k) (e .isAllowed))
