@@ -10,6 +10,7 @@ pub mod Extends
 pub mod Logs
 pub mod Ancestors
 pub mod Needed
+pub mod Until
 pub mod NoSplit
 pub mod Theorems
 pub mod Checked

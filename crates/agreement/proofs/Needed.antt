@@ -76,25 +76,33 @@ module _ (size : Size) (n D : ℕ) (event : ℕ → Event) (faulty : ℕ) (heigh
       let (h, u, w, g) = P .inTime i j hi hj l m s k′ ti (ca k′ ∙ b ∙ ap (_+ D) (sym (ca (suc l)))) in
       (h, u, omega arith, g)
 
-  abbrev pub to-group : Premises size n D event faulty heightOf parentOf → SoundRun size n D event faulty → Group
-  to-group P R =
+  -- a group, from where its ticks would go and what reaches whom by then
+  abbrev pub group-of : Premises size n D event faulty heightOf parentOf → SoundRun size n D event faulty → (next : ℕ → ℕ)
+      → ((k : ℕ) → clock size n D event 0 (suc k) ≤ next k) → ((k : ℕ) → next k ≤ clock size n D event 0 k + 1)
+      → ((i j : ℕ) → Sound size n D event faulty i → Sound size n D event faulty j → (l k : ℕ) (m : Message) → Sends size n D event faulty i j l m
+      → clock size n D event 0 (suc l) + D + 1 ≤ next k → (h : ℕ) × (l < h) × (h < k) × (event h ≡ given j (write m)))
+      → Group
+  group-of P R next soon late reaches =
       record {
         size = size;
         n = n;
         D = D;
         faulty = faulty;
         event = event;
-        next = λ k. clock size n D event 0 (suc k);
+        next = next;
         parentOf = parentOf;
         settings = P .settings;
         few = P .few;
         common = P .common;
         runs = R;
-        soon = λ k. omega arith;
-        late = one-tick size n D event (P .common);
+        soon = soon;
+        late = late;
         lent = P .lent;
-        reaches = delivered P;
+        reaches = reaches;
         takes = running-takes size n D event faulty (P .settings) (P .lent) R;
         voters = λ k j m h t c i ok y. genuine-voters k m t c (P .noForgery k j m h) i ok y;
         parents = λ k j m o. block-parent m (P .oneName k j m o);
       }
+
+  abbrev pub to-group : Premises size n D event faulty heightOf parentOf → SoundRun size n D event faulty → Group
+  to-group P R = group-of P R (λ k. clock size n D event 0 (suc k)) (λ k. omega arith) (one-tick size n D event (P .common)) (delivered P)

@@ -6,7 +6,7 @@ use mathlib.Core.Bool.{true, false}
 use mathlib.Core.List.{List, [], _∷_, _++_, List·Memᴰ}
 use mathlib.Core.Logic.{_⊎_}
 use mathlib.Core.Option.{some}
-use lib.Dec.{eqb}
+use lib.Dec.{ltb, eqb}
 use Rattle.rules.specs.Limits.{Size}
 use Rattle.rules.specs.Sizes.{Settings, goodSettings, faults, bit, count}
 use Rattle.rules.specs.Messages.{Message, newView, propose, vote, blame, blameSet, status, read, write, allowed, Effect, toAll, toOne, committed}
@@ -47,6 +47,10 @@ IsCommon commonTick = Unit {0}
 IsCommon (tickOf j) = ⊥
 IsCommon (given j bs) = Unit {0}
 IsCommon (offeredTo j b) = Unit {0}
+
+-- a schedule up to moment K: what would come later doesn't happen
+unfoldable pub until : ℕ → (ℕ → Event) → ℕ → Event
+until K event k = elim (ltb k K) [ true ↦ event k | false ↦ idle ]
 
 -- "alike in every setting but the own number, limits included, station i numbered i"
 abbrev pub settingsOf : Size → ℕ → ℕ → ℕ → Settings
@@ -113,6 +117,13 @@ module _ (size : Size) (n D : ℕ) (event : ℕ → Event) where
 
     abbrev pub SoundRun : Type 0
     SoundRun = (i : ℕ) → Sound i → (k : ℕ) → running (at i k) ≡ true
+
+    -- both up to moment K: a station that stops later is sound until then
+    abbrev pub RoomTo : ℕ → Type 0
+    RoomTo K = (i : ℕ) → Sound i → (k : ℕ) → k ≤ K → ¬ (at i k .phase ≡ stopped full) × ¬ (at i k .phase ≡ stopped late)
+
+    abbrev pub RunsTo : ℕ → Type 0
+    RunsTo K = (i : ℕ) → Sound i → (k : ℕ) → k ≤ K → running (at i k) ≡ true
 
     -- "a common tick is one event: every station is ticked before the next delivery"
     abbrev pub CommonTicks : Type 0
