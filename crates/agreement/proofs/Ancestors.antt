@@ -22,7 +22,7 @@ use Rattle.rules.proofs.Moves.{counted, logAfter}
 use Rattle.rules.proofs.Kept.{true-in, moves-fixed, moves-kept, VoteKept, moves-vote}
 use Rattle.rules.proofs.Held.{held-stored}
 use Rattle.rules.proofs.Commits.{commits-some, Due, facts-due}
-use Rattle.agreement.specs.Schedule.{Event, commonTick, ticks, at, Says, lineage}
+use Rattle.agreement.specs.Schedule.{Event, commonTick, ticks, at, Says, lineage, Run, run}
 use Rattle.agreement.proofs.Lineage.{up, propose-facts, chain-whole}
 use Rattle.agreement.proofs.Events.{begun, begun-same}
 use Rattle.agreement.proofs.Clock.{clock-suc, clock-before}
@@ -33,6 +33,9 @@ use Rattle.agreement.proofs.Logs.{tick-log, counted-same, stored-placed
 
 module _ (X : Group) where
   open Group X using (size, n, D, faulty, event, next, parentOf)
+
+  abbrev R : Run
+  R = run size n D event
 
   -- by clock c a sound station sent all a propose of block b of height h
   abbrev Shown : ℕ → ℕ → ℕ → Type 0
@@ -146,8 +149,8 @@ module _ (X : Group) where
   -- r says a propose and the vote for it at event j, at clock t, and is in that view as the tick to t + 2D + 1 begins
   pub record Stays (r j k v h b p m a : ℕ) : Type 0 where
     pub ok : Ok X r
-    pub statement : Says size n D event r j (toAll (propose v h b p m a))
-    pub ballot : Says size n D event r j (toAll (vote v h b r))
+    pub statement : Says R r j (toAll (propose v h b p m a))
+    pub ballot : Says R r j (toAll (vote v h b r))
     pub tick : event k ≡ commonTick
     pub due : ck X k ≡ ck X (suc j) + 2 * D
     pub phase : st X r k .phase ≡ inView
@@ -158,13 +161,13 @@ module _ (X : Group) where
     s = st X r k
 
     after-tick : ck X (suc k) ≡ ck X k + 1
-    after-tick = clock-suc size n D event k ∙ ap (λ (y : Event). ck X k + ticks 0 y) (S .tick) ∙ (unfold ticks in refl)
+    after-tick = clock-suc event k ∙ ap (λ (y : Event). ck X k + ticks 0 y) (S .tick) ∙ (unfold ticks in refl)
 
     later : suc j < k
     later =
         let delay = sizes (G X 0) (X .settings) .leastD in
         let d = S .due in
-        clock-before size n D event (suc j) k (omega arith)
+        clock-before event (suc j) k (omega arith)
 
     -- the statement of a vote at event j is stored as the tick begins, and it is a propose
     voted-propose : (w : Statement) → In (st X r (suc j) .statements) w → w .view ≡ v → w .height ≡ h → In (st X r k .statements) w × (w .isNewView ≡ false)

@@ -15,7 +15,7 @@ use Rattle.rules.specs.Messages.{propose, vote, toAll}
 use Rattle.rules.specs.Words.{inView}
 use Rattle.rules.specs.Inputs.{merge}
 use Rattle.rules.proofs.Commits.{begins-merge}
-use Rattle.agreement.specs.Schedule.{Event, ticks, at, out, clock, Says, GoodSettings, AtMostF, NeverFull, CommonTicks, ProperBuffers, InTime, NoForgery, OneName, Schedule, lineage}
+use Rattle.agreement.specs.Schedule.{Event, ticks, at, out, clock, Says, GoodSettings, AtMostF, NeverFull, CommonTicks, ProperBuffers, InTime, NoForgery, OneName, Schedule, lineage, run}
 use Rattle.agreement.specs.Checks.{listed, verdict}
 use Rattle.agreement.specs.Examples.{twoViews, heldBack, forgedVotes, manyFaulty, twoParents, ownTicks, heightOf, parentOf, rivalHeight, rivalParent}
 use Rattle.agreement.proofs.Checked.{common-checked, forgery-checked, names-checked, lent-checked, time-checked, run-checked}
@@ -52,7 +52,7 @@ at-place k l m e = ap (λ (x : List Bool). getD x k false) e
 
 -- ---- all premises hold, and two stations commit three blocks over two views with a faulty leader between
 
-pub two-views : Schedule small 3 1 (listed twoViews) 4 heightOf parentOf
+pub two-views : Schedule (run small 3 1 (listed twoViews)) 4 heightOf parentOf
 unfolding verdict goodSettings count
 two-views =
     let v = two-views-verdict in
@@ -89,8 +89,8 @@ unfolding at listed heldBack
 held-back-logs = (refl, refl)
 
 -- all but delivery in time
-pub held-back : GoodSettings small 3 1 (listed heldBack) 2 × AtMostF small 3 1 (listed heldBack) 2 × NeverFull small 3 1 (listed heldBack) 2 × CommonTicks small 3 1 (listed heldBack) 2 × ProperBuffers small 3 1 (listed heldBack) 2
-    × NoForgery small 3 1 (listed heldBack) 2 × OneName small 3 1 (listed heldBack) 2 rivalHeight rivalParent × Differ small 3 1 heldBack 0 2 7
+pub held-back : GoodSettings (run small 3 1 (listed heldBack)) × AtMostF (run small 3 1 (listed heldBack)) 2 × NeverFull (run small 3 1 (listed heldBack)) 2 × CommonTicks (run small 3 1 (listed heldBack)) × ProperBuffers (run small 3 1 (listed heldBack))
+    × NoForgery (run small 3 1 (listed heldBack)) 2 × OneName (run small 3 1 (listed heldBack)) 2 rivalHeight rivalParent × Differ small 3 1 heldBack 0 2 7
 unfolding verdict goodSettings count merge
 held-back =
     let v = held-back-verdict in (
@@ -109,8 +109,8 @@ unfolding at listed twoParents
 two-parents-logs = (refl, refl)
 
 -- all but one block per name
-pub two-parents : GoodSettings small 3 1 (listed twoParents) 2 × AtMostF small 3 1 (listed twoParents) 2 × NeverFull small 3 1 (listed twoParents) 2 × CommonTicks small 3 1 (listed twoParents) 2 × ProperBuffers small 3 1 (listed twoParents) 2
-    × InTime small 3 1 (listed twoParents) 2 × NoForgery small 3 1 (listed twoParents) 2 × Differ small 3 1 twoParents 0 2 46
+pub two-parents : GoodSettings (run small 3 1 (listed twoParents)) × AtMostF (run small 3 1 (listed twoParents)) 2 × NeverFull (run small 3 1 (listed twoParents)) 2 × CommonTicks (run small 3 1 (listed twoParents)) × ProperBuffers (run small 3 1 (listed twoParents))
+    × InTime (run small 3 1 (listed twoParents)) 2 × NoForgery (run small 3 1 (listed twoParents)) 2 × Differ small 3 1 twoParents 0 2 46
 unfolding verdict goodSettings count merge
 two-parents =
     let v = two-parents-verdict in (
@@ -129,8 +129,8 @@ two-parents =
 
 abbrev Missed : (n : ℕ) → List Event → (j mask : ℕ) → Type 0
 Missed n es j m =
-    Says small n 1 (listed es) 0 j (toAll (propose 1 2 99 98 m 1)) × Says small n 1 (listed es) 0 j (toAll (vote 1 2 99 0)) × (ticks 0 (listed es 7) ≡ 1)
-    × (clock small n 1 (listed es) 0 7 ≡ clock small n 1 (listed es) 0 (suc j) + 2 * 1) × (at small n 1 (listed es) 0 7 .phase ≡ inView) × (at small n 1 (listed es) 0 7 .view ≡ 1)
+    Says (run small n 1 (listed es)) 0 j (toAll (propose 1 2 99 98 m 1)) × Says (run small n 1 (listed es)) 0 j (toAll (vote 1 2 99 0)) × (ticks 0 (listed es 7) ≡ 1)
+    × (clock (listed es) 0 7 ≡ clock (listed es) 0 (suc j) + 2 * 1) × (at small n 1 (listed es) 0 7 .phase ≡ inView) × (at small n 1 (listed es) 0 7 .view ≡ 1)
     × (at small n 1 (listed es) 0 8 .log ≡ [])
 
 forged-missed : Missed 3 forgedVotes 0 3
@@ -138,8 +138,8 @@ unfolding at out clock ticks listed forgedVotes
 forged-missed = (List·Memᴰ·head refl, List·Memᴰ·tail (List·Memᴰ·head refl), refl, refl, refl, refl, refl)
 
 -- all but no forgery
-pub forged : GoodSettings small 3 1 (listed forgedVotes) 2 × AtMostF small 3 1 (listed forgedVotes) 2 × NeverFull small 3 1 (listed forgedVotes) 2 × CommonTicks small 3 1 (listed forgedVotes) 2 × ProperBuffers small 3 1 (listed forgedVotes) 2
-    × InTime small 3 1 (listed forgedVotes) 2 × OneName small 3 1 (listed forgedVotes) 2 heightOf parentOf × Missed 3 forgedVotes 0 3
+pub forged : GoodSettings (run small 3 1 (listed forgedVotes)) × AtMostF (run small 3 1 (listed forgedVotes)) 2 × NeverFull (run small 3 1 (listed forgedVotes)) 2 × CommonTicks (run small 3 1 (listed forgedVotes)) × ProperBuffers (run small 3 1 (listed forgedVotes))
+    × InTime (run small 3 1 (listed forgedVotes)) 2 × OneName (run small 3 1 (listed forgedVotes)) 2 heightOf parentOf × Missed 3 forgedVotes 0 3
 unfolding verdict goodSettings count
 forged =
     let v = forged-verdict in (
@@ -158,8 +158,8 @@ unfolding at out clock ticks listed manyFaulty
 many-faulty-missed = (List·Memᴰ·head refl, List·Memᴰ·tail (List·Memᴰ·head refl), refl, refl, refl, refl, refl)
 
 -- all but at most f faulty
-pub many-faulty : GoodSettings small 5 1 (listed manyFaulty) 14 × NeverFull small 5 1 (listed manyFaulty) 14 × CommonTicks small 5 1 (listed manyFaulty) 14 × ProperBuffers small 5 1 (listed manyFaulty) 14 × InTime small 5 1 (listed manyFaulty) 14
-    × NoForgery small 5 1 (listed manyFaulty) 14 × OneName small 5 1 (listed manyFaulty) 14 heightOf parentOf × Missed 5 manyFaulty 0 14
+pub many-faulty : GoodSettings (run small 5 1 (listed manyFaulty)) × NeverFull (run small 5 1 (listed manyFaulty)) 14 × CommonTicks (run small 5 1 (listed manyFaulty)) × ProperBuffers (run small 5 1 (listed manyFaulty)) × InTime (run small 5 1 (listed manyFaulty)) 14
+    × NoForgery (run small 5 1 (listed manyFaulty)) 14 × OneName (run small 5 1 (listed manyFaulty)) 14 heightOf parentOf × Missed 5 manyFaulty 0 14
 unfolding verdict goodSettings
 many-faulty =
     let v = many-faulty-verdict in (
@@ -178,8 +178,8 @@ unfolding at out clock ticks listed ownTicks
 own-ticks-missed = (List·Memᴰ·head refl, List·Memᴰ·tail (List·Memᴰ·head refl), refl, refl, refl, refl, refl)
 
 -- all but common ticks
-pub own-ticks : GoodSettings small 3 1 (listed ownTicks) 2 × AtMostF small 3 1 (listed ownTicks) 2 × NeverFull small 3 1 (listed ownTicks) 2 × ProperBuffers small 3 1 (listed ownTicks) 2
-    × InTime small 3 1 (listed ownTicks) 2 × NoForgery small 3 1 (listed ownTicks) 2 × OneName small 3 1 (listed ownTicks) 2 heightOf parentOf × Missed 3 ownTicks 2 6
+pub own-ticks : GoodSettings (run small 3 1 (listed ownTicks)) × AtMostF (run small 3 1 (listed ownTicks)) 2 × NeverFull (run small 3 1 (listed ownTicks)) 2 × ProperBuffers (run small 3 1 (listed ownTicks))
+    × InTime (run small 3 1 (listed ownTicks)) 2 × NoForgery (run small 3 1 (listed ownTicks)) 2 × OneName (run small 3 1 (listed ownTicks)) 2 heightOf parentOf × Missed 3 ownTicks 2 6
 unfolding verdict goodSettings count
 own-ticks =
     let v = own-ticks-verdict in (

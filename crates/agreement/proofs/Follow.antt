@@ -68,7 +68,7 @@ module _ (X : Group) where
   follow-both i j hi hj start k = (λ d. view-run X j hj k .0, λ d. let r = view-run X j hj k .0 in omega arith)
   follow-both i j hi hj (onward {v = v} {e = e} {q = q} p l w t) k = (
     λ d.
-        let (k1, before, c1, c2, tick) = last-of size n D event (X .common) (q + D) k (omega arith) in
+        let (k1, before, c1, c2, tick) = last-of event (X .common) (q + D) k (omega arith) in
         next-view i j hi hj v q k1 k t (λ h o. follow-both i j hi hj p h .1 (omega arith)) (le-of-lt before) c1 c2
         (follow-both i j hi hj p k1 .0 (rw c1 (omega arith))) w d,
     λ d. let b = follow-both i j hi hj p k .0 (omega arith) in omega arith,

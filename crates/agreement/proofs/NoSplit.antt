@@ -15,11 +15,11 @@ use Rattle.rules.specs.Inputs.{saying}
 use Rattle.rules.specs.Refusals.{done, running}
 use Rattle.rules.proofs.Tests.{by-bool, no-bool}
 use Rattle.rules.proofs.Splits.{Split, dueCommits, step-split, offer-split, tick-split}
-use Rattle.agreement.specs.Schedule.{Event, idle, commonTick, tickOf, given, offeredTo, happens, ticks, IsCommon, until, at, clock, Sound, NeverFull, SoundRun, RunsTo, Sends, Premises}
-use Rattle.agreement.proofs.Clock.{clock-suc}
+use Rattle.agreement.specs.Schedule.{Event, idle, commonTick, tickOf, given, offeredTo, happens, ticks, IsCommon, until, at, clock, Sound, NeverFull, SoundRun, RunsTo, Sends, Premises, Run, run}
+use Rattle.agreement.proofs.Clock.{clock-suc, one-tick}
 use Rattle.agreement.proofs.Group.{Group}
 use Rattle.agreement.proofs.Logs.{commits-agree}
-use Rattle.agreement.proofs.Needed.{one-tick, delivered, group-of}
+use Rattle.agreement.proofs.Needed.{delivered, group-of}
 use Rattle.agreement.proofs.Until.{not-lt, until-before, at-until, at-after, clock-until, clock-after, sends-back, premises-until}
 
 still : (s : State) → running s ≡ true → Split s → ⊥
@@ -49,41 +49,47 @@ next-after : (k : ℕ) (f : ℕ → ℕ) (j : ℕ) → k ≤ j → next k f j �
 unfolding next
 next-after k f j l = rw (not-lt j k l, next)
 
-module _ (size : Size) (n D : ℕ) (event : ℕ → Event) (faulty : ℕ) (heightOf parentOf : ℕ → ℕ) (P : Premises size n D event faulty heightOf parentOf) where
-  module _ (k : ℕ) (tick-next : event k ≡ commonTick) (runs : RunsTo size n D event faulty k) where
+module _ (size : Size) (n D : ℕ) (event : ℕ → Event) (faulty : ℕ) (heightOf parentOf : ℕ → ℕ) (P : Premises (run size n D event) faulty heightOf parentOf) where
+  abbrev R : Run
+  R = run size n D event
+
+  module _ (k : ℕ) (tick-next : event k ≡ commonTick) (runs : RunsTo R faulty k) where
     abbrev E : ℕ → Event
     E = until k event
 
+    abbrev Q : Run
+    Q = run size n D E
+
     abbrev C : ℕ → ℕ
-    C = clock size n D event 0
+    C = clock event 0
 
     after-tick : C (suc k) ≡ C k + 1
-    after-tick = clock-suc size n D event k ∙ ap (λ (y : Event). C k + ticks 0 y) tick-next ∙ (unfold ticks in refl)
+    after-tick = clock-suc event k ∙ ap (λ (y : Event). C k + ticks 0 y) tick-next ∙ (unfold ticks in refl)
 
-    cut-runs : SoundRun size n D E faulty
+    cut-runs : SoundRun Q faulty
     cut-runs i ok j =
         elim (decLe j k) [
           | yes d ↦ rw (at-until size n D event k i j d) (runs i ok j d)
           | no d ↦ rw (at-after size n D event k i j (omega arith)) (runs i ok k (omega arith))
         ]
 
-    cut-soon : (j : ℕ) → clock size n D E 0 (suc j) ≤ next k C j
+    cut-soon : (j : ℕ) → clock E 0 (suc j) ≤ next k C j
     cut-soon j =
         elim (decLt j k) [
           | yes d ↦ rw (next-before k C j d, clock-until size n D event k 0 (suc j) d) (omega arith)
           | no d ↦ rw (next-after k C j (omega arith), clock-after size n D event k 0 (suc j) (omega arith)) (omega arith)
         ]
 
-    cut-late : (j : ℕ) → next k C j ≤ clock size n D E 0 j + 1
+    cut-late : (j : ℕ) → next k C j ≤ clock E 0 j + 1
     cut-late j =
         elim (decLt j k) [
-          | yes d ↦ rw (next-before k C j d, clock-until size n D event k 0 j (omega arith)) (one-tick size n D event (P .common) j)
+          | yes d ↦ rw (next-before k C j d, clock-until size n D event k 0 j (omega arith)) (one-tick event (P .common) j)
           | no d ↦ rw (next-after k C j (omega arith), clock-after size n D event k 0 j (omega arith)) (omega arith)
         ]
 
     -- a delivery that is due by the next tick of the whole schedule came before k
-    cut-reaches : (i j : ℕ) → Sound size n D E faulty i → Sound size n D E faulty j → (l q : ℕ) (m : Message) → Sends size n D E faulty i j l m
-        → clock size n D E 0 (suc l) + D + 1 ≤ next k C q → (h : ℕ) × (l < h) × (h < q) × (E h ≡ given j (write m))
+    cut-reaches : (i j : ℕ) → Sound Q faulty i → Sound Q faulty j → (l q : ℕ) (m : Message) → Sends Q i j l m
+        → clock E 0 (suc l) + D + 1 ≤ next k C q → (h : ℕ) × (l < h) × (h < q) × (E h ≡ given j (write m))
     cut-reaches i j hi hj l q m s d =
         let (u, s′) = sends-back size n D event k faulty i j l m s in
         let c = clock-until size n D event k 0 (suc l) u in
@@ -102,14 +108,14 @@ module _ (size : Size) (n D : ℕ) (event : ℕ → Event) (faulty : ℕ) (heigh
     abbrev cut-group : Group
     cut-group = group-of size n D E faulty heightOf parentOf (premises-until size n D event k faulty heightOf parentOf P) cut-runs (next k C) cut-soon cut-late cut-reaches
 
-    no-split-here : (i : ℕ) → Sound size n D event faulty i → ¬ (dueCommits (at size n D event i k) ≡ none)
+    no-split-here : (i : ℕ) → Sound R faulty i → ¬ (dueCommits (at size n D event i k) ≡ none)
     no-split-here i ok e =
         let f = next-after k C k (omega arith) in
         let c = clock-until size n D event k 0 k (omega arith) in
         commits-agree cut-group i ok k (omega arith) (subst (λ (s : State). dueCommits s ≡ none) (sym (at-until size n D event k i k (omega arith))) e)
 
-  module _ (room : NeverFull size n D event faulty) where
-    runs-on : (k : ℕ) → RunsTo size n D event faulty k → (i : ℕ) → Sound size n D event faulty i → running (at size n D event i (suc k)) ≡ true
+  module _ (room : NeverFull R faulty) where
+    runs-on : (k : ℕ) → RunsTo R faulty k → (i : ℕ) → Sound R faulty i → running (at size n D event i (suc k)) ≡ true
     unfolding at running
     runs-on k ih i ok = go (at size n D event i (suc k) .phase) refl
       where
@@ -122,7 +128,7 @@ module _ (size : Size) (n D : ℕ) (event : ℕ → Event) (faulty : ℕ) (heigh
             let (t, d) = happens-split i (event k) (at size n D event i k) (P .common k) (ih i ok k (omega arith)) e in
             absurd (no-split-here k t ih i ok d)
 
-    runs-to : (k : ℕ) → RunsTo size n D event faulty k
+    runs-to : (k : ℕ) → RunsTo R faulty k
     unfolding at fresh running
     runs-to zero i ok j l = let e : j ≡ 0 = omega arith in rw e refl
     runs-to (suc k) i ok j l =
@@ -132,5 +138,5 @@ module _ (size : Size) (n D : ℕ) (event : ℕ → Event) (faulty : ℕ) (heigh
         ]
 
     -- a sound station that never wants for records or clock is never stopped: refusal 7 doesn't happen
-    pub never-split : SoundRun size n D event faulty
+    pub never-split : SoundRun R faulty
     never-split i ok k = runs-to k i ok k (omega arith)

@@ -77,7 +77,7 @@ module _ (X : Group) where
         let d = R .due in
         let u = X .late k0 in
         let delay = sizes (G X 0) (X .settings) .leastD in
-        let m = last-of size n D event (X .common) (t + D) k0 (omega arith) in
+        let m = last-of event (X .common) (t + D) k0 (omega arith) in
         (m .0, m .1, m .2, m .3)
 
     -- G3b: at that moment every sound station is in the view, holds x and has voted for it

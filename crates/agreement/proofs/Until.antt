@@ -16,7 +16,7 @@ use Rattle.rules.specs.Words.{State}
 use Rattle.rules.specs.Inputs.{saying, offered}
 use Rattle.rules.specs.Refusals.{done}
 use Rattle.rules.proofs.Tests.{by-bool}
-use Rattle.agreement.specs.Schedule.{Event, idle, commonTick, tickOf, given, offeredTo, happens, ticks, IsCommon, until, at, out, clock, Says, HasVoted, Sound, CommonTicks, RoomTo, IsLent, ProperBuffers, Sends, InTime, VotersVoted, Genuine, Hands, NoForgery, Offers, OneBlock, OneName, Premises, Schedule, reportsIn, reported}
+use Rattle.agreement.specs.Schedule.{Event, idle, commonTick, tickOf, given, offeredTo, happens, ticks, IsCommon, until, at, out, clock, Says, HasVoted, Sound, CommonTicks, RoomTo, IsLent, ProperBuffers, Sends, InTime, VotersVoted, Genuine, Hands, NoForgery, Offers, OneBlock, OneName, Premises, Schedule, reportsIn, reported, Run, run}
 use Rattle.agreement.proofs.Events.{Happening, never-idle}
 
 pub not-lt : (a b : ℕ) → b ≤ a → ltb a b ≡ false
@@ -50,6 +50,12 @@ module _ (size : Size) (n D : ℕ) (event : ℕ → Event) (K : ℕ) where
   abbrev E : ℕ → Event
   E = until K event
 
+  abbrev R : Run
+  R = run size n D event
+
+  abbrev Q : Run
+  Q = run size n D E
+
   pub at-until : (i k : ℕ) → k ≤ K → at size n D E i k ≡ at size n D event i k
   unfolding at
   at-until i zero l = refl
@@ -77,53 +83,53 @@ module _ (size : Size) (n D : ℕ) (event : ℕ → Event) (K : ℕ) where
   unfolding out
   out-after i k l = ap (λ (e : Event). happens i e (at size n D E i k) .out) (until-after K event k l) ∙ (unfold happens done saying in refl)
 
-  pub clock-until : (i k : ℕ) → k ≤ K → clock size n D E i k ≡ clock size n D event i k
+  pub clock-until : (i k : ℕ) → k ≤ K → clock E i k ≡ clock event i k
   unfolding clock
   clock-until i zero l = refl
   clock-until i (suc k) l = let a = clock-until i k (omega arith) in let b = ap (ticks i) (until-before K event k l) in omega arith
 
-  pub clock-after : (i k : ℕ) → K ≤ k → clock size n D E i k ≡ clock size n D event i K
+  pub clock-after : (i k : ℕ) → K ≤ k → clock E i k ≡ clock event i K
   unfolding clock
-  clock-after i zero l = let e : 0 ≡ K = omega arith in ap (clock size n D event i) e
+  clock-after i zero l = let e : 0 ≡ K = omega arith in ap (clock event i) e
   clock-after i (suc k) l =
       elim (decLe K k) [
         | yes d ↦ (
             let a = clock-after i k d in
             let b : ticks i (E k) ≡ 0 = ap (ticks i) (until-after K event k d) ∙ (unfold ticks in refl) in omega arith)
-        | no d ↦ (let e : suc k ≡ K = omega arith in clock-until i (suc k) (omega arith) ∙ ap (clock size n D event i) e)
+        | no d ↦ (let e : suc k ≡ K = omega arith in clock-until i (suc k) (omega arith) ∙ ap (clock event i) e)
       ]
 
-  pub reported-until : (i k : ℕ) → k ≤ K → reported size n D E i k ≡ reported size n D event i k
+  pub reported-until : (i k : ℕ) → k ≤ K → reported Q i k ≡ reported R i k
   unfolding reported
   reported-until i zero l = refl
   reported-until i (suc k) l =
       ap (_++ reportsIn (out size n D E i k)) (reported-until i k (omega arith))
-      ∙ ap (λ (o : List Effect). reported size n D event i k ++ reportsIn o) (out-until i k l)
+      ∙ ap (λ (o : List Effect). reported R i k ++ reportsIn o) (out-until i k l)
 
   -- ---- what is said
 
-  says-back : (i l : ℕ) (e : Effect) → Says size n D E i l e → (l < K) × Says size n D event i l e
+  says-back : (i l : ℕ) (e : Effect) → Says Q i l e → (l < K) × Says R i l e
   says-back i l e s =
       elim (decLt l K) [
         | yes d ↦ (d, subst (List·Memᴰ e) (out-until i l d) s)
         | no d ↦ absurd (List·Memᴰ·not-nil (subst (List·Memᴰ e) (out-after i l (omega arith)) s))
       ]
 
-  pub says-on : (i l : ℕ) (e : Effect) → l < K → Says size n D event i l e → Says size n D E i l e
+  pub says-on : (i l : ℕ) (e : Effect) → l < K → Says R i l e → Says Q i l e
   says-on i l e d s = subst (List·Memᴰ e) (sym (out-until i l d)) s
 
   module _ (faulty : ℕ) where
-    pub sends-back : (i j l : ℕ) (m : Message) → Sends size n D E faulty i j l m → (l < K) × Sends size n D event faulty i j l m
+    pub sends-back : (i j l : ℕ) (m : Message) → Sends Q i j l m → (l < K) × Sends R i j l m
     sends-back i j l m (inl (s, ne)) = let (u, t) = says-back i l (toAll m) s in (u, inl (t, ne))
     sends-back i j l m (inr s) = let (u, t) = says-back i l (toOne j m) s in (u, inr t)
 
     -- ---- the premises
 
-    common-until : CommonTicks size n D event faulty → CommonTicks size n D E faulty
+    common-until : CommonTicks R → CommonTicks Q
     common-until common k = by-until IsCommon K event k (common k) tt
 
-    lent-until : ProperBuffers size n D event faulty → ProperBuffers size n D E faulty
-    lent-until lent k = by-until (IsLent size n D event faulty) K event k (lent k) tt
+    lent-until : ProperBuffers R → ProperBuffers Q
+    lent-until lent k = by-until IsLent K event k (lent k) tt
 
     tick-back : (i k : ℕ) → ticks i (E k) ≡ 1 → (k < K) × (ticks i (event k) ≡ 1)
     unfolding ticks
@@ -133,29 +139,29 @@ module _ (size : Size) (n D : ℕ) (event : ℕ → Event) (K : ℕ) where
           | no d ↦ (let z : ticks i (E k) ≡ 0 = ap (ticks i) (until-after K event k (omega arith)) in absurd (omega arith))
         ]
 
-    inTime-until : InTime size n D event faulty → InTime size n D E faulty
+    inTime-until : InTime R faulty → InTime Q faulty
     inTime-until inTime i j hi hj k m s l t now =
         let (u, s′) = sends-back i j k m s in
         let (v, t′) = tick-back i l t in
         let (h, a, b, e) = inTime i j hi hj k m s′ l t′ (sym (clock-until i l (omega arith)) ∙ now ∙ ap (_+ D) (clock-until i (suc k) u)) in
         (h, a, b, until-before K event h (omega arith) ∙ e)
 
-    hands-back : (l j : ℕ) (m : Message) → Hands size n D E faulty l j m → (l < K) × Hands size n D event faulty l j m
+    hands-back : (l j : ℕ) (m : Message) → Hands Q faulty l j m → (l < K) × Hands R faulty l j m
     hands-back l j m (ok, (bs, e, r), a) = let (d, f) = happened K event l (given j bs) tt e in (d, (ok, (bs, f, r), a))
 
-    offers-back : (l j : ℕ) (m : Message) → Offers size n D E faulty l j m → Offers size n D event faulty l j m
+    offers-back : (l j : ℕ) (m : Message) → Offers Q faulty l j m → Offers R faulty l j m
     offers-back l j m (ok, (b, e, r)) =
         let (d, f) = happened K event l (offeredTo j b) tt e in
         (ok, (b, f, subst (λ (s : State). offered b s ≡ some m) (at-until j l (omega arith)) r))
 
     -- what was said before an event before K
-    earlier-on : (i l : ℕ) (e : Effect) → l < K → (p : ℕ) × (p < l) × Says size n D event i p e → (p : ℕ) × (p < l) × Says size n D E i p e
+    earlier-on : (i l : ℕ) (e : Effect) → l < K → (p : ℕ) × (p < l) × Says R i p e → (p : ℕ) × (p < l) × Says Q i p e
     earlier-on i l e d (p, u, s) = (p, u, says-on i p e (omega arith) s)
 
-    voters-on : (l m v h b : ℕ) → l < K → VotersVoted size n D event faulty l m v h b → VotersVoted size n D E faulty l m v h b
+    voters-on : (l m v h b : ℕ) → l < K → VotersVoted R faulty l m v h b → VotersVoted Q faulty l m v h b
     voters-on l m v h b d f i ok y = earlier-on i l (toAll (vote v h b i)) d (f i ok y)
 
-    genuine-on : (l : ℕ) (m : Message) → l < K → Genuine size n D event faulty l m → Genuine size n D E faulty l m
+    genuine-on : (l : ℕ) (m : Message) → l < K → Genuine R faulty l m → Genuine Q faulty l m
     genuine-on l (newView v h b c m a) d (f, g) =
         (voters-on l m c h b d f, λ ok. let (p, u, (x, s)) = g ok in (p, u, (x, says-on a p _ (omega arith) s)))
     genuine-on l (propose v h b q m a) d (f, g) =
@@ -165,11 +171,11 @@ module _ (size : Size) (n D : ℕ) (event : ℕ → Event) (K : ℕ) where
     genuine-on l (blameSet v m) d g = λ i ok y. earlier-on i l (toAll (blame v i)) d (g i ok y)
     genuine-on l (status h b c m) d f = voters-on l m c h b d f
 
-    forgery-until : NoForgery size n D event faulty → NoForgery size n D E faulty
+    forgery-until : NoForgery R faulty → NoForgery Q faulty
     forgery-until genuine l j m h = let (d, g) = hands-back l j m h in genuine-on l m d (genuine l j m g)
 
     module _ (heightOf parentOf : ℕ → ℕ) where
-      block-on : (m : Message) → OneBlock size n D event faulty heightOf parentOf m → OneBlock size n D E faulty heightOf parentOf m
+      block-on : (m : Message) → OneBlock heightOf parentOf m → OneBlock heightOf parentOf m
       block-on (newView v h b c m a) o = o
       block-on (propose v h b p m a) o = o
       block-on (vote v h b a) o = tt
@@ -177,12 +183,12 @@ module _ (size : Size) (n D : ℕ) (event : ℕ → Event) (K : ℕ) where
       block-on (blameSet v m) o = tt
       block-on (status h b c m) o = tt
 
-      names-until : OneName size n D event faulty heightOf parentOf → OneName size n D E faulty heightOf parentOf
+      names-until : OneName R faulty heightOf parentOf → OneName Q faulty heightOf parentOf
       names-until one l j m (inl h) = block-on m (one l j m (inl (hands-back l j m h .1)))
       names-until one l j m (inr o) = block-on m (one l j m (inr (offers-back l j m o)))
 
       -- the premises of the whole schedule hold up to each moment
-      pub premises-until : Premises size n D event faulty heightOf parentOf → Premises size n D E faulty heightOf parentOf
+      pub premises-until : Premises R faulty heightOf parentOf → Premises Q faulty heightOf parentOf
       premises-until P =
           record {
             settings = P .settings;
@@ -195,7 +201,7 @@ module _ (size : Size) (n D : ℕ) (event : ℕ → Event) (K : ℕ) where
           }
 
       -- who is full or at the last clock only after K is sound up to K
-      pub schedule-until : Premises size n D event faulty heightOf parentOf → RoomTo size n D event faulty K → Schedule size n D E faulty heightOf parentOf
+      pub schedule-until : Premises R faulty heightOf parentOf → RoomTo R faulty K → Schedule Q faulty heightOf parentOf
       schedule-until P room =
           record {
             premises = premises-until P;

@@ -20,7 +20,7 @@ use Rattle.kept.specs.Parts.{WellFormed}
 use Rattle.kept.specs.Said.{Sendable}
 use Rattle.kept.proofs.WellFormed.{fresh-formed}
 use Rattle.kept.proofs.Calls.{Kept, step-kept, offer-kept, tick-kept, sent-all, sent-one, sent-read}
-use Rattle.agreement.specs.Schedule.{Event, idle, commonTick, tickOf, given, offeredTo, happens, settingsOf, at, out, IsLent, Sends}
+use Rattle.agreement.specs.Schedule.{Event, idle, commonTick, tickOf, given, offeredTo, happens, settingsOf, at, out, IsLent, Sends, run}
 
 -- good settings are good for every own number below n
 pub settings-alike : (size : Size) (n D i : ℕ) → goodSettings (settingsOf size n D 0) ≡ true → i < n → goodSettings (settingsOf size n D i) ≡ true
@@ -47,35 +47,34 @@ nothing-kept w = record { settings = refl; formed = w; said = tt }
 one-kept : (i j : ℕ) {s : State} (o : Outcome) → WellFormed s → Kept s o → Kept s (elim (eqb i j) [ true ↦ o | false ↦ done (saying s []) ])
 one-kept i j o w k = by-bool (eqb i j) (λ q. rw q k) (λ q. rw q (nothing-kept w))
 
-module _ (size : Size) (n D : ℕ) (event : ℕ → Event) (faulty : ℕ) where
-  event-kept : (i : ℕ) (e : Event) (s : State) → IsLent size n D event faulty e → WellFormed s → Kept s (happens i e s)
-  unfolding happens
-  event-kept i idle s h w = nothing-kept w
-  event-kept i commonTick s h w = tick-kept w
-  event-kept i (tickOf j) s h w = one-kept i j (tick s) w (tick-kept w)
-  event-kept i (given j bs) s h w = one-kept i j (step bs s) w (step-kept w bs h)
-  event-kept i (offeredTo j b) s h w = one-kept i j (offer b s) w (offer-kept w b h)
+event-kept : (i : ℕ) (e : Event) (s : State) → IsLent e → WellFormed s → Kept s (happens i e s)
+unfolding happens
+event-kept i idle s h w = nothing-kept w
+event-kept i commonTick s h w = tick-kept w
+event-kept i (tickOf j) s h w = one-kept i j (tick s) w (tick-kept w)
+event-kept i (given j bs) s h w = one-kept i j (step bs s) w (step-kept w bs h)
+event-kept i (offeredTo j b) s h w = one-kept i j (offer b s) w (offer-kept w b h)
 
-  module _ (lent : (k : ℕ) → IsLent size n D event faulty (event k)) (i : ℕ) (good : goodSettings (settingsOf size n D i) ≡ true) where
-    pub formed-at : (k : ℕ) → WellFormed (at size n D event i k)
-    unfolding at
-    formed-at zero = fresh-formed (settingsOf size n D i) good
-    formed-at (suc k) = event-kept i (event k) (at size n D event i k) (lent k) (formed-at k) .formed
+module _ (size : Size) (n D : ℕ) (event : ℕ → Event) (lent : (k : ℕ) → IsLent (event k)) (i : ℕ) (good : goodSettings (settingsOf size n D i) ≡ true) where
+  pub formed-at : (k : ℕ) → WellFormed (at size n D event i k)
+  unfolding at
+  formed-at zero = fresh-formed (settingsOf size n D i) good
+  formed-at (suc k) = event-kept i (event k) (at size n D event i k) (lent k) (formed-at k) .formed
 
-    pub settings-at : (k : ℕ) → at size n D event i k .settings ≡ settingsOf size n D i
-    unfolding at fresh
-    settings-at zero = refl
-    settings-at (suc k) = event-kept i (event k) (at size n D event i k) (lent k) (formed-at k) .settings ∙ settings-at k
+  pub settings-at : (k : ℕ) → at size n D event i k .settings ≡ settingsOf size n D i
+  unfolding at fresh
+  settings-at zero = refl
+  settings-at (suc k) = event-kept i (event k) (at size n D event i k) (lent k) (formed-at k) .settings ∙ settings-at k
 
-    -- what it sends to all or to one may be sent
-    sent-at : (j k : ℕ) (m : Message) → Sends size n D event faulty i j k m → Sendable (at size n D event i k .settings) m
-    unfolding out
-    sent-at j k m (inl (s, ne)) = sent-all (event-kept i (event k) (at size n D event i k) (lent k) (formed-at k)) m s
-    sent-at j k m (inr s) = sent-one (event-kept i (event k) (at size n D event i k) (lent k) (formed-at k)) j m s .1
+  -- what it sends to all or to one may be sent
+  sent-at : (j k : ℕ) (m : Message) → Sends (run size n D event) i j k m → Sendable (at size n D event i k .settings) m
+  unfolding out
+  sent-at j k m (inl (s, ne)) = sent-all (event-kept i (event k) (at size n D event i k) (lent k) (formed-at k)) m s
+  sent-at j k m (inr s) = sent-one (event-kept i (event k) (at size n D event i k) (lent k) (formed-at k)) j m s .1
 
-    -- it can be read by each, and is allowed
-    pub sent-allowed : (j k : ℕ) (m : Message) → Sends size n D event faulty i j k m
-        → (read (write m) ≡ some m) × (allowed (settingsOf size n D j) m ≡ true)
-    sent-allowed j k m s =
-        let e = sent-at j k m s in
-        (sent-read e, sym (allowed-alike size n D i j m) ∙ subst (λ (g : Settings). allowed g m ≡ true) (settings-at k) (e .isAllowed))
+  -- it can be read by each, and is allowed
+  pub sent-allowed : (j k : ℕ) (m : Message) → Sends (run size n D event) i j k m
+      → (read (write m) ≡ some m) × (allowed (settingsOf size n D j) m ≡ true)
+  sent-allowed j k m s =
+      let e = sent-at j k m s in
+      (sent-read e, sym (allowed-alike size n D i j m) ∙ subst (λ (g : Settings). allowed g m ≡ true) (settings-at k) (e .isAllowed))

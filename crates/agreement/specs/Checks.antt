@@ -124,7 +124,7 @@ module _ (size : Size) (n D : ℕ) (es : List Event) (faulty : ℕ) where
   unfoldable pub comesInTime : (i j k : ℕ) → Message → Bool
   unfolding every implies ticks clock listed comes
   comesInTime i j k m =
-      every (length es) (λ l. implies (eqb (ticks i (listed es l)) 1 && eqb (clock size n D (listed es) i l) (clock size n D (listed es) i (suc k) + D)) (comes j k m l))
+      every (length es) (λ l. implies (eqb (ticks i (listed es l)) 1 && eqb (clock (listed es) i l) (clock (listed es) i (suc k) + D)) (comes j k m l))
 
   unfoldable pub saidInTime : (i j k : ℕ) → Effect → Bool
   unfolding ifSome brought comesInTime
