@@ -1,6 +1,7 @@
 pub mod Lineage
 pub mod Events
 pub mod Clock
+pub mod Alike
 pub mod Whole
 pub mod Group
 pub mod Follow

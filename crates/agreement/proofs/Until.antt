@@ -6,18 +6,19 @@ use native.Mathlib.Omega.{arith}
 use native.Mathlib.Decide.{decLt, decLe}
 use mathlib.Core.Bool.{true, false}
 use mathlib.Core.List.{List, [], _++_, List·Memᴰ, List·Memᴰ·not-nil}
-use mathlib.Core.Logic.{_⊎_, inl, inr}
+use mathlib.Core.Logic.{inl, inr}
 use mathlib.Core.Option.{some}
 use lib.Dec.{ltb}
 use borrow.Author.Tests.{lt-ltb, ltb-true}
 use Rattle.rules.specs.Limits.{Size}
-use Rattle.rules.specs.Messages.{Message, newView, propose, vote, blame, blameSet, status, write, Effect, toAll, toOne}
+use Rattle.rules.specs.Messages.{Message, Effect, toAll, toOne}
 use Rattle.rules.specs.Words.{State}
 use Rattle.rules.specs.Inputs.{saying, offered}
 use Rattle.rules.specs.Refusals.{done}
 use Rattle.rules.proofs.Tests.{by-bool}
-use Rattle.agreement.specs.Schedule.{Event, idle, commonTick, tickOf, given, offeredTo, happens, ticks, IsCommon, until, at, out, clock, Says, HasVoted, Sound, CommonTicks, RoomTo, IsLent, ProperBuffers, Sends, InTime, VotersVoted, Genuine, Hands, NoForgery, Offers, OneBlock, OneName, Premises, Schedule, reportsIn, reported, Run, run}
+use Rattle.agreement.specs.Schedule.{Event, idle, commonTick, tickOf, given, offeredTo, happens, ticks, IsCommon, until, at, out, clock, Says, CommonTicks, RoomTo, IsLent, ProperBuffers, Sends, InTime, Hands, NoForgery, Offers, OneName, Premises, Schedule, reportsIn, reported, Run, run}
 use Rattle.agreement.proofs.Events.{Happening, never-idle}
+use Rattle.agreement.proofs.Alike.{genuine-on}
 
 pub not-lt : (a b : ℕ) → b ≤ a → ltb a b ≡ false
 not-lt a b l = by-bool (ltb a b) (λ q. let h = ltb-true a b q in absurd (omega arith)) (λ q. q)
@@ -154,38 +155,13 @@ module _ (size : Size) (n D : ℕ) (event : ℕ → Event) (K : ℕ) where
         let (d, f) = happened K event l (offeredTo j b) tt e in
         (ok, (b, f, subst (λ (s : State). offered b s ≡ some m) (at-until j l (omega arith)) r))
 
-    -- what was said before an event before K
-    earlier-on : (i l : ℕ) (e : Effect) → l < K → (p : ℕ) × (p < l) × Says R i p e → (p : ℕ) × (p < l) × Says Q i p e
-    earlier-on i l e d (p, u, s) = (p, u, says-on i p e (omega arith) s)
-
-    voters-on : (l m v h b : ℕ) → l < K → VotersVoted R faulty l m v h b → VotersVoted Q faulty l m v h b
-    voters-on l m v h b d f i ok y = earlier-on i l (toAll (vote v h b i)) d (f i ok y)
-
-    genuine-on : (l : ℕ) (m : Message) → l < K → Genuine R faulty l m → Genuine Q faulty l m
-    genuine-on l (newView v h b c m a) d (f, g) =
-        (voters-on l m c h b d f, λ ok. let (p, u, (x, s)) = g ok in (p, u, (x, says-on a p _ (omega arith) s)))
-    genuine-on l (propose v h b q m a) d (f, g) =
-        (voters-on l m v _ q d f, λ ok. let (p, u, (x, s)) = g ok in (p, u, (x, says-on a p _ (omega arith) s)))
-    genuine-on l (vote v h b a) d g = λ ok. earlier-on a l (toAll (vote v h b a)) d (g ok)
-    genuine-on l (blame v a) d g = λ ok. earlier-on a l (toAll (blame v a)) d (g ok)
-    genuine-on l (blameSet v m) d g = λ i ok y. earlier-on i l (toAll (blame v i)) d (g i ok y)
-    genuine-on l (status h b c m) d f = voters-on l m c h b d f
-
     forgery-until : NoForgery R faulty → NoForgery Q faulty
-    forgery-until genuine l j m h = let (d, g) = hands-back l j m h in genuine-on l m d (genuine l j m g)
+    forgery-until genuine l j m h = let (d, g) = hands-back l j m h in genuine-on R E (at size n D E) (out size n D E) faulty l (λ i p e ok u s. says-on i p e (omega arith) s) m (genuine l j m g)
 
     module _ (heightOf parentOf : ℕ → ℕ) where
-      block-on : (m : Message) → OneBlock heightOf parentOf m → OneBlock heightOf parentOf m
-      block-on (newView v h b c m a) o = o
-      block-on (propose v h b p m a) o = o
-      block-on (vote v h b a) o = tt
-      block-on (blame v a) o = tt
-      block-on (blameSet v m) o = tt
-      block-on (status h b c m) o = tt
-
       names-until : OneName R faulty heightOf parentOf → OneName Q faulty heightOf parentOf
-      names-until one l j m (inl h) = block-on m (one l j m (inl (hands-back l j m h .1)))
-      names-until one l j m (inr o) = block-on m (one l j m (inr (offers-back l j m o)))
+      names-until one l j m (inl h) = one l j m (inl (hands-back l j m h .1))
+      names-until one l j m (inr o) = one l j m (inr (offers-back l j m o))
 
       -- the premises of the whole schedule hold up to each moment
       pub premises-until : Premises R faulty heightOf parentOf → Premises Q faulty heightOf parentOf

@@ -17,9 +17,10 @@ use Rattle.rules.specs.Refusals.{Outcome, done, step, offer, tick}
 use Rattle.rules.proofs.Tests.{by-bool, and-left}
 use Rattle.rules.proofs.Truths.{both}
 use Rattle.kept.specs.Parts.{WellFormed}
-use Rattle.kept.specs.Said.{Sendable}
+use Rattle.kept.specs.Said.{Each, Sendable, Sayable}
 use Rattle.kept.proofs.WellFormed.{fresh-formed}
-use Rattle.kept.proofs.Calls.{Kept, step-kept, offer-kept, tick-kept, sent-all, sent-one, sent-read}
+use Rattle.kept.proofs.Calls.{Kept, step-kept, offer-kept, tick-kept, sent-read}
+use Rattle.kept.proofs.Lists.{each-mem}
 use Rattle.agreement.specs.Schedule.{Event, idle, commonTick, tickOf, given, offeredTo, happens, settingsOf, at, out, IsLent, Sends, run}
 
 -- good settings are good for every own number below n
@@ -66,15 +67,18 @@ module _ (size : Size) (n D : ℕ) (event : ℕ → Event) (lent : (k : ℕ) →
   settings-at zero = refl
   settings-at (suc k) = event-kept i (event k) (at size n D event i k) (lent k) (formed-at k) .settings ∙ settings-at k
 
-  -- what it sends to all or to one may be sent
-  sent-at : (j k : ℕ) (m : Message) → Sends (run size n D event) i j k m → Sendable (at size n D event i k .settings) m
+  -- what it says may be said
+  pub said-at : (k : ℕ) → Each (Sayable (settingsOf size n D i)) (out size n D event i k)
   unfolding out
-  sent-at j k m (inl (s, ne)) = sent-all (event-kept i (event k) (at size n D event i k) (lent k) (formed-at k)) m s
-  sent-at j k m (inr s) = sent-one (event-kept i (event k) (at size n D event i k) (lent k) (formed-at k)) j m s .1
+  said-at k =
+      subst (λ (g : Settings). Each (Sayable g) (out size n D event i k)) (settings-at k)
+      (event-kept i (event k) (at size n D event i k) (lent k) (formed-at k) .said)
 
-  -- it can be read by each, and is allowed
+  sent-at : (j k : ℕ) (m : Message) → Sends (run size n D event) i j k m → Sendable (settingsOf size n D i) m
+  sent-at j k m (inl (s, ne)) = each-mem (Sayable (settingsOf size n D i)) (said-at k) s
+  sent-at j k m (inr s) = each-mem (Sayable (settingsOf size n D i)) (said-at k) s .1
+
+  -- what it sends to all or to one can be read by each, and is allowed
   pub sent-allowed : (j k : ℕ) (m : Message) → Sends (run size n D event) i j k m
       → (read (write m) ≡ some m) × (allowed (settingsOf size n D j) m ≡ true)
-  sent-allowed j k m s =
-      let e = sent-at j k m s in
-      (sent-read e, sym (allowed-alike size n D i j m) ∙ subst (λ (g : Settings). allowed g m ≡ true) (settings-at k) (e .isAllowed))
+  sent-allowed j k m s = let e = sent-at j k m s in (sent-read e, sym (allowed-alike size n D i j m) ∙ e .isAllowed)

@@ -1,3 +1,4 @@
+pub mod Heard
 pub mod Carried
 pub mod Wellness
 pub mod Promises
