@@ -56,7 +56,7 @@ counted-same s = (refl, refl, refl, refl, refl, refl)
 
 -- ---- reports
 
-reportsIn-append : (a b : List Effect) → reportsIn (a ++ b) ≡ reportsIn a ++ reportsIn b
+pub reportsIn-append : (a b : List Effect) → reportsIn (a ++ b) ≡ reportsIn a ++ reportsIn b
 unfolding reportsIn
 reportsIn-append [] b = refl
 reportsIn-append (toAll m ∷ a) b = reportsIn-append a b
