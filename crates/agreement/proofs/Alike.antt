@@ -1,14 +1,13 @@
 -- What is premised of a run holds of another in which sound stations hold and say the same. Assumes nothing.
-use mathlib.Core.Path.{_≡_, subst, refl, sym, ap, ap₂, _∙_}
-use Prim.Native.Nat.{ℕ, zero, suc, _<_}
-use mathlib.Core.List.{List, _++_, List·Memᴰ}
-use mathlib.Core.Logic.{_⊎_, inl, inr}
+use mathlib.Core.Path.{_≡_, subst, sym}
+use Prim.Native.Nat.{ℕ, _<_}
+use mathlib.Core.List.{List, List·Memᴰ}
+use mathlib.Core.Logic.{inl, inr}
 use mathlib.Core.Option.{some}
-use Rattle.rules.specs.Limits.{Size}
 use Rattle.rules.specs.Messages.{Message, newView, propose, vote, blame, blameSet, status, Effect, toAll, toOne}
 use Rattle.rules.specs.Words.{full, clock as late, stopped, State}
 use Rattle.rules.specs.Inputs.{offered}
-use Rattle.agreement.specs.Schedule.{Event, Run, Says, Sends, Sound, VotersVoted, Genuine, Hands, Offers, OneBlock, OneName, Premises, Schedule, reportsIn, reported}
+use Rattle.agreement.specs.Schedule.{Event, Run, Says, Sends, Sound, VotersVoted, Genuine, OneName, Premises, Schedule}
 
 -- another run of the same group
 abbrev pub other : Run → (ℕ → Event) → (ℕ → ℕ → State) → (ℕ → ℕ → List Effect) → Run
@@ -37,15 +36,15 @@ module _ (R : Run) (event : ℕ → Event) (state : ℕ → ℕ → State) (said
   genuine-on (blameSet v m) g = λ i ok y. earlier-on i (toAll (blame v i)) ok (g i ok y)
   genuine-on (status h b c m) f = voters-on m c h b f
 
--- the same events, states and words
+-- ---- the same events, states and words
+
+pub room-alike : (R : Run) (state : ℕ → ℕ → State) (faulty : ℕ) → ((i : ℕ) → Sound R faulty i → (k : ℕ) → R .state i k ≡ state i k) → (i : ℕ) → Sound R faulty i → (k : ℕ)
+    → ¬ (R .state i k .phase ≡ stopped full) × ¬ (R .state i k .phase ≡ stopped late) → ¬ (state i k .phase ≡ stopped full) × ¬ (state i k .phase ≡ stopped late)
+room-alike R state faulty states i ok k = subst (λ (s : State). ¬ (s .phase ≡ stopped full) × ¬ (s .phase ≡ stopped late)) (states i ok k)
+
 module _ (R : Run) (state : ℕ → ℕ → State) (said : ℕ → ℕ → List Effect) where
   abbrev T : Run
   T = other R (R .event) state said
-
-  pub reported-alike : (i : ℕ) → ((k : ℕ) → R .said i k ≡ said i k) → (k : ℕ) → reported R i k ≡ reported T i k
-  unfolding reported
-  reported-alike i words zero = refl
-  reported-alike i words (suc k) = ap₂ _++_ (reported-alike i words k) (ap reportsIn (words k))
 
   module _ (faulty : ℕ) (heightOf parentOf : ℕ → ℕ) (states : (i : ℕ) → Sound R faulty i → (k : ℕ) → R .state i k ≡ state i k)
       (words : (i : ℕ) → Sound R faulty i → (k : ℕ) → R .said i k ≡ said i k) where
@@ -60,19 +59,17 @@ module _ (R : Run) (state : ℕ → ℕ → State) (said : ℕ → ℕ → List 
     names-alike one k j m (inl h) = one k j m (inl h)
     names-alike one k j m (inr (ok, (b, e, r))) = one k j m (inr (ok, (b, e, subst (λ (s : State). offered b s ≡ some m) (sym (states j ok k)) r)))
 
-    pub schedule-alike : Schedule R faulty heightOf parentOf → Schedule T faulty heightOf parentOf
-    schedule-alike X =
-        let P = X .premises in
+    pub premises-alike : Premises R faulty heightOf parentOf → Premises T faulty heightOf parentOf
+    premises-alike P =
         record {
-          premises =
-              record {
-                settings = P .settings;
-                few = P .few;
-                common = P .common;
-                lent = P .lent;
-                inTime = λ i j hi hj k m s. P .inTime i j hi hj k m (sends-alike i j k m hi s);
-                noForgery = λ k j m h. genuine-on R (R .event) state said faulty k (λ i p e ok u s. says-alike i p e ok s) m (P .noForgery k j m h);
-                oneName = names-alike (P .oneName);
-              };
-          room = λ i ok k. subst (λ (s : State). ¬ (s .phase ≡ stopped full) × ¬ (s .phase ≡ stopped late)) (states i ok k) (X .room i ok k);
+          settings = P .settings;
+          few = P .few;
+          common = P .common;
+          lent = P .lent;
+          inTime = λ i j hi hj k m s. P .inTime i j hi hj k m (sends-alike i j k m hi s);
+          noForgery = λ k j m h. genuine-on R (R .event) state said faulty k (λ i p e ok u s. says-alike i p e ok s) m (P .noForgery k j m h);
+          oneName = names-alike (P .oneName);
         }
+
+    pub schedule-alike : Schedule R faulty heightOf parentOf → Schedule T faulty heightOf parentOf
+    schedule-alike X = record { premises = premises-alike (X .premises); room = λ i ok k. room-alike R state faulty states i ok k (X .room i ok k) }
