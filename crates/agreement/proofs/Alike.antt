@@ -5,9 +5,9 @@ use mathlib.Core.List.{List, List·Memᴰ}
 use mathlib.Core.Logic.{inl, inr}
 use mathlib.Core.Option.{some}
 use Rattle.rules.specs.Messages.{Message, newView, propose, vote, blame, blameSet, status, Effect, toAll, toOne}
-use Rattle.rules.specs.Words.{full, clock as late, stopped, State}
+use Rattle.rules.specs.Words.{State}
 use Rattle.rules.specs.Inputs.{offered}
-use Rattle.agreement.specs.Schedule.{Event, Run, Says, Sends, Sound, VotersVoted, Genuine, OneName, Premises, Schedule}
+use Rattle.agreement.specs.Schedule.{Event, HasRoom, Run, Says, Sends, Sound, VotersVoted, Genuine, OneName, Premises, Schedule}
 
 -- another run of the same group
 abbrev pub other : Run → (ℕ → Event) → (ℕ → ℕ → State) → (ℕ → ℕ → List Effect) → Run
@@ -26,21 +26,17 @@ module _ (R : Run) (event : ℕ → Event) (state : ℕ → ℕ → State) (said
   made-on i m ok (p, u, (x, s)) = (p, u, (x, on i p (toAll (m x)) ok u s))
 
   voters-on : (m v h b : ℕ) → VotersVoted R faulty l m v h b → VotersVoted Q faulty l m v h b
-  voters-on m v h b f i ok y = earlier-on i (toAll (vote v h b i)) ok (f i ok y)
+  voters-on m v h b f i ok y = earlier-on i _ ok (f i ok y)
 
   pub genuine-on : (m : Message) → Genuine R faulty l m → Genuine Q faulty l m
   genuine-on (newView v h b c m a) (f, g) = (voters-on m c h b f, λ ok. made-on a (λ x. newView v h b c x a) ok (g ok))
   genuine-on (propose v h b q m a) (f, g) = (voters-on m v _ q f, λ ok. made-on a (λ x. propose v h b q x a) ok (g ok))
-  genuine-on (vote v h b a) g = λ ok. earlier-on a (toAll (vote v h b a)) ok (g ok)
-  genuine-on (blame v a) g = λ ok. earlier-on a (toAll (blame v a)) ok (g ok)
-  genuine-on (blameSet v m) g = λ i ok y. earlier-on i (toAll (blame v i)) ok (g i ok y)
+  genuine-on (vote v h b a) g = λ ok. earlier-on a _ ok (g ok)
+  genuine-on (blame v a) g = λ ok. earlier-on a _ ok (g ok)
+  genuine-on (blameSet v m) g = λ i ok y. earlier-on i _ ok (g i ok y)
   genuine-on (status h b c m) f = voters-on m c h b f
 
 -- ---- the same events, states and words
-
-pub room-alike : (R : Run) (state : ℕ → ℕ → State) (faulty : ℕ) → ((i : ℕ) → Sound R faulty i → (k : ℕ) → R .state i k ≡ state i k) → (i : ℕ) → Sound R faulty i → (k : ℕ)
-    → ¬ (R .state i k .phase ≡ stopped full) × ¬ (R .state i k .phase ≡ stopped late) → ¬ (state i k .phase ≡ stopped full) × ¬ (state i k .phase ≡ stopped late)
-room-alike R state faulty states i ok k = subst (λ (s : State). ¬ (s .phase ≡ stopped full) × ¬ (s .phase ≡ stopped late)) (states i ok k)
 
 module _ (R : Run) (state : ℕ → ℕ → State) (said : ℕ → ℕ → List Effect) where
   abbrev T : Run
@@ -72,4 +68,4 @@ module _ (R : Run) (state : ℕ → ℕ → State) (said : ℕ → ℕ → List 
         }
 
     pub schedule-alike : Schedule R faulty heightOf parentOf → Schedule T faulty heightOf parentOf
-    schedule-alike X = record { premises = premises-alike (X .premises); room = λ i ok k. room-alike R state faulty states i ok k (X .room i ok k) }
+    schedule-alike X = record { premises = premises-alike (X .premises); room = λ i ok k. subst HasRoom (states i ok k) (X .room i ok k) }

@@ -14,7 +14,7 @@ use Rattle.rules.specs.Limits.{Size}
 use Rattle.rules.specs.Lists.{first, any, all}
 use Rattle.rules.specs.Sizes.{bit}
 use Rattle.rules.specs.Messages.{Message, newView, propose, vote, blame, blameSet, status, table, rowOf, kind, values, read, write, allowed, Effect, toAll, toOne, committed}
-use Rattle.rules.specs.Words.{Phase, inView, waiting, stopped, full, clock as late, State}
+use Rattle.rules.specs.Words.{State}
 use Rattle.rules.specs.Inputs.{saying, offered}
 use Rattle.rules.specs.Refusals.{done, running}
 use Rattle.rules.specs.Script.{sameList}
@@ -22,7 +22,7 @@ use Rattle.rules.proofs.Tests.{by-bool, by-option, no-some, no-bool}
 use Rattle.rules.proofs.Bytes.{Bytes, none as no-bytes, one}
 use Rattle.rules.proofs.Truths.{and-2, both, or-2}
 use Rattle.rules.proofs.Searches.{by-mem, first-mem, first-any, first-none}
-use Rattle.agreement.specs.Schedule.{Event, idle, commonTick, tickOf, given, offeredTo, happens, ticks, IsCommon, CommonTicks, settingsOf, at, out, clock, Says, HasVoted, HasBlamed, HasMade, Sound, NeverFull, IsLent, ProperBuffers, Sends, InTime, VotersVoted, Genuine, Hands, NoForgery, Offers, OneBlock, OneName, Run, run}
+use Rattle.agreement.specs.Schedule.{Event, idle, commonTick, tickOf, given, offeredTo, happens, ticks, IsCommon, CommonTicks, settingsOf, at, out, clock, Says, HasVoted, HasBlamed, HasMade, Sound, NeverFull, IsLent, ProperBuffers, Sends, InTime, VotersVoted, Genuine, Hands, NoForgery, Offers, OneBlock, OneName, Run, run, HasRoom}
 use Rattle.agreement.proofs.Events.{never-idle}
 use Rattle.agreement.specs.Checks.{implies, every, some?, sameMessage, maskIn, toAllThat, brought, ifSome, isCommon, givenTo, offeredAs, listed, isSound, hasSaid, votersVoted, hasMade, isGenuine, taken, noneForged, comes, comesInTime, saidInTime, allInTime, allCommon, allRun, allLent, isOneBlock, oneNamed}
 
@@ -303,7 +303,7 @@ module _ (size : Size) (n D : ℕ) (es : List Event) (faulty : ℕ) where
         | no d ↦ (let e : suc k ≡ length es = omega arith in ap (at size n D E i) e)
       ]
 
-  not-stopped : (s : State) → running s ≡ true → ¬ (s .phase ≡ stopped full) × ¬ (s .phase ≡ stopped late)
+  not-stopped : (s : State) → running s ≡ true → HasRoom s
   unfolding running
   not-stopped s r = (λ e. no-bool (sym (rw (e, running) at r)), λ e. no-bool (sym (rw (e, running) at r)))
 

@@ -7,9 +7,11 @@ pub mod Group
 pub mod Follow
 pub mod Ripe
 pub mod Behind
+pub mod Rank
 pub mod Extends
 pub mod Logs
 pub mod Ancestors
+pub mod Stays
 pub mod Needed
 pub mod Until
 pub mod NoSplit

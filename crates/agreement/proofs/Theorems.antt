@@ -16,7 +16,7 @@ use Rattle.agreement.specs.Schedule.{Event, commonTick, until, at, clock
 use Rattle.agreement.proofs.Clock.{clock-alike}
 use Rattle.agreement.proofs.Group.{Group, at-clock}
 use Rattle.agreement.proofs.Logs.{logs-begin, log-linked, log-reported}
-use Rattle.agreement.proofs.Ancestors.{commits-lineage}
+use Rattle.agreement.proofs.Stays.{commits-lineage}
 use Rattle.agreement.proofs.Needed.{to-group}
 use Rattle.agreement.proofs.Until.{until-before, at-until, clock-until, reported-until, says-on}
 use Rattle.agreement.proofs.NoSplit.{never-split}

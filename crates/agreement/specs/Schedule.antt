@@ -88,6 +88,10 @@ unfolding ticks
 clock event i zero = 0
 clock event i (suc k) = clock event i k + ticks i (event k)
 
+-- not stopped for want of records, nor at the last clock
+abbrev pub HasRoom : State → Type 0
+HasRoom s = ¬ (s .phase ≡ stopped full) × ¬ (s .phase ≡ stopped late)
+
 -- a run, as far as the premises look at it: what station i holds at moment k, and what event k makes it say
 pub record Run : Type 0 where
   pub size : Size
@@ -159,14 +163,14 @@ module _ (R : Run) where
     -- "stopped stations count among the f": a sound station is never stopped for want of records or at the last clock. That a due
     -- commit never stops one needs no premise (SoundRun, Theorem C).
     abbrev pub NeverFull : Type 0
-    NeverFull = (i : ℕ) → Sound i → (k : ℕ) → ¬ (state i k .phase ≡ stopped full) × ¬ (state i k .phase ≡ stopped late)
+    NeverFull = (i : ℕ) → Sound i → (k : ℕ) → HasRoom (state i k)
 
     abbrev pub SoundRun : Type 0
     SoundRun = (i : ℕ) → Sound i → (k : ℕ) → running (state i k) ≡ true
 
     -- both up to moment K: a station that stops later is sound until then
     abbrev pub RoomTo : ℕ → Type 0
-    RoomTo K = (i : ℕ) → Sound i → (k : ℕ) → k ≤ K → ¬ (state i k .phase ≡ stopped full) × ¬ (state i k .phase ≡ stopped late)
+    RoomTo K = (i : ℕ) → Sound i → (k : ℕ) → k ≤ K → HasRoom (state i k)
 
     abbrev pub RunsTo : ℕ → Type 0
     RunsTo K = (i : ℕ) → Sound i → (k : ℕ) → k ≤ K → running (state i k) ≡ true

@@ -10,8 +10,8 @@ use Rattle.rules.specs.Messages.{propose, vote, Effect, toAll}
 use Rattle.rules.specs.Words.{State, inView}
 use Rattle.rules.specs.Inputs.{reports}
 use Rattle.rules.specs.Refusals.{running}
-use Rattle.agreement.specs.Schedule.{Event, commonTick, until, Run, at, out, Says, Sound, RoomTo, RunsTo, Premises, Schedule, Linked, lineage, reportsIn}
-use Rattle.agreement.proofs.Alike.{room-alike, premises-alike}
+use Rattle.agreement.specs.Schedule.{Event, commonTick, until, HasRoom, Run, at, out, Says, Sound, RoomTo, RunsTo, Premises, Schedule, Linked, lineage, reportsIn}
+use Rattle.agreement.proofs.Alike.{premises-alike}
 use Rattle.agreement.proofs.Until.{until-before, schedule-until}
 use Rattle.store.specs.Decode.{names, stateOf}
 use Rattle.store.specs.Fresh.{freshly}
@@ -55,7 +55,7 @@ module _ (size : Size) (n D : ℕ) (event : ℕ → Event) (room : ℕ → List 
         let words = same-words size n D event room lent faulty L (P .settings) (P .lent) in
         to-calls size n D E room lent faulty lends-until heightOf parentOf
         (schedule-until size n D event K faulty heightOf parentOf (premises-alike C (at size n D event) (out size n D event) faulty heightOf parentOf states words P)
-        (λ i ok k l. room-alike C (at size n D event) faulty states i ok k (space i ok k l)))
+        (λ i ok k l. subst HasRoom (states i ok k) (space i ok k l)))
 
     -- ---- A, B and C up to K
 
