@@ -4,15 +4,15 @@ use Prim.Native.Nat.{ℕ, zero, suc, _+_, _-_, _≤_, _<_, _^_}
 use native.Mathlib.Omega.{arith}
 use native.Mathlib.Decide.{decLt, decLe, ℕ-discrete}
 use mathlib.Core.Bool.{Bool, true, false, not, _&&_, _||_}
-use mathlib.Core.List.{List, [], _∷_, List·Memᴰ, List·Memᴰ·head, List·Memᴰ·tail, List·Memᴰ·not-nil}
+use mathlib.Core.List.{List, [], _∷_, map, List·Memᴰ, List·Memᴰ·head, List·Memᴰ·tail, List·Memᴰ·not-nil}
 use mathlib.Core.Logic.{_⊎_, inl, inr}
 use mathlib.Core.Option.{Option, none, some}
 use lib.Dec.{ltb, eqb}
 use lib.ListN.{length, getD, List·getD-eq-default}
-use borrow.Author.Tests.{eqb-true, eq-eqb, lt-ltb, ltb-true}
+use borrow.Author.Tests.{eqb-true, eq-eqb, leb-true, lt-ltb, ltb-true}
 use Rattle.rules.specs.Limits.{Size}
 use Rattle.rules.specs.Lists.{first, any, all}
-use Rattle.rules.specs.Sizes.{bit}
+use Rattle.rules.specs.Sizes.{goodSettings, faults, bit, count}
 use Rattle.rules.specs.Messages.{Message, newView, propose, vote, blame, blameSet, status, table, rowOf, kind, values, read, write, allowed, Effect, toAll, toOne, committed}
 use Rattle.rules.specs.Words.{State}
 use Rattle.rules.specs.Inputs.{saying, offered}
@@ -22,9 +22,9 @@ use Rattle.rules.proofs.Tests.{by-bool, by-option, no-some, no-bool}
 use Rattle.rules.proofs.Bytes.{Bytes, none as no-bytes, one}
 use Rattle.rules.proofs.Truths.{and-2, both, or-2}
 use Rattle.rules.proofs.Searches.{by-mem, first-mem, first-any, first-none}
-use Rattle.agreement.specs.Schedule.{Event, idle, commonTick, tickOf, given, offeredTo, happens, ticks, IsCommon, CommonTicks, settingsOf, at, out, clock, Says, HasVoted, HasBlamed, HasMade, Sound, NeverFull, IsLent, ProperBuffers, Sends, InTime, VotersVoted, Genuine, Hands, NoForgery, Offers, OneBlock, OneName, Run, run, HasRoom}
+use Rattle.agreement.specs.Schedule.{Event, idle, commonTick, tickOf, given, offeredTo, happens, ticks, IsCommon, CommonTicks, settingsOf, at, out, clock, Says, HasVoted, HasBlamed, HasMade, Sound, NeverFull, IsLent, ProperBuffers, Sends, InTime, VotersVoted, Genuine, Hands, NoForgery, Offers, OneBlock, OneName, Run, run, HasRoom, Schedule}
 use Rattle.agreement.proofs.Events.{never-idle}
-use Rattle.agreement.specs.Checks.{implies, every, some?, sameMessage, maskIn, toAllThat, brought, ifSome, isCommon, givenTo, offeredAs, listed, isSound, hasSaid, votersVoted, hasMade, isGenuine, taken, noneForged, comes, comesInTime, saidInTime, allInTime, allCommon, allRun, allLent, isOneBlock, oneNamed}
+use Rattle.agreement.specs.Checks.{Premise, settingsGood, fewFaulty, neverFull, commonTicks, properBuffers, inTime, noForgery, oneName, premises, place, other, Holds, AllBut, test, verdict, implies, every, some?, sameMessage, maskIn, toAllThat, brought, ifSome, isCommon, givenTo, offeredAs, listed, isSound, hasSaid, votersVoted, hasMade, isGenuine, taken, noneForged, comes, comesInTime, saidInTime, allInTime, allCommon, allRun, allLent, isOneBlock, oneNamed}
 
 -- ---- tests
 
@@ -172,7 +172,7 @@ module _ (size : Size) (n D : ℕ) (es : List Event) (faulty : ℕ) where
         | no d ↦ absurd (never-idle (given j bs) tt (sym (listed-idle k (omega arith)) ∙ e))
       ]
 
-  pub forgery-checked : noneForged size n D es faulty ≡ true → NoForgery R faulty
+  forgery-checked : noneForged size n D es faulty ≡ true → NoForgery R faulty
   unfolding noneForged
   forgery-checked t k j m h = genuine-test k m (hands-test k j m (isGenuine size n D es faulty k) h (λ d. every-true (length es) _ t k d))
 
@@ -202,7 +202,7 @@ module _ (size : Size) (n D : ℕ) (es : List Event) (faulty : ℕ) where
           | no d ↦ absurd (never-idle (offeredTo j b) tt (sym (listed-idle k (omega arith)) ∙ e))
         ]
 
-    pub names-checked : oneNamed size n D es faulty heightOf parentOf ≡ true → OneName R faulty heightOf parentOf
+    names-checked : oneNamed size n D es faulty heightOf parentOf ≡ true → OneName R faulty heightOf parentOf
     unfolding oneNamed
     names-checked t k j m (inl h) = block-test m (hands-test k j m fine h (λ d. and-2 (taken size n D es faulty k fine) _ (every-true (length es) _ t k d) .0))
     names-checked t k j m (inr o) = block-test m (offers-test k j m o (λ d. and-2 (taken size n D es faulty k fine) _ (every-true (length es) _ t k d) .1))
@@ -222,7 +222,7 @@ module _ (size : Size) (n D : ℕ) (es : List Event) (faulty : ℕ) where
   lent-test (given j bs) t u = bytes-test bs t
   lent-test (offeredTo j b) t u = ltb-true b (256 ^ 32) u
 
-  pub lent-checked : allLent size n D es faulty ≡ true → ProperBuffers R
+  lent-checked : allLent size n D es faulty ≡ true → ProperBuffers R
   unfolding allLent
   lent-checked t k =
       elim (decLt k (length es)) [
@@ -262,7 +262,7 @@ module _ (size : Size) (n D : ℕ) (es : List Event) (faulty : ℕ) where
         | no d ↦ (let z : ticks i (E l) ≡ 0 = ap (ticks i) (listed-idle l (omega arith)) ∙ (unfold ticks in refl) in absurd (omega arith))
       ]
 
-  pub time-checked : allInTime size n D es faulty ≡ true → InTime R faulty
+  time-checked : allInTime size n D es faulty ≡ true → InTime R faulty
   unfolding allInTime saidInTime comes
   time-checked t i j hi hj k m s l tick now =
       let (e, q, b) = sends-brought i j k m s in
@@ -284,7 +284,7 @@ module _ (size : Size) (n D : ℕ) (es : List Event) (faulty : ℕ) where
   common-test (given j bs) t = tt
   common-test (offeredTo j b) t = tt
 
-  pub common-checked : allCommon size n D es faulty ≡ true → CommonTicks R
+  common-checked : allCommon size n D es faulty ≡ true → CommonTicks R
   unfolding allCommon
   common-checked t k =
       elim (decLt k (length es)) [
@@ -307,7 +307,7 @@ module _ (size : Size) (n D : ℕ) (es : List Event) (faulty : ℕ) where
   unfolding running
   not-stopped s r = (λ e. no-bool (sym (rw (e, running) at r)), λ e. no-bool (sym (rw (e, running) at r)))
 
-  pub run-checked : allRun size n D es faulty ≡ true → NeverFull R faulty
+  run-checked : allRun size n D es faulty ≡ true → NeverFull R faulty
   unfolding allRun
   run-checked t i ok k =
       let r = implies-true (isSound size n D es faulty i) (every-true n _ t i (ok .0)) (sound-test i ok) in
@@ -315,3 +315,56 @@ module _ (size : Size) (n D : ℕ) (es : List Event) (faulty : ℕ) where
         | yes d ↦ not-stopped (at size n D E i k) (every-true (suc (length es)) (λ j. running (at size n D E i j)) r k d)
         | no d ↦ rw (stays i k (omega arith)) (not-stopped (at size n D E i (length es)) (every-true (suc (length es)) (λ j. running (at size n D E i j)) r (length es) (omega arith)))
       ]
+
+  -- ---- all of them
+
+  module _ (heightOf parentOf : ℕ → ℕ) where
+    abbrev tests : Premise → Bool
+    tests = test size n D es faulty heightOf parentOf
+
+    tested : (p : Premise) → tests p ≡ true → Holds R faulty heightOf parentOf p
+    unfolding test
+    tested settingsGood t = t
+    tested fewFaulty t = leb-true (count faulty) (faults (settingsOf size n D 0)) t
+    tested neverFull t = run-checked t
+    tested commonTicks t = common-checked t
+    tested properBuffers t = lent-checked t
+    tested inTime t = time-checked t
+    tested noForgery t = forgery-checked t
+    tested oneName t = names-checked heightOf parentOf t
+
+    -- a test stands in the verdict at its place
+    placed : (f : Premise → Bool) (p : Premise) → getD (map f premises) (place p) false ≡ f p
+    unfolding premises place
+    placed f settingsGood = refl
+    placed f fewFaulty = refl
+    placed f neverFull = refl
+    placed f commonTicks = refl
+    placed f properBuffers = refl
+    placed f inTime = refl
+    placed f noForgery = refl
+    placed f oneName = refl
+
+    holds : (f : Premise → Bool) → verdict size n D es faulty heightOf parentOf ≡ map f premises → (p : Premise) → f p ≡ true → Holds R faulty heightOf parentOf p
+    unfolding verdict
+    holds f v p t = tested p (sym (placed tests p) ∙ ap (λ (bs : List Bool). getD bs (place p) false) v ∙ placed f p ∙ t)
+
+    pub all-but : (q : Premise) → verdict size n D es faulty heightOf parentOf ≡ map (λ p. other p q) premises → AllBut R faulty heightOf parentOf q
+    all-but q v p t = holds (λ p. other p q) v p t
+
+    pub schedule-checked : verdict size n D es faulty heightOf parentOf ≡ map (λ p. true) premises → Schedule R faulty heightOf parentOf
+    schedule-checked v =
+        let all : (p : Premise) → Holds R faulty heightOf parentOf p = λ p. holds (λ p. true) v p refl in
+        record {
+          premises =
+              record {
+                settings = all settingsGood;
+                few = all fewFaulty;
+                common = all commonTicks;
+                lent = all properBuffers;
+                inTime = all inTime;
+                noForgery = all noForgery;
+                oneName = all oneName;
+              };
+          room = all neverFull;
+        }
