@@ -10,6 +10,7 @@ pub mod Statements
 pub mod Tallies
 pub mod Allowed
 pub mod Offers
+pub mod Answers
 pub mod Moves
 pub mod Kept
 pub mod Orderly
