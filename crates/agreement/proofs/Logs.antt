@@ -22,7 +22,7 @@ use Rattle.rules.proofs.Kept.{in-true, moves-fixed}
 use Rattle.rules.proofs.Orderly.{Voted}
 use Rattle.rules.proofs.Commits.{begins-merge, commits-some, commits-none, Due, due-facts, reports-append, moves-messages}
 use Rattle.rules.proofs.Splits.{dueCommits}
-use Rattle.agreement.specs.Schedule.{Event, idle, commonTick, tickOf, given, offeredTo, happens, ticks, IsCommon, at, out, Linked, lineage, reportsIn, reported}
+use Rattle.agreement.specs.Schedule.{Event, idle, commonTick, tickOf, given, offeredTo, happens, ticks, IsCommon, at, out, Linked, lineage, reportsIn, reported, Run, run}
 use Rattle.agreement.proofs.Lineage.{Placed, up, lineage-up, lineage-linked, chain-lineage}
 use Rattle.agreement.proofs.Events.{Brings, begun, before}
 use Rattle.agreement.proofs.Clock.{clock-suc}
@@ -56,7 +56,7 @@ counted-same s = (refl, refl, refl, refl, refl, refl)
 
 -- ---- reports
 
-reportsIn-append : (a b : List Effect) → reportsIn (a ++ b) ≡ reportsIn a ++ reportsIn b
+pub reportsIn-append : (a b : List Effect) → reportsIn (a ++ b) ≡ reportsIn a ++ reportsIn b
 unfolding reportsIn
 reportsIn-append [] b = refl
 reportsIn-append (toAll m ∷ a) b = reportsIn-append a b
@@ -90,6 +90,9 @@ event-reported i (offeredTo j b) s c r = append-nil _
 
 module _ (X : Group) where
   open Group X using (size, n, D, faulty, event, next, parentOf)
+
+  abbrev R : Run
+  R = run size n D event
 
   -- what is due is ripe
   pub due-ripe : (i : ℕ) → Ok X i → (k : ℕ) → ck X k + 1 ≤ next k → (x : Statement) → Due (counted (st X i k)) x → (c : ℕ) × Ripe X i k c x
@@ -162,7 +165,7 @@ module _ (X : Group) where
           let s = st X i k in
           let d = due-facts (counted s) x m in
           let es = counted-same s .0 in
-          let t : ck X k + 1 ≡ ck X (suc k) = sym (clock-suc size n D event k ∙ ap (λ (y : Event). ck X k + ticks 0 y) f ∙ (unfold ticks in refl)) in
+          let t : ck X k + 1 ≡ ck X (suc k) = sym (clock-suc event k ∙ ap (λ (y : Event). ck X k + ticks 0 y) f ∙ (unfold ticks in refl)) in
           let sn = X .soon k in
           let (c, r) = due-ripe i ok k (omega arith) x d in
           let (l, u) = stored-lineage i ok k x (logAfter s) (subst (List·Memᴰ x) es (d .0)) (d .1) (subst (λ (y : List Statement). chain y x ≡ some (logAfter s)) es q) in
@@ -218,7 +221,7 @@ module _ (X : Group) where
 
   -- ---- each name is reported once, in order, with its height
 
-  pub log-reported : (i : ℕ) → Ok X i → (k : ℕ) → reported size n D event i k ≡ reports 1 (st X i k .log)
+  pub log-reported : (i : ℕ) → Ok X i → (k : ℕ) → reported R i k ≡ reports 1 (st X i k .log)
   unfolding reported at fresh reports
   log-reported i ok zero = refl
   log-reported i ok (suc k) =

@@ -26,8 +26,8 @@ use Rattle.rules.proofs.Locks.{HasAll, Locked, moves-locked}
 use Rattle.agreement.specs.Schedule.{Event, at}
 use Rattle.agreement.proofs.Events.{Brings, begun, begun-same, begun-kept}
 use Rattle.agreement.proofs.Clock.{last-of}
-use Rattle.agreement.proofs.Group.{Group, st, ck, Ok, G, SaidAt, moves-of, at-settings, at-clock, kept-run, orderly-run, view-run, reach}
-use Rattle.agreement.proofs.Follow.{told-out, follow}
+use Rattle.agreement.proofs.Group.{Group, st, ck, Ok, G, SaidAt, moves-of, at-settings, at-clock, kept-run, orderly-run, view-run}
+use Rattle.agreement.proofs.Follow.{follow, reach, told-out}
 
 module _ (X : Group) where
   open Group X using (size, n, D, faulty, event, next, parentOf)
@@ -77,7 +77,7 @@ module _ (X : Group) where
         let d = R .due in
         let u = X .late k0 in
         let delay = sizes (G X 0) (X .settings) .leastD in
-        let m = last-of size n D event (X .common) (t + D) k0 (omega arith) in
+        let m = last-of event (X .common) (t + D) k0 (omega arith) in
         (m .0, m .1, m .2, m .3)
 
     -- G3b: at that moment every sound station is in the view, holds x and has voted for it

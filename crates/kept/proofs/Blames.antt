@@ -12,14 +12,15 @@ use Rattle.rules.specs.Lists.{all}
 use Rattle.rules.specs.Sizes.{Settings, joined}
 use Rattle.rules.specs.Messages.{viewAllowed}
 use Rattle.rules.specs.Words.{State}
-use Rattle.rules.specs.Inputs.{withBlames, blamesOf, blamed}
-use Rattle.rules.specs.WellFormed.{isMask, clocksInOrder, lockGood, statementGood, blamesGood}
+use Rattle.rules.specs.Inputs.{withTables, withBlames, withLog, blamesOf, blamed}
+use Rattle.rules.specs.WellFormed.{isMask, blamesGood}
 use Rattle.rules.proofs.Tests.{no-bool}
 use Rattle.rules.proofs.Masks.{joined-lt}
 use Rattle.rules.proofs.Truths.{and-3}
 use Rattle.rules.proofs.Allowed.{mask-lt, lt-mask, none-lt, view-within}
 use Rattle.kept.specs.Parts.{Formed}
 use Rattle.kept.proofs.Lists.{all-set, all-getD}
+use Rattle.kept.proofs.Recorded.{recorded}
 
 module _ (g : Settings) where
   blames-parts : (m : ℕ) (ms : List ℕ) → blamesGood g (m ∷ ms) ≡ true → (m ≡ 0) × (length ms ≡ lastView (g .size)) × (all (isMask g) ms ≡ true)
@@ -55,14 +56,8 @@ module _ {s : State} (f : Formed s) (v : ℕ) where
   blamesOf-mask = blames-mask (s .settings) (s .blames) v (f .blames)
 
   pub blamed-formed : (m : ℕ) → viewAllowed (s .settings) v ≡ true → m < 2 ^ s .settings .n → Formed (blamed v m s)
-  unfolding blamed withBlames clocksInOrder lockGood statementGood
+  unfolding blamed withTables withBlames withLog
   blamed-formed m a h =
       let w = view-within (s .settings) v a in
-      record {
-        settings = f .settings;
-        view = f .view;
-        clocks = f .clocks;
-        lock = f .lock;
-        tables = f .tables;
-        blames = blames-set (s .settings) (s .blames) v (joined (blamesOf v s) m) (w .0) (joined-lt (s .settings .n) (blamesOf v s) m blamesOf-mask h) (f .blames);
-      }
+      recorded f (s .statements) (s .tallies) _ (s .log) (f .tables)
+      (blames-set (s .settings) (s .blames) v (joined (blamesOf v s) m) (w .0) (joined-lt (s .settings .n) (blamesOf v s) m blamesOf-mask h) (f .blames))

@@ -10,7 +10,7 @@ use lib.ListN.{length}
 use Rattle.rules.specs.Lists.{unbe}
 use Rattle.rules.specs.Sizes.{Settings}
 use Rattle.rules.specs.Messages.{Message, newView, propose, vote, blame, blameSet, status, InWidth, Fitting, field, width, rowOf, tagsOf, kind, values, writes, write, read, allowed}
-use Rattle.rules.proofs.Bytes.{Bytes, one, pow-pos}
+use Rattle.rules.proofs.Bytes.{Bytes, one, bytes-split, pow-pos}
 use Rattle.rules.proofs.Written.{write-eq, writes-cons}
 use Rattle.rules.proofs.ReadBack.{write-read}
 use Rattle.rules.proofs.Allowed.{Sizes, leader-lt, mask-small, view-within, height-le, mask-parts, certificate-mask, certificate-view, allowed-rights}
@@ -77,10 +77,6 @@ named (blameSet v m) f = tt
 named (status h b c m) f = f .1 .0
 
 -- ---- what was read
-
-bytes-split : (s : List ℕ) {r : List ℕ} → Bytes (s ++ r) → Bytes s × Bytes r
-bytes-split [] h = (Bytes.none, h)
-bytes-split (x ∷ s) (one h hs) = let k = bytes-split s hs in (one h (k .0), k .1)
 
 -- a number whose digits are bytes is below the limit of its width
 unbe-lt : (w v : ℕ) → 1 ≤ w → Bytes (unbe w v) → v < 256 ^ w

@@ -9,8 +9,8 @@ use lib.Dec.{eqb}
 use Rattle.rules.specs.Lists.{any, all, alter}
 use Rattle.rules.specs.Sizes.{only}
 use Rattle.rules.specs.Words.{Statement, message, sameStatement, Certificate, Tally, certificateOf, opened, ofBlock, ownBlock, certificate, sameBlock, join, joinCertificate, State}
-use Rattle.rules.specs.Inputs.{withTables, noted, votedFor, certificateJoined, stored, isBlock}
-use Rattle.rules.specs.WellFormed.{clocksInOrder, lockGood, statementGood, talliesThere, linked}
+use Rattle.rules.specs.Inputs.{withTables, withBlames, withLog, noted, votedFor, certificateJoined, stored, isBlock}
+use Rattle.rules.specs.WellFormed.{statementGood, talliesThere, linked}
 use Rattle.rules.proofs.Tests.{by-bool}
 use Rattle.rules.proofs.Truths.{and-2, both, or-2, or-left, or-right}
 use Rattle.rules.proofs.Searches.{any-alter}
@@ -19,6 +19,7 @@ use Rattle.rules.proofs.Allowed.{sizes, none-lt, only-lt}
 use Rattle.kept.specs.Parts.{Tables, Formed}
 use Rattle.kept.specs.Said.{Sendable}
 use Rattle.kept.proofs.Lists.{all-last, all-weaken, all-alter, any-append, distinct-append, distinct-alter}
+use Rattle.kept.proofs.Recorded.{recorded}
 use Rattle.kept.proofs.Tallies.{Joinable, block-self, join-good, join-any, join-there, join-distinct, certificate-good, certificate-any, certificate-there, certificate-distinct}
 use Rattle.kept.proofs.Statements.{stated, own-good, new-good, noted-good, noted-left, noted-right, noted-there}
 
@@ -63,8 +64,8 @@ new-there x us =
 
 module _ {s : State} (f : Formed s) where
   tabled : (xs : List Statement) (ts : List Tally) → Tables (statementGood s) (s .settings) xs ts (s .log) → Formed (withTables xs ts s)
-  unfolding withTables clocksInOrder lockGood statementGood
-  tabled xs ts t = record { settings = f .settings; view = f .view; clocks = f .clocks; lock = f .lock; tables = t; blames = f .blames }
+  unfolding withTables withBlames withLog
+  tabled xs ts t = recorded f xs ts (s .blames) (s .log) t (f .blames)
 
   pub tallied-formed : (t : Certificate) → Joinable (s .settings) t → Formed (withTables (s .statements) (joinCertificate t (s .tallies)) s)
   tallied-formed t j =

@@ -10,10 +10,12 @@ pub mod Statements
 pub mod Tallies
 pub mod Allowed
 pub mod Offers
+pub mod Answers
 pub mod Moves
 pub mod Kept
 pub mod Orderly
 pub mod Held
+pub mod Views
 pub mod Votes
 pub mod Locks
 pub mod Proper
