@@ -35,6 +35,10 @@
 #define STATION_STORE_LENGTH_LARGE 100932
 #define STATION_OUT_LENGTH_LARGE 131072
 
+/* Where the log's names begin in a store, 32 bytes each, from height 1 on; bytes 66 and 67 say how many there are. */
+#define STATION_LOG 21124
+#define STATION_LOG_LARGE 84548
+
 #define STATION_REFUSAL(result) ((uint32_t)((uint64_t)(result) >> 32))
 #define STATION_COUNT(result) ((uint32_t)(result))
 

@@ -6,13 +6,13 @@
 
 struct row {
     const char *name;
-    size_t store, out; /* the exact length of a store, the least of an out buffer */
+    size_t store, out, log; /* the exact length of a store, the least of an out buffer, where the log begins */
     uint32_t views, statements, tallies;
 };
 
 static const struct row rows[] = {
-    { "small", STATION_STORE_LENGTH, STATION_OUT_LENGTH, 32, 128, 256 },
-    { "large", STATION_STORE_LENGTH_LARGE, STATION_OUT_LENGTH_LARGE, 256, 512, 1024 },
+    { "small", STATION_STORE_LENGTH, STATION_OUT_LENGTH, STATION_LOG, 32, 128, 256 },
+    { "large", STATION_STORE_LENGTH_LARGE, STATION_OUT_LENGTH_LARGE, STATION_LOG_LARGE, 256, 512, 1024 },
 };
 
 enum { ROWS = sizeof rows / sizeof rows[0] };

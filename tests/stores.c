@@ -75,7 +75,7 @@ static void build(void)
     blames = tallies + TALLY * row->tallies;
     names = blames + MASK * row->views;
     memset(store, 0x5a, sizeof store);
-    if (station_fresh(store, row->store, 3, 2, 2) != 0 || names + NAME * row->statements != row->store)
+    if (station_fresh(store, row->store, 3, 2, 2) != 0 || names != row->log || names + NAME * row->statements != row->store)
         failed++;
     put(16, 4, 9);
     statement(0, 1, 1, 77, 2, 1, 3, 0, 3);

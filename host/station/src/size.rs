@@ -99,6 +99,7 @@ mod tests {
         for (size, large) in [(Size::Small, ""), (Size::Large, "_LARGE")] {
             assert_eq!(size.store_length(), in_header(&format!("STATION_STORE_LENGTH{large}")));
             assert_eq!(size.out_length(), in_header(&format!("STATION_OUT_LENGTH{large}")));
+            assert_eq!(size.log_at(), in_header(&format!("STATION_LOG{large}")));
             assert_eq!(Size::of_store(size.store_length()), Some(size));
             assert_eq!(Size::of_store(size.store_length() - 1), None);
         }
