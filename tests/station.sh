@@ -3,7 +3,7 @@
 # recorded runs replayed, also on damaged stores.
 set -euo pipefail
 cd "$(dirname "$0")/.."
-tools/archive station >/dev/null
+tools/archive >/dev/null
 mkdir -p target/tests
 for test in calls stores replay; do
     cc -std=c11 -O2 -Wall -Wextra -Werror -o "target/tests/$test" "tests/$test.c" target/archive/libstation.a
