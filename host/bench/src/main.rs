@@ -5,6 +5,7 @@ mod script;
 
 use measure::{PARTS, Round, SIZE, Settings};
 use script::{Input, Kind};
+use std::process::Command;
 
 const D: u32 = 2;
 
@@ -41,12 +42,13 @@ fn main() {
     }
 }
 
-/// The processor's name.
+/// The processor's name, as `lscpu` has it.
 fn machine() -> String {
-    let about = std::fs::read_to_string("/proc/cpuinfo").unwrap_or_default();
-    let name = about.lines().find_map(|line| line.strip_prefix("model name"));
-    let name = name.map_or("unknown", |name| name.trim_start_matches([' ', '\t', ':']));
-    format!("{name}, {}", std::env::consts::ARCH)
+    let about = Command::new("lscpu").env("LC_ALL", "C").output();
+    let about = about.map(|said| String::from_utf8_lossy(&said.stdout).into_owned());
+    let about = about.unwrap_or_default();
+    let name = about.lines().find_map(|line| line.strip_prefix("Model name:"));
+    format!("{}, {}", name.map_or("unknown", str::trim), std::env::consts::ARCH)
 }
 
 /// The middle value, and the quarters around it.
