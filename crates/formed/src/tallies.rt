@@ -15,6 +15,7 @@ ghost use Rattle.formed.specs.Lent.{Counts, Marked, Place, bare, AllCert
 use super::marks;
 use allowed::clauses;
 use settings::Settings;
+use store::Found;
 use store::TALLY_SIZE;
 use store::Tally;
 use wire::Statement;
@@ -52,15 +53,9 @@ fn seek(store: &[u8], from: usize, end: usize, block: Certificate) -> usize
     requires { ⌜ (length (now store) ≡ storeLength (sizeIn (now store))) × (end ≤ mostTallies (sizeIn (now store))) ⌝ }
     ensures { λ r. ⌜ Place end (any (ofBlock (blockOf block)) (rows (tallyAt (now (store .entry))) from (end - from))) r ⌝ }
 {
-    let mut i = from;
-    loop {
-        if end <= i {
-            break end;
-        }
-        if store::is_tally(store, i, block) {
-            break i;
-        }
-        i += 1;
+    match store::seek_tally(store, from, end, block) {
+        Found::At(i) => i,
+        Found::Nothing => end,
     }
 }
 

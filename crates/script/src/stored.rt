@@ -3,7 +3,7 @@ ghost use mathlib.Core.Path.{_≡_};
 ghost use lib.ListN.{length};
 ghost use Prim.Native.Nat.{_^_, _<_};
 ghost use Rattle.rules.specs.Limits.{mostStatements};
-ghost use Rattle.store.specs.Layout.{sizeIn};
+ghost use Rattle.store.specs.Layout.{smallLength, sizeIn};
 use crate::show;
 use crate::words;
 use page::Page;
@@ -17,7 +17,7 @@ pub type Store = [u8; store::LENGTH];
 
 // A store of zeros, which is none that is well formed. The contract gives only the length.
 pub fn no_store() -> Store
-    ensures { λ r. ⌜ 25220 ≡ length r ⌝ }
+    ensures { λ r. ⌜ smallLength ≡ length r ⌝ }
 {
     [0; store::LENGTH]
 }

@@ -47,7 +47,7 @@ module _ {A : Type 0} (p : A → Bool) where
   Tells f i n Nothing = (any p (rows f i n) ≡ false) × (first p (rows f i n) ≡ none)
   Tells f i n (At j) = (i ≤ j) × (j < i + n) × (p (f j) ≡ true) × (any p (rows f i n) ≡ true) × (first p (rows f i n) ≡ some (f j))
 
-  tells : (f : ℕ → A) (i n : ℕ) → Tells f i n (firstFrom p i (rows f i n))
+  pub tells : (f : ℕ → A) (i n : ℕ) → Tells f i n (firstFrom p i (rows f i n))
   unfolding firstFrom rows any first
   tells f i zero = (refl, refl)
   tells f i (suc n) = go (p (f i)) (firstFrom p (suc i) (rows f (suc i) n)) refl (tells f (suc i) n)

@@ -4,7 +4,7 @@ use mathlib.Core.Bool.{true, false}
 use mathlib.Core.List.{List, [], _∷_}
 use lib.ListN.{length}
 use lib.Dec.{eqb}
-use Rattle.rules.specs.Limits.{Size, small, large, lastView, mostStatements, mostTallies}
+use Rattle.rules.specs.Limits.{Size, small, large, lastViewSmall, lastView, mostStatementsSmall, mostStatements, mostTalliesSmall, mostTallies}
 use Rattle.fields.specs.Places.{number}
 use Rattle.fields.specs.Records.{Format}
 
@@ -76,6 +76,10 @@ logTable = record { base = λ z. blameBase z + sizeOf maskFormat * lastView z; s
 
 abbrev pub storeLength : Size → ℕ
 storeLength z = endOf logTable z
+
+-- the same for the small limits, as a number
+abbrev pub smallLength : ℕ
+smallLength = headerSize + (statementSize + sizeOf nameFormat) * mostStatementsSmall + tallySize * mostTalliesSmall + sizeOf maskFormat * lastViewSmall
 
 -- the limits that a store is made for: its length says which
 unfoldable pub sizeIn : List ℕ → Size

@@ -1,6 +1,6 @@
 // The lent store: one byte slice of one exact length, the bytes of a well-formed state in one way only.
 ghost use mathlib.Core.Path.{_≡_};
-ghost use Prim.Native.Nat.{_+_, _*_, _^_, _≤_, _<_};
+ghost use Prim.Native.Nat.{_+_, _-_, _*_, _^_, _≤_, _<_};
 ghost use mathlib.Core.Bool.{_&&_};
 ghost use mathlib.Core.Option.{none};
 ghost use lib.ListN.{length};
@@ -16,7 +16,7 @@ ghost use Rattle.settings.specs.Made.{sizeFrom, settingsOf};
 ghost use Rattle.wire.specs.Meaning.{statementOf};
 ghost use Rattle.words.specs.Meaning.{blockOf};
 ghost use Rattle.store.specs.Layout.{headerFormat, statementFormat, certificateFormat, headerSize, statementSize, certificateSize, tallySize, statementTable, tallyTable, logTable, blameBase, storeLength, sizeIn, countOf, placeOf};
-ghost use Rattle.store.specs.Decode.{phaseOf, phaseNumber, kindNumber, statementValues, certificateFrom, certificateValues, statementAt, tallyAt, blameAt, nameAt, kindAt, voteAt, statements, tallies, stateOf, headerValues, Form, Left};
+ghost use Rattle.store.specs.Decode.{phaseOf, phaseNumber, kindNumber, statementValues, certificateFrom, certificateValues, statementAt, tallyAt, blameAt, nameAt, kindAt, voteAt, rows, statements, tallies, stateOf, headerValues, Form, Left};
 ghost use Rattle.store.specs.Meaning.{courseOf, tallyOf, votersOf, Numbered, headerOf, Loads};
 ghost use Rattle.store.specs.Fresh.{answer, freshly};
 ghost use Rattle.store.specs.Changes.{firstFrom, blockAt, withVoters, growing, opening, joining, Joined, certifying, storing, noting, appending};
@@ -473,17 +473,23 @@ fn is_block(store: &[u8], at: usize, key: u64, name: Name) -> bool
     name.same(fields::get_name(store, at + NAME))
 }
 
-// Whether tally i is of this block.
-pub fn is_tally(store: &[u8], i: usize, block: Certificate) -> bool
-    requires { ⌜ (length (now store) ≡ storeLength (sizeIn (now store))) × (i < mostTallies (sizeIn (now store))) ⌝ }
-    ensures { λ r. ⌜ r ≡ ofBlock (blockOf block) (tallyAt (now (store .entry)) i) ⌝ }
+// The place of the first tally of this block, from one place up to another. Where the tallies begin is asked once.
+pub fn seek_tally(store: &[u8], from: usize, end: usize, block: Certificate) -> Found
+    requires { ⌜ (length (now store) ≡ storeLength (sizeIn (now store))) × (end ≤ mostTallies (sizeIn (now store))) ⌝ }
+    ensures { λ r. ⌜ r ≡ firstFrom (ofBlock (blockOf block)) from (rows (tallyAt (now (store .entry))) from (end - from)) ⌝ }
 {
-    is_block(
-        store,
-        tally_place(store, i),
-        key_of(block.view, block.height),
-        block.name,
-    )
+    let base = tallies_in(store);
+    let key = key_of(block.view, block.height);
+    let mut i = from;
+    loop {
+        if end <= i {
+            break Found::Nothing;
+        }
+        if is_block(store, base + TALLY_SIZE * i, key, block.name) {
+            break Found::At(i);
+        }
+        i += 1;
+    }
 }
 
 // The place of the first tally of this block.
@@ -492,16 +498,7 @@ pub fn find_tally(store: &[u8], block: Certificate) -> Found
     ensures { λ r. ⌜ r ≡ blockAt (blockOf block) (tallies (now (store .entry))) ⌝ }
 {
     let count = get_count(store, TALLY_COUNT);
-    let mut i: usize = 0;
-    loop {
-        if count <= i {
-            break Found::Nothing;
-        }
-        if is_tally(store, i, block) {
-            break Found::At(i);
-        }
-        i += 1;
-    }
+    seek_tally(store, 0, count, block)
 }
 
 // Whether statement i is the same as this one, but for the mask.
