@@ -48,7 +48,8 @@ pub fn reason(page: &mut Page, at: usize, refusal: u64) -> usize {
         ),
         8 => page::say(page, at, b" tick at clock 4,000,000,000\n"),
         9 => page::say(page, at, b" offer not to be taken\n"),
-        _ => page::say(page, at, b" bad settings for a fresh store\n"),
+        10 => page::say(page, at, b" bad settings for a fresh store\n"),
+        _ => page::say(page, at, b"\n"),
     }
 }
 

@@ -3,7 +3,7 @@ ghost use mathlib.Core.Path.{_≡_};
 ghost use Prim.Native.Nat.{_<_, _^_};
 ghost use Rattle.rules.specs.Limits.{maskBits, lastView, mostStatements, mostTallies, leastOut};
 ghost use Rattle.rules.specs.Sizes.{leader, quorum, only};
-ghost use Rattle.settings.specs.Made.{made, sizeFrom, settingsOf, tied};
+ghost use Rattle.settings.specs.Made.{made, sizeFrom, settingsOf};
 
 // Which limits a group goes by.
 pub enum Size {
@@ -21,21 +21,6 @@ pub struct Settings {
 pub enum Made {
     Good(Settings),
     Bad,
-}
-
-// Every limit, as the definitions have them.
-pub struct Limits {
-    pub least_stations: u64,
-    pub most_stations: u64,
-    pub least_delay: u64,
-    pub most_delay: u64,
-    pub first_view: u64,
-    pub last_view: u64,
-    pub last_height: u64,
-    pub most_statements: usize,
-    pub most_tallies: usize,
-    pub last_clock: u64,
-    pub least_out: usize,
 }
 
 impl Settings {
@@ -97,25 +82,6 @@ impl Settings {
             own,
             size,
         })
-    }
-
-    // The limits that code reads are those of the definitions.
-    pub fn limits(size: Size) -> Limits
-        ensures { λ r. ⌜ r ≡ tied size ⌝ }
-    {
-        Limits {
-            least_stations: Settings::LEAST_STATIONS,
-            most_stations: Settings::MOST_STATIONS,
-            least_delay: Settings::LEAST_DELAY,
-            most_delay: Settings::MOST_DELAY,
-            first_view: Settings::FIRST_VIEW,
-            last_view: size.last_view(),
-            last_height: Settings::LAST_HEIGHT,
-            most_statements: size.most_statements(),
-            most_tallies: size.most_tallies(),
-            last_clock: Settings::LAST_CLOCK,
-            least_out: size.least_out(),
-        }
     }
 
     // The last view of the group.

@@ -1,4 +1,4 @@
-// The lent store: one byte slice of one exact length, the bytes of a well-formed state in one way only.
+// The lent store: one byte slice whose exact length tells its limits, the bytes of a well-formed state in one way only.
 ghost use mathlib.Core.Path.{_≡_};
 ghost use Prim.Native.Nat.{_+_, _-_, _*_, _^_, _≤_, _<_};
 ghost use mathlib.Core.Bool.{_&&_};
