@@ -35,7 +35,7 @@ use Rattle.agreement.proofs.Extends.{Extends, extends}
 
 pub event-log : (i : ℕ) (e : Event) (s : State) → IsCommon e → running (happens i e s .next) ≡ true
     → (begun e s .log ≡ s .log)
-    ⊎ ((e ≡ commonTick) × (begun e s .log ≡ logAfter s) × (commits (counted s .statements) (due (counted s)) (counted s .log) ≡ some (logAfter s)))
+    ⊎ ((e ≡ commonTick) × (begun e s .log ≡ logAfter s) × (dueCommits s ≡ some (logAfter s)))
 unfolding happens begun withLog
 event-log i idle s c r = inl refl
 event-log i commonTick s c r = inr (refl, refl, tick-moves (Brings i commonTick s) s r .0)
@@ -44,9 +44,9 @@ event-log i (given j bs) s c r = inl refl
 event-log i (offeredTo j b) s c r = inl refl
 
 event-tick : (i : ℕ) (e : Event) (s : State) → e ≡ commonTick → running (happens i e s .next) ≡ true
-    → (begun e s .log ≡ logAfter s) × (commits (counted s .statements) (due (counted s)) (counted s .log) ≡ some (logAfter s))
+    → (begun e s .log ≡ logAfter s) × (dueCommits s ≡ some (logAfter s))
 event-tick i e s q =
-    subst (λ (y : Event). running (happens i y s .next) ≡ true → (begun y s .log ≡ logAfter s) × (commits (counted s .statements) (due (counted s)) (counted s .log) ≡ some (logAfter s))) (sym q)
+    subst (λ (y : Event). running (happens i y s .next) ≡ true → (begun y s .log ≡ logAfter s) × (dueCommits s ≡ some (logAfter s))) (sym q)
     (λ r. unfold happens begun withLog in (refl, tick-moves (Brings i commonTick s) s r .0))
 
 -- a tick changes no statement and no log by counting
@@ -135,7 +135,7 @@ module _ (X : Group) where
 
   -- a common tick leaves the log that its commits make
   pub tick-log : (i : ℕ) → Ok X i → (k : ℕ) → event k ≡ commonTick
-      → (st X i (suc k) .log ≡ logAfter (st X i k)) × (commits (counted (st X i k) .statements) (due (counted (st X i k))) (counted (st X i k) .log) ≡ some (logAfter (st X i k)))
+      → (st X i (suc k) .log ≡ logAfter (st X i k)) × (dueCommits (st X i k) ≡ some (logAfter (st X i k)))
   unfolding at
   tick-log i ok k e =
       let same = moves-fixed (moves-of X i ok k .2) .2 in
@@ -173,7 +173,7 @@ module _ (X : Group) where
 
       go : st X i (suc k) .log ≡ begun (event k) (st X i k) .log → (st X i k .log ≡ []) ⊎ RipeLog i (st X i k .log)
           → (begun (event k) (st X i k) .log ≡ st X i k .log)
-          ⊎ ((event k ≡ commonTick) × (begun (event k) (st X i k) .log ≡ logAfter (st X i k)) × (commits (counted (st X i k) .statements) (due (counted (st X i k))) (counted (st X i k) .log) ≡ some (logAfter (st X i k))))
+          ⊎ ((event k ≡ commonTick) × (begun (event k) (st X i k) .log ≡ logAfter (st X i k)) × (dueCommits (st X i k) ≡ some (logAfter (st X i k))))
           → (st X i (suc k) .log ≡ []) ⊎ RipeLog i (st X i (suc k) .log)
       go e h (inl q) = keeps (st X i k .log) _ (e ∙ q) h
       go e h (inr (f, q, c)) = now (e ∙ q) f h (commits-some _ _ _ _ c .from)
