@@ -28,8 +28,11 @@ module _ (event : ℕ → Event) where
         | no d ↦ (let r = clock-mono l k (omega arith) in absurd (omega arith))
       ]
 
-  -- the last moment of a clock: there a common tick is next
-  pub last-of : ((k : ℕ) → IsCommon (event k)) → (c k : ℕ) → c < clock event 0 k → (l : ℕ) × (l < k) × (clock event 0 l ≡ c) × (clock event 0 (suc l) ≡ c + 1) × (event l ≡ commonTick)
+  -- the last moment of a clock, before k: there a common tick is next
+  abbrev pub LastOf : (c k : ℕ) → Type 0
+  LastOf c k = (l : ℕ) × (l < k) × (clock event 0 l ≡ c) × (clock event 0 (suc l) ≡ c + 1) × (event l ≡ commonTick)
+
+  pub last-of : ((k : ℕ) → IsCommon (event k)) → (c k : ℕ) → c < clock event 0 k → LastOf c k
   unfolding clock
   last-of cm c zero h = absurd (omega arith)
   last-of cm c (suc k) h =
@@ -38,7 +41,7 @@ module _ (event : ℕ → Event) where
         | no d ↦ go d (ticks-two (event k) (cm k))
       ]
     where
-      go : ¬ (c < clock event 0 k) → (ticks 0 (event k) ≡ 0) ⊎ ((ticks 0 (event k) ≡ 1) × (event k ≡ commonTick)) → (l : ℕ) × (l < suc k) × (clock event 0 l ≡ c) × (clock event 0 (suc l) ≡ c + 1) × (event l ≡ commonTick)
+      go : ¬ (c < clock event 0 k) → (ticks 0 (event k) ≡ 0) ⊎ ((ticks 0 (event k) ≡ 1) × (event k ≡ commonTick)) → LastOf c (suc k)
       go d (inl t) = absurd (omega arith)
       go d (inr (t, e)) = (k, omega arith, omega arith, omega arith, e)
 

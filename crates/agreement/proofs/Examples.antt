@@ -2,15 +2,14 @@
 -- holding, they fail. Assumes nothing.
 use mathlib.Core.Path.{_≡_, subst₂, refl}
 use Prim.Native.Nat.{ℕ, suc, _+_, _*_}
-use mathlib.Core.List.{List, [], _∷_, IsPrefix, List·Memᴰ·head, List·Memᴰ·tail}
-use mathlib.Core.Logic.{_⊎_}
+use mathlib.Core.List.{List, [], _∷_, List·Memᴰ·head, List·Memᴰ·tail}
 use mathlib.Core.Option.{none}
 use Rattle.rules.specs.Limits.{small}
 use Rattle.rules.specs.Messages.{propose, vote, toAll}
 use Rattle.rules.specs.Words.{inView}
 use Rattle.rules.specs.Inputs.{merge}
 use Rattle.rules.proofs.Commits.{begins-merge}
-use Rattle.agreement.specs.Schedule.{Event, ticks, at, out, clock, run, Says, Schedule}
+use Rattle.agreement.specs.Schedule.{Event, ticks, at, out, clock, run, Says, Schedule, OneBegins}
 use Rattle.agreement.specs.Checks.{fewFaulty, commonTicks, inTime, noForgery, oneName, premises, other, AllBut, listed, verdict}
 use Rattle.agreement.specs.Examples.{twoViews, heldBack, forgedVotes, manyFaulty, twoParents, ownTicks, heightOf, parentOf, rivalHeight, rivalParent}
 use Rattle.agreement.proofs.Checked.{all-but, schedule-checked}
@@ -31,10 +30,10 @@ two-views-logs = (refl, refl, refl)
 -- of the logs of stations i and j at moment k neither begins the other
 abbrev Differ : List Event → (i j k : ℕ) → Type 0
 Differ es i j k =
-    ¬ (IsPrefix (at small 3 1 (listed es) i k .log) (at small 3 1 (listed es) j k .log) ⊎ IsPrefix (at small 3 1 (listed es) j k .log) (at small 3 1 (listed es) i k .log))
+    ¬ (OneBegins (at small 3 1 (listed es) i k .log) (at small 3 1 (listed es) j k .log))
 
-differ : (x y a b : List ℕ) → x ≡ a → y ≡ b → merge a b ≡ none → ¬ (IsPrefix x y ⊎ IsPrefix y x)
-differ x y a b p q m o = begins-merge a b (subst₂ (λ (u v : List ℕ). IsPrefix u v ⊎ IsPrefix v u) p q o) m
+differ : (x y a b : List ℕ) → x ≡ a → y ≡ b → merge a b ≡ none → ¬ (OneBegins x y)
+differ x y a b p q m o = begins-merge a b (subst₂ (λ (u v : List ℕ). OneBegins u v) p q o) m
 
 held-back-logs : (at small 3 1 (listed heldBack) 0 7 .log ≡ 77 ∷ []) × (at small 3 1 (listed heldBack) 2 7 .log ≡ 78 ∷ [])
 unfolding at listed heldBack

@@ -32,6 +32,19 @@ use Rattle.agreement.proofs.Whole.{settings-alike, formed-at, sent-allo
 use Rattle.agreement.proofs.Clock.{clock-suc, clock-mono, clock-before}
 use Rattle.agreement.proofs.Events.{GivenBy, OfferedBy, Brings, begun, before, event-moves, begun-clock, begun-same, begun-kept, begun-orderly, begun-proper, before-all, mem-after, event-settled, ticks-two, happens-given}
 
+module _ (R : Run) (faulty : ℕ) where
+  -- what a sound station sent a sound one is handed over after that, and before the tick D + 1 later
+  abbrev pub Reaches : (next : ℕ → ℕ) → Type 0
+  Reaches next =
+      (i j : ℕ) → Sound R faulty i → Sound R faulty j → (l k : ℕ) (m : Message) → Sends R i j l m
+      → clock (R .event) 0 (suc l) + R .D + 1 ≤ next k → (h : ℕ) × (l < h) × (h < k) × (R .event h ≡ given j (write m))
+
+  -- and is taken: where it is at most one view ahead of the receiver, the answer is 0
+  abbrev pub Takes : Type 0
+  Takes =
+      (i j : ℕ) → Sound R faulty i → Sound R faulty j → (l h : ℕ) (m : Message) → Sends R i j l m → l < h → R .event h ≡ given j (write m)
+      → viewOf m ≤ R .state j h .view + 1 → happens j (R .event h) (R .state j h) .number ≡ 0
+
 pub record Group : Type 0 where
   pub size : Size
   pub n : ℕ
@@ -47,12 +60,8 @@ pub record Group : Type 0 where
   pub soon : (k : ℕ) → clock event 0 (suc k) ≤ next k
   pub late : (k : ℕ) → next k ≤ clock event 0 k + 1
   pub lent : (k : ℕ) → IsLent (event k)
-  -- what a sound station sent a sound one is handed over after that and before the tick D + 1 later
-  pub reaches : (i j : ℕ) → Sound (run size n D event) faulty i → Sound (run size n D event) faulty j → (l k : ℕ) (m : Message) → Sends (run size n D event) i j l m
-      → clock event 0 (suc l) + D + 1 ≤ next k → (h : ℕ) × (l < h) × (h < k) × (event h ≡ given j (write m))
-  -- and is taken: of no message at most one view ahead of the receiver is the answer a refusal
-  pub takes : (i j : ℕ) → Sound (run size n D event) faulty i → Sound (run size n D event) faulty j → (l h : ℕ) (m : Message) → Sends (run size n D event) i j l m
-      → l < h → event h ≡ given j (write m) → viewOf m ≤ at size n D event j h .view + 1 → happens j (event h) (at size n D event j h) .number ≡ 0
+  pub reaches : Reaches (run size n D event) faulty next
+  pub takes : Takes (run size n D event) faulty
   pub voters : (k j : ℕ) (m : Message) → Hands (run size n D event) faulty k j m → (t : Certificate) → carried m ≡ some t → (i : ℕ) → Sound (run size n D event) faulty i → bit (t .mask) i ≡ 1
       → (l : ℕ) × (l < k) × Says (run size n D event) i l (toAll (vote (t .view) (t .height) (t .name) i))
   pub parents : (k j : ℕ) (m : Message) → Hands (run size n D event) faulty k j m ⊎ Offers (run size n D event) faulty k j m → Parented parentOf m
@@ -161,7 +170,9 @@ module _ (X : Group) where
       go c1 c2 f (inl e) (inr (t, _)) =
           let v = kept-one i h k .view in
           let b = f (sym (begun-same (event k) (st i k) .1) ∙ e) (omega arith) in
-          let w = settled-waits (st i (suc k)) q (event-settled i (event k) (st i k) (X .common k) t (X .runs i h (suc k))) p (subst (λ (g : Settings). st i (suc k) .view < lastView (g .size)) (sym (at-settings i h (suc k))) l) in
+          let settled = event-settled i (event k) (st i k) (X .common k) t (X .runs i h (suc k)) in
+          let below = subst (λ (g : Settings). st i (suc k) .view < lastView (g .size)) (sym (at-settings i h (suc k))) l in
+          let w = settled-waits (st i (suc k)) q settled p below in
           let d : st i (suc k) .settings .D ≡ D = ap (λ (g : Settings). g .D) (at-settings i h (suc k)) in
           let u : ¬ (ck (suc k) ≡ q + D + 1) = λ z. w (rw d (c2 ∙ z)) in
           omega arith

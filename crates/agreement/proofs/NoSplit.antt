@@ -9,7 +9,6 @@ use mathlib.Core.Option.{none}
 use lib.Dec.{ltb, eqb}
 use borrow.Author.Tests.{lt-ltb}
 use Rattle.rules.specs.Limits.{Size}
-use Rattle.rules.specs.Messages.{Message, write}
 use Rattle.rules.specs.Words.{full, split, clock as late, Phase, inView, waiting, stopped, State, fresh}
 use Rattle.rules.specs.Inputs.{saying}
 use Rattle.rules.specs.Refusals.{done, running}
@@ -17,7 +16,7 @@ use Rattle.rules.proofs.Tests.{by-bool, no-bool}
 use Rattle.rules.proofs.Splits.{Split, dueCommits, step-split, offer-split, tick-split}
 use Rattle.agreement.specs.Schedule.{Event, idle, commonTick, tickOf, given, offeredTo, happens, ticks, IsCommon, until, at, clock, Sound, NeverFull, SoundRun, RunsTo, Sends, Premises, Run, run}
 use Rattle.agreement.proofs.Clock.{clock-suc, one-tick}
-use Rattle.agreement.proofs.Group.{Group}
+use Rattle.agreement.proofs.Group.{Reaches, Group}
 use Rattle.agreement.proofs.Logs.{commits-agree}
 use Rattle.agreement.proofs.Needed.{delivered, group-of}
 use Rattle.agreement.proofs.Until.{not-lt, until-before, at-until, at-after, clock-until, clock-after, sends-back, premises-until}
@@ -88,8 +87,7 @@ module _ (size : Size) (n D : ℕ) (event : ℕ → Event) (faulty : ℕ) (heigh
         ]
 
     -- a delivery that is due by the next tick of the whole schedule came before k
-    cut-reaches : (i j : ℕ) → Sound Q faulty i → Sound Q faulty j → (l q : ℕ) (m : Message) → Sends Q i j l m
-        → clock E 0 (suc l) + D + 1 ≤ next k C q → (h : ℕ) × (l < h) × (h < q) × (E h ≡ given j (write m))
+    cut-reaches : Reaches Q faulty (next k C)
     cut-reaches i j hi hj l q m s d =
         let (u, s′) = sends-back size n D event k faulty i j l m s in
         let c = clock-until size n D event k 0 (suc l) u in
@@ -97,11 +95,11 @@ module _ (size : Size) (n D : ℕ) (event : ℕ → Event) (faulty : ℕ) (heigh
         elim (decLt q k) [
           | yes y ↦ (
               let f = next-before k C q y in
-              let (h, o, a, e) = delivered size n D event faulty heightOf parentOf P i j hi hj l q m s′ (omega arith) in
+              let (h, o, a, e) = delivered size n D event faulty (P .common) (P .inTime) i j hi hj l q m s′ (omega arith) in
               (h, o, a, until-before k event h (omega arith) ∙ e))
           | no y ↦ (
               let f = next-after k C q (omega arith) in
-              let (h, o, a, e) = delivered size n D event faulty heightOf parentOf P i j hi hj l k m s′ (omega arith) in
+              let (h, o, a, e) = delivered size n D event faulty (P .common) (P .inTime) i j hi hj l k m s′ (omega arith) in
               (h, o, omega arith, until-before k event h a ∙ e))
         ]
 

@@ -110,7 +110,11 @@ module _ (X : Group) where
           | no y ↦ omega arith
         ] in
         let p : st X s k .phase ≡ inView =
-        by-phase (st X s k) (X .runs s hs k) (λ p. p) (λ q p. let g = quit-of s hs k q p in let b = g .0 in let z = late q (subst (λ (w : ℕ). Told (SaidAt X s) (G X s) q w) v (g .1)) in absurd (omega arith)) in
+        by-phase (st X s k) (X .runs s hs k) (λ p. p)
+        (λ q p.
+        let (b, told) = quit-of s hs k q p in
+        let z = late q (subst (λ (w : ℕ). Told (SaidAt X s) (G X s) q w) v told) in
+        absurd (omega arith)) in
         let (y, e, m, w) = R .sent in
         let a : In (st X s k .statements) x = in-cong x y e (st X s k .statements) ∙ held-stored (G X s) (st X s k) y (reach X r s (R .ok) hs (message y) t k m (omega arith)) in
         record { view = v; phase = p; has = a; voted = cast-of s hs k (t + D) p a (sym v) (le-of-eq c1) }
@@ -127,8 +131,13 @@ module _ (X : Group) where
         let w = y .what in
         let sh = shares s hs (l .0) (l .2) (l .3) in
         elim (decLe (suc k) (l .0)) [
-          | yes d ↦ orderly-run X s hs (l .0) .clean (sh .phase) x w (sh .has) (kept-run X s hs (suc k) (l .0) d .has w (moves-kept (c .after) .has w (y .has))) (sym (sh .view))
-          | no d ↦ c .orderly .clean (y .phase) x w (moves-kept (c .before) .has x (begun-kept (event k) (st X s k) .has x (kept-run X s hs (l .0) k (omega arith) .has x (sh .has)))) (y .has) (sym e ∙ sym (y .current))
+          | yes d ↦ (
+              let has = kept-run X s hs (suc k) (l .0) d .has w (moves-kept (c .after) .has w (y .has)) in
+              orderly-run X s hs (l .0) .clean (sh .phase) x w (sh .has) has (sym (sh .view)))
+          | no d ↦ (
+              let still = kept-run X s hs (l .0) k (omega arith) .has x (sh .has) in
+              let has = moves-kept (c .before) .has x (begun-kept (event k) (st X s k) .has x still) in
+              c .orderly .clean (y .phase) x w has (y .has) (sym e ∙ sym (y .current)))
         ]
 
     -- ---- G3d: from the tick to t + 2D + 1 on every sound station has all sound votes for x, and locks at or above it in later views

@@ -214,6 +214,7 @@ module _ (X : Group) where
         let u = counted (st X r k) in
         let same = counted-same (st X r k) .0 in
         let (log, done) = tick-log X r (S .ok) k (S .tick) in
-        let begins = commits-some (u .statements) (due u) (u .log) (logAfter (st X r k)) done .has z (whole .0) (facts-due u z ripe) (subst (λ (y : List Statement). chain y z ≡ some (whole .0)) (sym same) (whole .1)) in
+        let chained = subst (λ (y : List Statement). chain y z ≡ some (whole .0)) (sym same) (whole .1) in
+        let begins = commits-some (u .statements) (due u) (u .log) (logAfter (st X r k)) done .has z (whole .0) (facts-due u z ripe) chained in
         let line = stored-lineage X r (S .ok) k z (whole .0) member (fields .0) (whole .1) .0 in
         subst₂ IsPrefix (line ∙ ap (λ (x : ℕ). lineage parentOf x (z .name)) (fields .2) ∙ ap (lineage parentOf h) (fields .3)) (sym log) begins

@@ -6,13 +6,12 @@ use Prim.Native.Nat.{ℕ, suc, _+_, _*_, _≤_, _<_}
 use native.Mathlib.Omega.{arith}
 use mathlib.Core.Bool.{true}
 use mathlib.Core.List.{List, IsPrefix}
-use mathlib.Core.Logic.{_⊎_}
 use Rattle.rules.specs.Limits.{Size}
 use Rattle.rules.specs.Messages.{propose, vote, Effect, toAll}
 use Rattle.rules.specs.Words.{inView, State}
 use Rattle.rules.specs.Inputs.{reports}
 use Rattle.rules.specs.Refusals.{running}
-use Rattle.agreement.specs.Schedule.{Event, commonTick, until, at, clock, Says, Sound, SoundRun, RunsTo, Schedule, Linked, lineage, reported, Run, run}
+use Rattle.agreement.specs.Schedule.{Event, commonTick, until, at, clock, Says, Sound, SoundRun, RunsTo, Schedule, Linked, lineage, reported, Run, run, OneBegins}
 use Rattle.agreement.proofs.Clock.{clock-alike}
 use Rattle.agreement.proofs.Group.{Group, at-clock}
 use Rattle.agreement.proofs.Logs.{logs-begin, log-linked, log-reported}
@@ -34,7 +33,7 @@ module _ (size : Size) (n D : ℕ) (event : ℕ → Event) (faulty : ℕ) (heigh
 
   -- Theorem A: of the logs of two sound stations, at whatever moments, one begins the other
   pub logs-agree : (i j : ℕ) → Sound R faulty i → Sound R faulty j → (k l : ℕ)
-      → IsPrefix (at size n D event i k .log) (at size n D event j l .log) ⊎ IsPrefix (at size n D event j l .log) (at size n D event i k .log)
+      → OneBegins (at size n D event i k .log) (at size n D event j l .log)
   logs-agree i j hi hj k l = logs-begin group i j hi hj k l
 
   -- a sound log is linked by parent to genesis, and was reported name by name, each once, in order, with heights 1, 2, 3, ..
@@ -69,9 +68,9 @@ module _ (size : Size) (n D : ℕ) (event : ℕ → Event) (faulty : ℕ) (heigh
   sound-run-until i ok k l = subst (λ (s : State). running s ≡ true) (at-until size n D event K i k l) (sound-run size n D (until K event) faulty heightOf parentOf X i ok k)
 
   pub logs-agree-until : (i j : ℕ) → Sound Whole faulty i → Sound Whole faulty j → (k l : ℕ) → k ≤ K → l ≤ K
-      → IsPrefix (at size n D event i k .log) (at size n D event j l .log) ⊎ IsPrefix (at size n D event j l .log) (at size n D event i k .log)
+      → OneBegins (at size n D event i k .log) (at size n D event j l .log)
   logs-agree-until i j hi hj k l u v =
-      subst₂ (λ (s t : State). IsPrefix (s .log) (t .log) ⊎ IsPrefix (t .log) (s .log)) (at-until size n D event K i k u) (at-until size n D event K j l v)
+      subst₂ (λ (s t : State). OneBegins (s .log) (t .log)) (at-until size n D event K i k u) (at-until size n D event K j l v)
       (logs-agree size n D (until K event) faulty heightOf parentOf X i j hi hj k l)
 
   pub one-clerk-until : (i : ℕ) → Sound Whole faulty i → (k : ℕ) → k ≤ K

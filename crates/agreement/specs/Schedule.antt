@@ -3,7 +3,7 @@
 use Prim.Native.Nat.{ℕ, zero, suc, _+_, _-_, _≤_, _<_, _^_}
 use mathlib.Core.Path.{_≡_}
 use mathlib.Core.Bool.{true, false}
-use mathlib.Core.List.{List, [], _∷_, _++_, List·Memᴰ}
+use mathlib.Core.List.{List, [], _∷_, _++_, IsPrefix, List·Memᴰ}
 use mathlib.Core.Logic.{_⊎_}
 use mathlib.Core.Option.{some}
 use lib.Dec.{ltb, eqb}
@@ -240,3 +240,7 @@ module _ (parentOf : ℕ → ℕ) where
   unfoldable pub lineage : ℕ → ℕ → List ℕ
   lineage zero b = []
   lineage (suc h) b = lineage h (parentOf b) ++ b ∷ []
+
+-- of two logs one begins the other
+abbrev pub OneBegins : List ℕ → List ℕ → Type 0
+OneBegins a b = IsPrefix a b ⊎ IsPrefix b a

@@ -6,14 +6,13 @@ use native.Mathlib.Omega.{arith}
 use mathlib.Core.Path.{_≡_, subst, subst₂, refl, sym, ap, ap₂, _∙_}
 use mathlib.Core.Bool.{true}
 use mathlib.Core.List.{List, IsPrefix}
-use mathlib.Core.Logic.{_⊎_}
 use Rattle.rules.specs.Limits.{Size}
 use Rattle.rules.specs.Sizes.{goodSettings}
 use Rattle.rules.specs.Messages.{propose, vote, Effect, toAll}
 use Rattle.rules.specs.Words.{State, inView}
 use Rattle.rules.specs.Inputs.{reports}
 use Rattle.rules.specs.Refusals.{running}
-use Rattle.agreement.specs.Schedule.{Event, commonTick, settingsOf, clock, Run, at, out, run, Says, Sound, GoodSettings, ProperBuffers, SoundRun, Schedule, Linked, lineage, reportsIn, reported}
+use Rattle.agreement.specs.Schedule.{Event, commonTick, settingsOf, clock, Run, at, out, run, Says, Sound, GoodSettings, ProperBuffers, SoundRun, Schedule, Linked, lineage, reportsIn, reported, OneBegins}
 use Rattle.agreement.proofs.Whole.{settings-alike}
 use Rattle.agreement.proofs.Alike.{says-alike, schedule-alike}
 use Rattle.agreement.proofs.Theorems.{sound-run, logs-agree, one-clerk, vote-commits, clock-held}
@@ -88,9 +87,9 @@ module _ (size : Size) (n D : ℕ) (event : ℕ → Event) (room : ℕ → List 
           subst (λ (s : State). running s ≡ true) (sym (states i ok k)) (sound-run size n D event faulty heightOf parentOf (to-rules X) i ok k)
 
       -- Theorem A of the calls: of the logs in the stores of two sound stations, at whatever moments, one begins the other
-      pub stores-agree : (i j : ℕ) → Sound C faulty i → Sound C faulty j → (k l : ℕ) → IsPrefix (log i k) (log j l) ⊎ IsPrefix (log j l) (log i k)
+      pub stores-agree : (i j : ℕ) → Sound C faulty i → Sound C faulty j → (k l : ℕ) → OneBegins (log i k) (log j l)
       stores-agree i j hi hj k l =
-          subst₂ (λ (a b : List ℕ). IsPrefix a b ⊎ IsPrefix b a) (sym (logs i hi k)) (sym (logs j hj l))
+          subst₂ (λ (a b : List ℕ). OneBegins a b) (sym (logs i hi k)) (sym (logs j hj l))
           (logs-agree size n D event faulty heightOf parentOf (to-rules X) i j hi hj k l)
 
       -- each is linked by parent to genesis

@@ -4,13 +4,12 @@ use native.Mathlib.Omega.{arith}
 use mathlib.Core.Path.{_≡_, subst, subst₂, refl, sym, ap, ap₂, _∙_}
 use mathlib.Core.Bool.{true}
 use mathlib.Core.List.{List, IsPrefix, _++_, List·Memᴰ}
-use mathlib.Core.Logic.{_⊎_}
 use Rattle.rules.specs.Limits.{Size}
 use Rattle.rules.specs.Messages.{propose, vote, Effect, toAll}
 use Rattle.rules.specs.Words.{State, inView}
 use Rattle.rules.specs.Inputs.{reports}
 use Rattle.rules.specs.Refusals.{running}
-use Rattle.agreement.specs.Schedule.{Event, commonTick, until, HasRoom, Run, at, out, Says, Sound, RoomTo, RunsTo, Premises, Schedule, Linked, lineage, reportsIn}
+use Rattle.agreement.specs.Schedule.{Event, commonTick, until, HasRoom, Run, at, out, Says, Sound, RoomTo, RunsTo, Premises, Schedule, Linked, lineage, reportsIn, OneBegins}
 use Rattle.agreement.proofs.Alike.{premises-alike}
 use Rattle.agreement.proofs.Until.{until-before, schedule-until}
 use Rattle.store.specs.Decode.{names, stateOf}
@@ -72,9 +71,9 @@ module _ (size : Size) (n D : ℕ) (event : ℕ → Event) (room : ℕ → List 
 
       -- of the logs in the stores of two stations that are sound up to K, at whatever moments up to K, one begins the other
       pub stores-agree-until : (i j : ℕ) → Sound C faulty i → Sound C faulty j → (k l : ℕ) → k ≤ K → l ≤ K
-          → IsPrefix (log i k) (log j l) ⊎ IsPrefix (log j l) (log i k)
+          → OneBegins (log i k) (log j l)
       stores-agree-until i j hi hj k l u v =
-          subst₂ (λ (a b : List ℕ). IsPrefix (names a) (names b) ⊎ IsPrefix (names b) (names a)) (store-until i k u) (store-until j l v)
+          subst₂ (λ (a b : List ℕ). OneBegins (names a) (names b)) (store-until i k u) (store-until j l v)
           (stores-agree size n D E room lent faulty lends-until heightOf parentOf X i j hi hj k l)
 
       pub stores-linked-until : (i : ℕ) → Sound C faulty i → (k : ℕ) → k ≤ K → Linked parentOf 0 (log i k)
