@@ -1,4 +1,4 @@
--- The bound on a tick is reached: a station that waits with 128 proposes of the next view stored, and isn't its leader. Assumes nothing.
+-- The bound on a tick is reached: a station that waits with its table full of proposes of the next view, and isn't its leader. Assumes nothing.
 use mathlib.Core.Path.{_≡_, refl}
 use Prim.Native.Nat.{ℕ, zero, suc}
 use mathlib.Core.Bool.{false, true}

@@ -1,5 +1,5 @@
--- "Out buffer: at least 32,768 bytes" is room for every call: a message or an offer says at most 200 bytes, a tick at most 20,542.
--- Assumes nothing.
+-- The least out buffer is room for every call, with either limits: a message or an offer says at most 200 bytes, a tick at most
+-- `largestTick`. Assumes nothing.
 use mathlib.Core.Path.{_≡_}
 use Prim.Native.Nat.{ℕ, _≤_}
 use native.Mathlib.Omega.{arith}

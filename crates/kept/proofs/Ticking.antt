@@ -104,7 +104,7 @@ no-entry s (inr p) =
 
 -- ---- the whole tick
 
--- entering with 128 statements to vote for: a status of 62 bytes, then for each a propose of 100 and a vote of 60
+-- entering with a full table of statements to vote for: a status of 62 bytes, then for each a propose of 100 and a vote of 60
 abbrev pub largestTick : Size → ℕ
 largestTick z = 62 + 160 * mostStatements z
 

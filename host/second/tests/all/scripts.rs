@@ -89,7 +89,7 @@ fn stations_stay_in_order() {
     }
 }
 
-/// What ruling 15 says of a well-formed store, as far as a host can see it.
+/// What docs/STORE.md says of a well-formed store, as far as a host can see it.
 fn assert_in_order(station: &Station) {
     let (statements, tallies) = (station.statements(), station.tallies());
     let limits = station.settings().limits();
