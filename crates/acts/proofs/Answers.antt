@@ -5,7 +5,7 @@ use mathlib.Core.List.{List, [], _∷_, _++_}
 use mathlib.Core.Option.{none, some}
 use Rattle.rules.specs.Lists.{iff, first, any}
 use Rattle.rules.specs.Messages.{toAll}
-use Rattle.rules.specs.Words.{Statement, message, sameStatement, conflict, ownBlock, certificate, sameBlock, joinCertificate, State}
+use Rattle.rules.specs.Words.{Statement, message, sameStatement, conflict, ownBlock, certificate, sameBlock, ofBlock, joinCertificate, State}
 use Rattle.rules.specs.Inputs.{Work, saying, withPhase, withTables, isIn, quit, voting, stored, statement, handled}
 use Rattle.rules.specs.Refusals.{hasRoom}
 use Rattle.rules.proofs.Tests.{by-bool, by-option, eqb-self}
@@ -46,7 +46,7 @@ module _ (x : Statement) (s : State) where
   answered-quits y i o = rw (i, o, answered)
 
   -- no record is added
-  pub answered-room : any (sameBlock (ownBlock x 0)) (s .tallies) ≡ true → hasRoom (answered x s .now) ≡ hasRoom s
+  pub answered-room : any (ofBlock (ownBlock x 0)) (s .tallies) ≡ true → hasRoom (answered x s .now) ≡ hasRoom s
   unfolding quit saying withPhase hasRoom
   answered-room h =
       by-bool (isIn (x .view) s)
@@ -81,7 +81,7 @@ module _ (x : Statement) (s : State) where
   unfolding stored withTables
   stored-first = first-last (conflict x) (s .statements) x (conflict-self x)
 
-  stored-own : any (sameBlock (ownBlock x 0)) (stored x s .tallies) ≡ true
+  stored-own : any (ofBlock (ownBlock x 0)) (stored x s .tallies) ≡ true
   unfolding stored withTables
   stored-own = join-there (ownBlock x 0) (ownBlock x 0) (joinCertificate (certificate x) (s .tallies)) (block-self (ownBlock x 0))
 

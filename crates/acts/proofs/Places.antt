@@ -11,25 +11,25 @@ use borrow.Author.Tests.{not-true}
 use Rattle.rules.specs.Limits.{mostTallies}
 use Rattle.rules.specs.Lists.{any, distinct, alter}
 use Rattle.rules.specs.Sizes.{Settings, only}
-use Rattle.rules.specs.Words.{Statement, message, sameStatement, Tally, ownBlock, sameBlock, join, State}
+use Rattle.rules.specs.Words.{Statement, message, sameStatement, Certificate, Tally, ownBlock, sameBlock, ofBlock, join, State}
 use Rattle.rules.specs.Inputs.{withTables, noted, votedFor}
 use Rattle.rules.specs.WellFormed.{statementGood, talliesThere}
 use Rattle.rules.proofs.Tests.{by-bool, no-bool}
 use Rattle.rules.proofs.Truths.{and-2}
 use Rattle.wire.specs.Meaning.{statementOf, Linked}
 use Rattle.wire.specs.declared.Statement as code
-use Rattle.store.specs.Layout.{statementTable, countOf}
+use Rattle.store.specs.Layout.{statementTable, sizeIn, countOf}
 use Rattle.store.specs.Decode.{rows, statementAt, statements, tallies, stateFrom, stateOf, Left}
-use Rattle.store.specs.Changes.{pick, firstFrom, blockAt, joining, noting}
+use Rattle.store.specs.Changes.{pick, firstFrom, blockAt, withVoters, joining, noting}
 use Rattle.store.specs.declared.Found.{Found}
 use Rattle.store.specs.declared.Found.the-variants.{At}
 use Rattle.store.proofs.Rows.{rows-all}
 use Rattle.store.proofs.Searches.{alter-found}
-use Rattle.search.specs.Lookups.{Certifies}
-use Rattle.search.proofs.Statements.{same-unvoted, certifies-allowed}
 use Rattle.kept.specs.Said.{Sendable}
 use Rattle.kept.proofs.Statements.{stored-sendable}
 use Rattle.kept.proofs.Facts.{sizes-of}
+use Rattle.words.specs.Meaning.{Certifies}
+use Rattle.words.proofs.Statements.{same-unvoted, certifies-allowed}
 use Rattle.acts.specs.Works.{Formed}
 use Rattle.acts.specs.Answers.{Stands}
 use Rattle.acts.proofs.Works.{formed-parts, left-then}
@@ -70,11 +70,15 @@ sendable-linked g x m = sendable-certifies g x m .view
 
 -- ---- a block by its place
 
+pub voter-block : (x : Statement) (m : ℕ) {u : Certificate} → u ≡ ownBlock x 0 → withVoters m u ≡ ownBlock x m
+unfolding ownBlock
+voter-block x m e = ap (withVoters m) e
+
 -- whatever mask it comes with
-own-place : (x : Statement) (m i : ℕ) (us : List Tally) → firstFrom (sameBlock (ownBlock x 0)) i us ≡ firstFrom (sameBlock (ownBlock x m)) i us
+own-place : (x : Statement) (m i : ℕ) (us : List Tally) → firstFrom (ofBlock (ownBlock x 0)) i us ≡ firstFrom (ofBlock (ownBlock x m)) i us
 unfolding firstFrom sameBlock ownBlock
 own-place x m i [] = refl
-own-place x m i (u ∷ us) = ap (pick (sameBlock (ownBlock x 0) u) (At i)) (own-place x m (suc i) us)
+own-place x m i (u ∷ us) = ap (pick (ofBlock (ownBlock x 0) u) (At i)) (own-place x m (suc i) us)
 
 -- ---- the statement at a place
 
@@ -117,15 +121,15 @@ module _ {b : List ℕ} (k : Formed b) {i : ℕ} {x : code.Statement} (t : Stand
       (stored-sendable (stateOf b) (statementAt b i) (sizes-of (formed-parts k .formed)) place-good)
 
   -- "tallies exist from now on for .. its own block"
-  pub place-own : (m : ℕ) → any (sameBlock (ownBlock X m)) (stateOf b .tallies) ≡ true
+  pub place-own : (m : ℕ) → any (ofBlock (ownBlock X m)) (stateOf b .tallies) ≡ true
   unfolding talliesThere
   place-own m =
-      let h = and-2 (any (sameBlock (ownBlock (statementAt b i) 0)) (stateOf b .tallies)) _ place-there .0 in
+      let h = and-2 (any (ofBlock (ownBlock (statementAt b i) 0)) (stateOf b .tallies)) _ place-there .0 in
       let e : ownBlock (statementAt b i) 0 ≡ ownBlock X 0 = ap (λ (y : Statement). ownBlock y 0) (sym (t .is)) ∙ unvoted-block x (statementAt b i .voted) 0 in
-      own-any X m (stateOf b .tallies) ∙ ap (λ (u : Tally). any (sameBlock u) (stateOf b .tallies)) (sym e) ∙ h
+      own-any X m (stateOf b .tallies) ∙ ap (λ (u : Certificate). any (ofBlock u) (stateOf b .tallies)) (sym e) ∙ h
 
   -- its vote is noted and joined
-  pub place-voted : {b₁ b₂ : List ℕ} (c : ℕ) (u : Tally) → c ≡ stateOf b .clock → u ≡ ownBlock X (only (stateOf b .settings .own)) → Left b₁ (noting i c (stateOf b))
+  pub place-voted : {b₁ b₂ : List ℕ} (c : ℕ) (u : Certificate) → c ≡ stateOf b .clock → u ≡ ownBlock X (only (stateOf b .settings .own)) → Left b₁ (noting i c (stateOf b))
       → Left b₂ (joining u (stateOf b₁)) → Left b₂ (votedFor X (stateOf b))
   unfolding joining noting votedFor withTables
   place-voted c u d e l m =
@@ -137,16 +141,17 @@ module _ {b : List ℕ} (k : Formed b) {i : ℕ} {x : code.Statement} (t : Stand
   place-message = sym (unvoted-message x (statementAt b i .voted)) ∙ ap message (t .is)
 
   -- so its tally needs no record
-  pub place-room : {b₁ : List ℕ} (c m : ℕ) (u : Tally) → u ≡ ownBlock X m → Left b₁ (noting i c (stateOf b)) → length (join u (tallies b₁)) ≤ mostTallies
+  pub place-room : {b₁ : List ℕ} (c m : ℕ) (u : Certificate) → u ≡ ownBlock X m → Left b₁ (noting i c (stateOf b)) → length (join u (tallies b₁)) ≤ mostTallies (sizeIn b₁)
   unfolding noting withTables stateOf stateFrom
   place-room {b₁} c m u e l =
       let s = stateOf b in
       let r : tallies b₁ ≡ tallies b = ap (λ (z : State). z .tallies) (l .is) in
       let n = there-length (ownBlock X m) (s .tallies) (place-own m) in
-      rw (r, e) (omega (arith, formed-parts k .fewTallies))
+      let z : sizeIn b₁ ≡ sizeIn b = ap (λ (y : State). y .settings .size) (l .is) in
+      rw (r, e, z) (omega (arith, formed-parts k .fewTallies))
 
   -- and its tally is where it was found
-  pub place-found : {b₁ : List ℕ} (c m : ℕ) (u : Tally) (r : Found) → u ≡ ownBlock X m → r ≡ blockAt (ownBlock X 0) (tallies b) → Left b₁ (noting i c (stateOf b)) → r ≡ blockAt u (tallies b₁)
+  pub place-found : {b₁ : List ℕ} (c m : ℕ) (u : Certificate) (r : Found) → u ≡ ownBlock X m → r ≡ blockAt (ownBlock X 0) (tallies b) → Left b₁ (noting i c (stateOf b)) → r ≡ blockAt u (tallies b₁)
   unfolding noting withTables stateOf stateFrom
   place-found {b₁} c m u r e d l =
       let q : tallies b₁ ≡ tallies b = ap (λ (z : State). z .tallies) (l .is) in

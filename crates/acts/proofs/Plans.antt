@@ -9,13 +9,13 @@ use lib.ListN.{length}
 use borrow.Author.Tests.{eqb-true, eqb-false, eq-eqb, ne-eqb, le-leb, lt-leb}
 use Rattle.rules.specs.Limits.{mostTallies}
 use Rattle.rules.specs.Lists.{any}
-use Rattle.rules.specs.Words.{Statement, sameStatement, Tally, ownBlock, certificate, join, joinCertificate, State}
+use Rattle.rules.specs.Words.{Statement, sameStatement, Certificate, Tally, ownBlock, certificate, sameBlock, join, joinCertificate, State}
 use Rattle.rules.specs.Inputs.{saying, stored, statement, tallied}
 use Rattle.rules.specs.Refusals.{hasRoom}
 use Rattle.rules.proofs.Tests.{by-bool}
-use Rattle.store.specs.Layout.{tallyTable, countOf}
+use Rattle.store.specs.Layout.{tallyTable, sizeIn, countOf}
 use Rattle.store.specs.Decode.{tallies, stateFrom, stateOf, Form, Left}
-use Rattle.store.specs.Changes.{blockAt, certifying}
+use Rattle.store.specs.Changes.{blockAt, withVoters, certifying}
 use Rattle.store.specs.declared.Found.{Found}
 use Rattle.store.specs.declared.Found.the-variants.{At, Nothing}
 use Rattle.store.proofs.Joining.{certificate-joins}
@@ -31,7 +31,7 @@ use Rattle.acts.proofs.Answers.{new-room}
 
 -- ---- a tally
 
-module _ (t : Tally) where
+module _ (t : Certificate) where
   pub certified-genesis : (us : List Tally) → t .view ≡ 0 → Nothing ≡ certifiedAt t us
   unfolding certifiedAt
   certified-genesis us q = rw (eq-eqb (t .view) 0 q, certifiedAt)
@@ -74,29 +74,41 @@ module _ (t : Tally) where
 
 -- ---- a vote or a status, where k tallies would be in use
 
-module _ {b : List ℕ} (f : Form b) (t : Tally) (r : Found) (e : r ≡ certifiedAt t (tallies b)) (k : ℕ) (d : k ≡ countOf tallyTable b + needed t r) where
+-- whoever votes, the tally is found by the block, and needs a record or not
+certified-apart : (m : ℕ) (t : Certificate) (us : List Tally) → certifiedAt t us ≡ certifiedAt (withVoters m t) us
+unfolding certifiedAt sameBlock
+certified-apart m t us = refl
+
+needed-apart : (m : ℕ) (t : Certificate) (r : Found) → needed (withVoters m t) r ≡ needed t r
+unfolding needed
+needed-apart m t r = refl
+
+module _ {b : List ℕ} (f : Form b) (u : Certificate) (m : ℕ) (r : Found) (e : r ≡ certifiedAt u (tallies b)) (k : ℕ) (d : k ≡ countOf tallyTable b + needed u r) where
+  abbrev t : Certificate
+  t = withVoters m u
+
   k-is : k ≡ length (joinCertificate t (tallies b))
   unfolding stateOf stateFrom
-  k-is = omega (arith, count-tallies b, certificate-adds t (tallies b) r e)
+  k-is = omega (arith, d, needed-apart m u r, count-tallies b, certificate-adds t (tallies b) r (e ∙ certified-apart m u (tallies b)))
 
-  room-by : leb k mostTallies ≡ hasRoom (tallied t (stateOf b) .now)
+  room-by : leb k (mostTallies (sizeIn b)) ≡ hasRoom (tallied t (stateOf b) .now)
   unfolding stateOf stateFrom
   room-by = tallied-room (stateOf b) t (omega (arith, count-statements b, form-statements b f)) k k-is
 
-  pub tallied-full : mostTallies < k → Tried (tallied t (stateOf b) .now) (stateOf b) b false
+  pub tallied-full : mostTallies (sizeIn b) < k → Tried (tallied t (stateOf b) .now) (stateOf b) b false
   unfolding fitting
   tallied-full l =
-      let q : hasRoom (tallied t (stateOf b) .now) ≡ false = sym room-by ∙ lt-leb k mostTallies l in
+      let q : hasRoom (tallied t (stateOf b) .now) ≡ false = sym room-by ∙ lt-leb k (mostTallies (sizeIn b)) l in
       record { room = sym q; left = rw (q, fitting) (record { form = f; is = refl }) }
 
-  module _ (l : k ≤ mostTallies) where
-    pub tallied-fits : length (joinCertificate t (tallies b)) ≤ mostTallies
+  module _ (l : k ≤ mostTallies (sizeIn b)) where
+    pub tallied-fits : length (joinCertificate t (tallies b)) ≤ mostTallies (sizeIn b)
     tallied-fits = omega (arith, k-is)
 
     pub tallied-done : {b′ : List ℕ} → Left b′ (certifying t (stateOf b)) → Tried (tallied t (stateOf b) .now) (stateOf b) b′ true
     unfolding fitting certifying tallied saying
     tallied-done h =
-        let q : hasRoom (tallied t (stateOf b) .now) ≡ true = sym room-by ∙ le-leb k mostTallies l in
+        let q : hasRoom (tallied t (stateOf b) .now) ≡ true = sym room-by ∙ le-leb k (mostTallies (sizeIn b)) l in
         record { room = sym q; left = rw (q, fitting) h }
 
 -- ---- a statement

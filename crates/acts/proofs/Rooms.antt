@@ -12,7 +12,7 @@ use Rattle.rules.specs.Limits.{mostStatements, mostTallies}
 use Rattle.rules.specs.Lists.{iff, any, alter}
 use Rattle.rules.specs.Sizes.{Settings, only}
 use Rattle.rules.specs.Messages.{newView}
-use Rattle.rules.specs.Words.{Statement, message, sameStatement, Tally, ownBlock, certificate, sameBlock, grown, join, joinCertificate, State}
+use Rattle.rules.specs.Words.{Statement, message, sameStatement, Certificate, Tally, ownBlock, certificate, sameBlock, ofBlock, grown, join, joinCertificate, State}
 use Rattle.rules.specs.Inputs.{saying, withPhase, withTables, withBlames, isIn, quit, belowLock, noted, votedFor, voting, certificateJoined, stored, statement, tallied, blamed, blameFull, blaming}
 use Rattle.rules.specs.Refusals.{hasRoom}
 use Rattle.rules.specs.WellFormed.{talliesThere}
@@ -29,27 +29,27 @@ use Rattle.kept.proofs.Statements.{stated}
 
 -- ---- one tally
 
-block-grown : (t u : Tally) (m : ℕ) → sameBlock t (grown u m) ≡ sameBlock t u
+block-grown : (t : Certificate) (u : Tally) (m : ℕ) → ofBlock t (grown u m) ≡ ofBlock t u
 unfolding sameBlock grown
 block-grown t u m = refl
 
-module _ (t : Tally) where
-  pub there-length : (us : List Tally) → any (sameBlock t) us ≡ true → length (join t us) ≡ length us
+module _ (t : Certificate) where
+  pub there-length : (us : List Tally) → any (ofBlock t) us ≡ true → length (join t us) ≡ length us
   unfolding any join
   there-length [] h = no-bool (sym h)
-  there-length (u ∷ us) h = by-bool (sameBlock t u) (λ q. rw (q, join)) (λ q. rw (q, join) (ap suc (there-length us (rw (q, any) at h))))
+  there-length (u ∷ us) h = by-bool (ofBlock t u) (λ q. rw (q, join)) (λ q. rw (q, join) (ap suc (there-length us (rw (q, any) at h))))
 
   -- by its place: none is added where it is there, else one
   abbrev pub Adds : List Tally → Found → Type 0
   Adds us Nothing = length (join t us) ≡ suc (length us)
   Adds us (At j) = length (join t us) ≡ length us
 
-  pub adds : (i : ℕ) (us : List Tally) → Adds us (firstFrom (sameBlock t) i us)
+  pub adds : (i : ℕ) (us : List Tally) → Adds us (firstFrom (ofBlock t) i us)
   unfolding firstFrom join
   adds i [] = refl
-  adds i (u ∷ us) = go (sameBlock t u) (firstFrom (sameBlock t) (suc i) us) refl (adds (suc i) us)
+  adds i (u ∷ us) = go (ofBlock t u) (firstFrom (ofBlock t) (suc i) us) refl (adds (suc i) us)
     where
-      go : (b : Bool) (r : Found) → sameBlock t u ≡ b → Adds us r → Adds (u ∷ us) (pick b (At i) r)
+      go : (b : Bool) (r : Found) → ofBlock t u ≡ b → Adds us r → Adds (u ∷ us) (pick b (At i) r)
       go true r e h = rw (e, join)
       go false Nothing e h = rw (e, join) (ap suc h)
       go false (At j) e h = rw (e, join) (ap suc h)
@@ -62,19 +62,19 @@ module _ (t : Tally) where
       go (At j) h = omega arith
 
   -- other blocks stay where they are
-  join-others : (x : Tally) (i : ℕ) (us : List Tally) → sameBlock x t ≡ false → firstFrom (sameBlock x) i (join t us) ≡ firstFrom (sameBlock x) i us
+  join-others : (x : Certificate) (i : ℕ) (us : List Tally) → sameBlock x t ≡ false → firstFrom (ofBlock x) i (join t us) ≡ firstFrom (ofBlock x) i us
   unfolding firstFrom join
   join-others x i [] n = rw n
   join-others x i (u ∷ us) n =
-      by-bool (sameBlock t u) (λ q. rw (q, join, block-grown x u (t .mask)))
-      (λ q. by-bool (sameBlock x u) (λ r. rw (q, join, r)) (λ r. rw (q, join, r) (join-others x (suc i) us n)))
+      by-bool (ofBlock t u) (λ q. rw (q, join, block-grown x u (t .mask)))
+      (λ q. by-bool (ofBlock x u) (λ r. rw (q, join, r)) (λ r. rw (q, join, r) (join-others x (suc i) us n)))
 
-module _ (t : Tally) (us : List Tally) where
-  pub certificate-there : (eqb (t .view) 0 || any (sameBlock t) us) ≡ true → length (joinCertificate t us) ≡ length us
+module _ (t : Certificate) (us : List Tally) where
+  pub certificate-there : (eqb (t .view) 0 || any (ofBlock t) us) ≡ true → length (joinCertificate t us) ≡ length us
   unfolding joinCertificate
   certificate-there h = by-bool (eqb (t .view) 0) (λ q. rw (q, joinCertificate)) (λ q. rw (q, joinCertificate) (there-length t us (rw q at h)))
 
-  pub certificate-others : (x : Tally) → sameBlock x t ≡ false → blockAt x (joinCertificate t us) ≡ blockAt x us
+  pub certificate-others : (x : Certificate) → sameBlock x t ≡ false → blockAt x (joinCertificate t us) ≡ blockAt x us
   unfolding joinCertificate
   certificate-others x n = by-bool (eqb (t .view) 0) (λ q. rw (q, joinCertificate)) (λ q. rw (q, joinCertificate) (join-others t x 0 us n))
 
@@ -105,13 +105,13 @@ module _ (x y : Statement) (e : sameStatement x y ≡ true) where
       let (k, v, h, n, l, a) = agree in
       by-bool (y .isNewView) (λ q. rw (k, q, certificate) (l, h, n)) (λ q. rw (k, q, certificate) (v, ap (_- 1) h, l))
 
-  certificate-cong : (u : Tally) → sameBlock (certificate x) u ≡ sameBlock (certificate y) u
+  certificate-cong : (u : Tally) → ofBlock (certificate x) u ≡ ofBlock (certificate y) u
   unfolding sameBlock
   certificate-cong u = let (v, h, n) = same-certificate in rw (v, h, n)
 
-  certificate-held : (ts : List Tally) → (eqb (certificate x .view) 0 || any (sameBlock (certificate x)) ts) ≡ (eqb (certificate y .view) 0 || any (sameBlock (certificate y)) ts)
+  certificate-held : (ts : List Tally) → (eqb (certificate x .view) 0 || any (ofBlock (certificate x)) ts) ≡ (eqb (certificate y .view) 0 || any (ofBlock (certificate y)) ts)
   certificate-held ts =
-      ap₂ (λ (v : ℕ) (a : Bool). eqb v 0 || a) (same-certificate .0) (any-cong (sameBlock (certificate x)) (sameBlock (certificate y)) certificate-cong ts)
+      ap₂ (λ (v : ℕ) (a : Bool). eqb v 0 || a) (same-certificate .0) (any-cong (ofBlock (certificate x)) (ofBlock (certificate y)) certificate-cong ts)
 
 -- a stored statement's tallies are there
 module _ {s : State} (f : Formed s) (x : Statement) (e : any (sameStatement x) (s .statements) ≡ true) where
@@ -119,7 +119,7 @@ module _ {s : State} (f : Formed s) (x : Statement) (e : any (sameStatement x) (
   unfolding talliesThere
   repeat-length =
       let (y, m, q) = any-find (sameStatement x) (s .statements) e in
-      let t = and-2 (any (sameBlock (ownBlock y 0)) (s .tallies)) _ (all-mem (talliesThere (s .tallies)) (f .tables .opened) m) in
+      let t = and-2 (any (ofBlock (ownBlock y 0)) (s .tallies)) _ (all-mem (talliesThere (s .tallies)) (f .tables .opened) m) in
       certificate-there (certificate x) (s .tallies) (certificate-held x y q (s .tallies) ∙ t .1)
 
 module _ (g : Settings) (x : Statement) (m : Sendable g (message x)) where
@@ -135,29 +135,29 @@ module _ (g : Settings) (x : Statement) (m : Sendable g (message x)) where
       let l = stated g x m .parent k .0 in
       rw (k, certificate, eqb-self (x .view), ne-eqb (x .height) (x .height - 1) (λ e. omega arith)))
 
-pub own-any : (x : Statement) (m : ℕ) (ts : List Tally) → any (sameBlock (ownBlock x m)) ts ≡ any (sameBlock (ownBlock x 0)) ts
+pub own-any : (x : Statement) (m : ℕ) (ts : List Tally) → any (ofBlock (ownBlock x m)) ts ≡ any (ofBlock (ownBlock x 0)) ts
 unfolding sameBlock ownBlock
-own-any x m ts = any-cong (sameBlock (ownBlock x m)) (sameBlock (ownBlock x 0)) (λ u. refl) ts
+own-any x m ts = any-cong (ofBlock (ownBlock x m)) (ofBlock (ownBlock x 0)) (λ u. refl) ts
 
 -- ---- room for what a rule adds
 
-pub room-parts : (s : State) → hasRoom s ≡ true → (length (s .statements) ≤ mostStatements) × (length (s .tallies) ≤ mostTallies)
+pub room-parts : (s : State) → hasRoom s ≡ true → (length (s .statements) ≤ mostStatements (s .settings .size)) × (length (s .tallies) ≤ mostTallies (s .settings .size))
 unfolding hasRoom
 room-parts s e =
-    let t = and-2 (leb (length (s .statements)) mostStatements) (leb (length (s .tallies)) mostTallies) e in
+    let t = and-2 (leb (length (s .statements)) (mostStatements (s .settings .size))) (leb (length (s .tallies)) (mostTallies (s .settings .size))) e in
     (leb-true _ _ (t .0), leb-true _ _ (t .1))
 
-pub room-made : (s : State) → length (s .statements) ≤ mostStatements → length (s .tallies) ≤ mostTallies → hasRoom s ≡ true
+pub room-made : (s : State) → length (s .statements) ≤ mostStatements (s .settings .size) → length (s .tallies) ≤ mostTallies (s .settings .size) → hasRoom s ≡ true
 unfolding hasRoom
 room-made s a b = rw (le-leb _ _ a, le-leb _ _ b)
 
 -- room goes by the tables' lengths alone
-room-same : (s t : State) → length (s .statements) ≡ length (t .statements) → length (s .tallies) ≡ length (t .tallies) → hasRoom s ≡ hasRoom t
+room-same : (s t : State) → s .settings ≡ t .settings → length (s .statements) ≡ length (t .statements) → length (s .tallies) ≡ length (t .tallies) → hasRoom s ≡ hasRoom t
 unfolding hasRoom
-room-same s t p q = rw (p, q)
+room-same s t g p q = rw (g, p, q)
 
-pub tallied-room : (s : State) (t : Tally) → length (s .statements) ≤ mostStatements → (n : ℕ) → n ≡ length (joinCertificate t (s .tallies))
-    → leb n mostTallies ≡ hasRoom (tallied t s .now)
+pub tallied-room : (s : State) (t : Certificate) → length (s .statements) ≤ mostStatements (s .settings .size) → (n : ℕ) → n ≡ length (joinCertificate t (s .tallies))
+    → leb n (mostTallies (s .settings .size)) ≡ hasRoom (tallied t s .now)
 unfolding hasRoom tallied saying withTables
 tallied-room s t l n e = rw (le-leb _ _ l, e)
 
@@ -165,10 +165,11 @@ next-below : (a b : ℕ) → ltb a b ≡ leb (a + 1) b
 next-below a b = by-bool (ltb a b) (λ q. rw (q, le-leb (a + 1) b (omega (arith, ltb-true a b q)))) (λ q. rw (q, lt-leb (a + 1) b (omega (arith, ltb-false a b q))))
 
 pub stored-room : (s : State) (x : Statement) (n : ℕ) → n ≡ length (join (ownBlock x 0) (joinCertificate (certificate x) (s .tallies)))
-    → (ltb (length (s .statements)) mostStatements && leb n mostTallies) ≡ hasRoom (stored x s)
+    → (ltb (length (s .statements)) (mostStatements (s .settings .size)) && leb n (mostTallies (s .settings .size))) ≡ hasRoom (stored x s)
 unfolding hasRoom stored withTables
 stored-room s x n e =
-    ap₂ _&&_ (next-below (length (s .statements)) mostStatements ∙ ap (λ (k : ℕ). leb k mostStatements) (sym (length-append (s .statements) (x ∷ [])))) (ap (λ (k : ℕ). leb k mostTallies) e)
+    let z = s .settings .size in
+    ap₂ _&&_ (next-below (length (s .statements)) (mostStatements z) ∙ ap (λ (k : ℕ). leb k (mostStatements z)) (sym (length-append (s .statements) (x ∷ [])))) (ap (λ (k : ℕ). leb k (mostTallies z)) e)
 
 pub repeat-room : {s : State} → WellFormed s → (x : Statement) → any (sameStatement x) (s .statements) ≡ true → true ≡ hasRoom (statement x s .now)
 unfolding statement saying certificateJoined withTables
@@ -183,14 +184,14 @@ alter-length p f [] = refl
 alter-length p f (x ∷ xs) = by-bool (p x) (λ q. rw (q, alter)) (λ q. rw (q, alter) (ap suc (alter-length p f xs)))
 
 -- a vote joins a tally that is there
-pub voting-room : (x : Statement) (s : State) → any (sameBlock (ownBlock x 0)) (s .tallies) ≡ true → hasRoom (voting x s .now) ≡ hasRoom s
+pub voting-room : (x : Statement) (s : State) → any (ofBlock (ownBlock x 0)) (s .tallies) ≡ true → hasRoom (voting x s .now) ≡ hasRoom s
 unfolding voting saying votedFor withTables
 voting-room x s h =
     let m = only (s .settings .own) in
     by-bool (belowLock x s) (λ q. rw (q, voting))
     (λ q.
     rw (q, voting)
-    (room-same (votedFor x s) s (alter-length (sameStatement x) (noted (s .clock)) (s .statements)) (there-length (ownBlock x m) (s .tallies) (own-any x m (s .tallies) ∙ h))))
+    (room-same (votedFor x s) s refl (alter-length (sameStatement x) (noted (s .clock)) (s .statements)) (there-length (ownBlock x m) (s .tallies) (own-any x m (s .tallies) ∙ h))))
 
 -- a blame mask is always there
 pub blaming-room : (v m : ℕ) (s : State) → hasRoom (blaming v m s .now) ≡ hasRoom s

@@ -11,12 +11,12 @@ use lib.ListN.{length, getD, length-append}
 use lib.Seq.{getD-at}
 use Rattle.rules.specs.Limits.{mostStatements, mostTallies}
 use Rattle.rules.specs.Lists.{first, any}
-use Rattle.rules.specs.Words.{Statement, message, sameStatement, conflict, Tally, ownBlock, certificate, join, joinCertificate, State}
+use Rattle.rules.specs.Words.{Statement, message, sameStatement, conflict, Certificate, Tally, ownBlock, certificate, join, joinCertificate, State}
 use Rattle.rules.specs.Inputs.{saying, withTables, certificateJoined, stored, statement, handled}
 use Rattle.wire.specs.Meaning.{statementOf, messageOf}
 use Rattle.wire.specs.declared.Statement as code
 use Rattle.wire.specs.declared.Message.the-variants.{Stated}
-use Rattle.store.specs.Layout.{statementTable, tallyTable, countOf}
+use Rattle.store.specs.Layout.{statementTable, tallyTable, sizeIn, countOf}
 use Rattle.store.specs.Decode.{statementAt, statements, tallies, stateFrom, stateOf, Left}
 use Rattle.store.specs.Changes.{firstFrom, blockAt, joining, Joined, certifying, storing}
 use Rattle.store.specs.declared.Found.{Found}
@@ -79,7 +79,7 @@ module _ (b : List ℕ) (x : Statement) (r : Found) where
 
 -- ---- a new one, with its certificate t and its own block u
 
-module _ (b : List ℕ) (x : Statement) (m : Sendable (stateOf b .settings) (message x)) (t u : Tally) (et : t ≡ certificate x) (eu : u ≡ ownBlock x 0) where
+module _ (b : List ℕ) (x : Statement) (m : Sendable (stateOf b .settings) (message x)) (t u : Certificate) (et : t ≡ certificate x) (eu : u ≡ ownBlock x 0) where
   module _ (q : Found) (eq : q ≡ blockAt u (tallies b)) where
     -- the certificate leaves its own block's tally where it is
     own-stays : q ≡ blockAt u (joinCertificate t (tallies b))
@@ -87,30 +87,30 @@ module _ (b : List ℕ) (x : Statement) (m : Sendable (stateOf b .settings) (mes
 
     own-view : u .view ≡ 0 → ⊥
     unfolding ownBlock
-    own-view z = omega (arith, view-within (x .view) (stated (stateOf b .settings) x m .view) .0, ap (λ (v : Tally). v .view) eu)
+    own-view z = omega (arith, view-within (stateOf b .settings) (x .view) (stated (stateOf b .settings) x m .view) .0, ap (λ (v : Certificate). v .view) eu)
 
     -- i statements and j tallies are there; its certificate needs k tallies more, its own block l
-    pub new-planned : any (sameStatement x) (stateOf b .statements) ≡ false → (p : Found) → p ≡ certifiedAt t (tallies b) → (i j k l : ℕ) → i ≡ countOf statementTable b
-        → j ≡ countOf tallyTable b → k ≡ needed t p → l ≡ needed u q → newPlan (ltb i mostStatements && leb (j + (k + l)) mostTallies) p q ≡ planned x (stateOf b)
+    pub new-planned : any (sameStatement x) (stateOf b .statements) ≡ false → (p : Found) → p ≡ certifiedAt t (tallies b) → (i j k l few many : ℕ) → few ≡ mostStatements (sizeIn b) → many ≡ mostTallies (sizeIn b) → i ≡ countOf statementTable b
+        → j ≡ countOf tallyTable b → k ≡ needed t p → l ≡ needed u q → newPlan (ltb i few && leb (j + (k + l)) many) p q ≡ planned x (stateOf b)
     unfolding stateOf stateFrom
-    new-planned new p ep i j k l ei ej ek el =
+    new-planned new p ep i j k l few many ef em ei ej ek el =
         let s = stateOf b in
         let n : j + (k + l) ≡ length (join u (joinCertificate t (s .tallies))) =
         omega (arith, count-tallies b, certificate-adds t (s .tallies) p ep, block-adds u (joinCertificate t (s .tallies)) q own-view own-stays) in
-        let room = ap (λ (h : ℕ). ltb h mostStatements && leb (j + (k + l)) mostTallies) (ei ∙ sym (count-statements b))
-        ∙ stored-room s x (j + (k + l)) (n ∙ ap₂ (λ (v w : Tally). length (join w (joinCertificate v (s .tallies)))) et eu) in
+        let room = (λ h. ltb ((ei ∙ sym (count-statements b)) h) (ef h) && leb (j + (k + l)) (em h))
+        ∙ stored-room s x (j + (k + l)) (n ∙ ap₂ (λ (v w : Certificate). length (join w (joinCertificate v (s .tallies)))) et eu) in
         planned-new x s new room (rw (← et) ep) (rw (← eu) eq)
 
   -- ---- it is stored
 
   module _ {p q : Found} (k : Newly x (stateOf b) p q) where
-    few : (length (stateOf b .statements) < mostStatements) × (length (join u (joinCertificate t (stateOf b .tallies))) ≤ mostTallies)
-    unfolding stored withTables
+    few : (length (stateOf b .statements) < mostStatements (sizeIn b)) × (length (join u (joinCertificate t (stateOf b .tallies))) ≤ mostTallies (sizeIn b))
+    unfolding stored withTables stateOf stateFrom
     few =
         let r = room-parts (stored x (stateOf b)) (k .room) in
         (omega (arith, r .0, length-append (stateOf b .statements) (x ∷ [])), rw (et, eu) (r .1))
 
-    pub certificate-fits : length (joinCertificate t (tallies b)) ≤ mostTallies
+    pub certificate-fits : length (joinCertificate t (tallies b)) ≤ mostTallies (sizeIn b)
     unfolding stateOf stateFrom
     certificate-fits = omega (arith, few .1, join-grows u (joinCertificate t (tallies b)))
 
@@ -123,20 +123,28 @@ module _ (b : List ℕ) (x : Statement) (m : Sendable (stateOf b .settings) (mes
       unfolding certifying withTables stateOf stateFrom
       certified-tallies = ap (λ (s : State). s .tallies) (l .is)
 
-      pub own-fits : length (join u (tallies b₁)) ≤ mostTallies
+      certified-size : sizeIn b₁ ≡ sizeIn b
+      unfolding certifying withTables stateOf stateFrom
+      certified-size = ap (λ (s : State). s .settings .size) (l .is)
+
+      pub own-fits : length (join u (tallies b₁)) ≤ mostTallies (sizeIn b₁)
       unfolding stateOf stateFrom
-      own-fits = rw certified-tallies (few .1)
+      own-fits = rw (certified-tallies, certified-size) (few .1)
 
       pub own-found : q ≡ blockAt u (tallies b₁)
       unfolding stateOf stateFrom
       own-found = rw certified-tallies (own-stays q (rw eu (k .own)))
 
       module _ {b₂ : List ℕ} {i : ℕ} (h : Joined u (stateOf b₁) b₂ i) where
-        pub one-more-fits : countOf statementTable b₂ < mostStatements
+        joined-size : sizeIn b₂ ≡ sizeIn b₁
+        unfolding joining withTables stateOf stateFrom
+        joined-size = ap (λ (s : State). s .settings .size) (h .left .is)
+
+        pub one-more-fits : countOf statementTable b₂ < mostStatements (sizeIn b₂)
         unfolding joining certifying withTables
         one-more-fits =
             let e : stateOf b₂ .statements ≡ stateOf b .statements = ap (λ (s : State). s .statements) (h .left .is ∙ ap (joining u) (l .is)) in
-            omega (arith, count-statements b₂, ap length e, few .0)
+            omega (arith, count-statements b₂, ap length e, few .0, ap mostStatements joined-size, ap mostStatements certified-size)
 
         pub new-stored : {b₃ : List ℕ} → Left b₃ (storing x (stateOf b₂)) → Stored x (stateOf b) b₃ i
         unfolding storing joining certifying stored withTables stateOf stateFrom
@@ -148,7 +156,7 @@ module _ (b : List ℕ) (x : Statement) (m : Sendable (stateOf b .settings) (mes
                     form = g .form;
                     is =
                         g .is ∙ ap (storing x) (h .left .is ∙ ap (joining u) (l .is))
-                        ∙ ap₂ (λ (v w : Tally). withTables (stateOf b .statements ++ x ∷ []) (join w (joinCertificate v (stateOf b .tallies))) (stateOf b)) et eu;
+                        ∙ ap₂ (λ (v w : Certificate). withTables (stateOf b .statements ++ x ∷ []) (join w (joinCertificate v (stateOf b .tallies))) (stateOf b)) et eu;
                   };
               place = h .place ∙ ap₂ blockAt eu (sym e);
             }
@@ -174,8 +182,8 @@ module _ (x : Statement) (s : State) where
   unfolding statement
   statement-repeat q = rw (q, statement)
 
-module _ {b : List ℕ} (k : Formed b) (x : Statement) (t : Tally) (e : t ≡ certificate x) where
-  pub repeat-fits : any (sameStatement x) (stateOf b .statements) ≡ true → length (joinCertificate t (tallies b)) ≤ mostTallies
+module _ {b : List ℕ} (k : Formed b) (x : Statement) (t : Certificate) (e : t ≡ certificate x) where
+  pub repeat-fits : any (sameStatement x) (stateOf b .statements) ≡ true → length (joinCertificate t (tallies b)) ≤ mostTallies (sizeIn b)
   unfolding stateOf stateFrom
   repeat-fits q = let w = formed-parts k in rw e (omega (arith, repeat-length (w .formed) x q, w .fewTallies))
 

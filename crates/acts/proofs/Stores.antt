@@ -1,5 +1,5 @@
 -- What a store's bytes say of the state that it holds: phase, blame masks, counts. Assumes nothing.
-use Prim.Native.Nat.{ℕ, suc, _-_, _^_, _<_}
+use Prim.Native.Nat.{ℕ, suc, _-_, _^_, _≤_, _<_}
 use mathlib.Core.Path.{_≡_, refl, sym, ap, _∙_}
 use mathlib.Core.Bool.{Bool, true, false}
 use mathlib.Core.List.{List, []}
@@ -7,18 +7,17 @@ use native.Mathlib.Omega.{arith}
 use native.Mathlib.Nat.{zero-add}
 use lib.Dec.{eqb}
 use lib.ListN.{getD}
-use Rattle.rules.specs.Limits.{lastView}
+use Rattle.rules.specs.Limits.{firstView, lastView, lastViewLarge}
 use Rattle.rules.specs.Messages.{viewAllowed}
 use Rattle.rules.specs.Sizes.{quorum}
 use Rattle.rules.specs.Words as words
 use Rattle.rules.specs.Words.{State, inView, waiting, stopped}
-use Rattle.rules.specs.Inputs.{saying, withPhase, isIn, quit, blamesOf, blameFull}
+use Rattle.rules.specs.Inputs.{saying, withPhase, withBlames, isIn, quit, blamesOf, blamed, blameFull}
 use Rattle.rules.proofs.Allowed.{view-within}
-use Rattle.fields.specs.Records.{fields}
 use Rattle.settings.specs.Made.{settingsOf}
-use Rattle.store.specs.Layout.{headerFormat}
-use Rattle.store.specs.Decode.{phaseNumber, rows, blameAt, blames, stateFrom, stateOf, Left}
-use Rattle.store.specs.Meaning.{courseOf, headerOf}
+use Rattle.store.specs.Layout.{sizeIn}
+use Rattle.store.specs.Decode.{phaseNumber, rows, blameAt, blamesFor, blames, stateFrom, stateOf, Left}
+use Rattle.store.specs.Meaning.{courseOf, Loads}
 use Rattle.store.specs.declared.Station.{Station}
 use Rattle.store.specs.declared.Phase.{Phase}
 use Rattle.store.specs.declared.Phase.the-variants.{InView, Waiting, Stopped}
@@ -38,7 +37,7 @@ module _ (v : ℕ) (s : State) where
   unfolding isIn isInIf
   by-phase = refl
 
-module _ (s : Station) (b : List ℕ) (e : headerOf s ≡ fields b 0 headerFormat) (v : ℕ) where
+module _ (s : Station) (b : List ℕ) (e : Loads s b) (v : ℕ) where
   loaded-in : isIn v (stateOf b) ≡ isInIf v (stateOf b) (courseOf (s .phase))
   loaded-in = by-phase v (stateOf b) ∙ ap (isInIf v (stateOf b)) (sym (loaded-phase s b e))
 
@@ -57,22 +56,33 @@ module _ (s : Station) (b : List ℕ) (e : headerOf s ≡ fields b 0 headerForma
 
 -- ---- the blame masks
 
-pub blame-place : (b : List ℕ) (v : ℕ) → viewAllowed v ≡ true → blameAt b (v - 1) ≡ blamesOf v (stateOf b)
-unfolding blamesOf stateOf stateFrom blames
+-- an allowed view is one of the store's limits
+pub view-in : (b : List ℕ) (v : ℕ) → viewAllowed (stateOf b .settings) v ≡ true → (firstView ≤ v) × (v ≤ lastView (sizeIn b)) × (v ≤ lastViewLarge)
+unfolding stateOf stateFrom
+view-in b v a = view-within (stateOf b .settings) v a
+
+-- and stays one when a mask is joined
+pub view-blamed : (b : List ℕ) {b′ : List ℕ} (v m : ℕ) → Left b′ (blamed v m (stateOf b)) → viewAllowed (stateOf b .settings) v ≡ true
+    → viewAllowed (stateOf b′ .settings) v ≡ true
+unfolding blamed withBlames
+view-blamed b {b′} v m l a = ap (λ (s : State). viewAllowed (s .settings) v) (l .is) ∙ a
+
+pub blame-place : (b : List ℕ) (v : ℕ) → viewAllowed (stateOf b .settings) v ≡ true → blameAt b (v - 1) ≡ blamesOf v (stateOf b)
+unfolding blamesOf stateOf stateFrom blamesFor
 blame-place b v a =
-    let w = view-within v a in
+    let w = view-in b v a in
     let e : suc (v - 1) ≡ v = omega arith in
-    let r : getD (rows (blameAt b) 0 lastView) (v - 1) 0 ≡ blameAt b (v - 1) = rows-at (blameAt b) 0 0 lastView (v - 1) (omega arith) ∙ ap (blameAt b) (zero-add (v - 1)) in
+    let r : getD (rows (blameAt b) 0 (lastView (sizeIn b))) (v - 1) 0 ≡ blameAt b (v - 1) = rows-at (blameAt b) 0 0 (lastView (sizeIn b)) (v - 1) (omega arith) ∙ ap (blameAt b) (zero-add (v - 1)) in
     sym (ap (λ (i : ℕ). getD (blames b) i 0) (sym e) ∙ r)
 
-pub blame-quorum : (s : Station) (b : List ℕ) → headerOf s ≡ fields b 0 headerFormat → (v : ℕ) → viewAllowed v ≡ true
+pub blame-quorum : (s : Station) (b : List ℕ) → Loads s b → (v : ℕ) → viewAllowed (stateOf b .settings) v ≡ true
     → quorum (settingsOf (s .settings)) (blameAt b (v - 1)) ≡ blameFull v (stateOf b)
 unfolding blameFull
 blame-quorum s b e v a = rw (loaded-settings s b e, blame-place b v a)
 
 -- ---- quitting
 
-module _ {b : List ℕ} (k : Formed b) (s : Station) (e : headerOf s ≡ fields b 0 headerFormat) where
+module _ {b : List ℕ} (k : Formed b) (s : Station) (e : Loads s b) where
   pub quit-fits : phaseNumber (waiting (s .clock)) < 256 ^ 4
   quit-fits = omega (arith, loaded-clock s b e, clocks-of (formed-parts k .formed) .last)
 

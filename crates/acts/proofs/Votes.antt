@@ -12,18 +12,16 @@ use Rattle.rules.specs.Messages.{Effect, toAll}
 use Rattle.rules.specs.Words.{Statement, State}
 use Rattle.rules.specs.Inputs.{saying, belowLock, votedFor, ballot, voting}
 use Rattle.rules.proofs.Allowed.{only-lt, mask-small}
-use Rattle.fields.specs.Records.{fields}
 use Rattle.wire.specs.Meaning.{statementOf, messageOf}
 use Rattle.wire.specs.declared.Statement as code
 use Rattle.wire.specs.declared.Message.the-variants.{Stated, Vote}
-use Rattle.store.specs.Layout.{headerFormat}
 use Rattle.store.specs.Decode.{stateOf}
-use Rattle.store.specs.Meaning.{tallyOf, headerOf}
+use Rattle.store.specs.Meaning.{Loads}
 use Rattle.store.specs.declared.Station.{Station}
 use Rattle.store.proofs.Loaded.{loaded-settings, loaded-lock}
-use Rattle.search.specs.Lookups.{ranksBelow}
-use Rattle.search.proofs.Statements.{lock-is}
 use Rattle.kept.proofs.Facts.{sizes-of}
+use Rattle.words.specs.Meaning.{blockOf, ranksBelow}
+use Rattle.words.proofs.Statements.{lock-is}
 use Rattle.acts.specs.Works.{Formed}
 use Rattle.acts.proofs.Works.{formed-parts}
 
@@ -41,7 +39,7 @@ pub ballot-is : (x : code.Statement) (s : State) (own : ℕ) → own ≡ s .sett
 unfolding messageOf ballot statementOf
 ballot-is x s own e = rw e
 
-module _ {b : List ℕ} (k : Formed b) (s : Station) (e : headerOf s ≡ fields b 0 headerFormat) where
+module _ {b : List ℕ} (k : Formed b) (s : Station) (e : Loads s b) where
   pub loaded-own : s .settings .own ≡ stateOf b .settings .own
   loaded-own = ap (λ (g : sizes.Settings). g .own) (loaded-settings s b e)
 
@@ -53,5 +51,5 @@ module _ {b : List ℕ} (k : Formed b) (s : Station) (e : headerOf s ≡ fields 
       let z = sizes-of (formed-parts k .formed) in
       omega (arith, ap only loaded-own, mask-small z (only-lt (stateOf b .settings) (stateOf b .settings .own) (z .own)))
 
-  pub loaded-below : (x : Statement) → ranksBelow x (tallyOf (s .lock)) ≡ belowLock x (stateOf b)
+  pub loaded-below : (x : Statement) → ranksBelow x (blockOf (s .lock)) ≡ belowLock x (stateOf b)
   loaded-below x = ap (ranksBelow x) (loaded-lock s b e) ∙ sym (lock-is x (stateOf b))

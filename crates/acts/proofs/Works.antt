@@ -1,15 +1,16 @@
 -- Acts put together: what is left and what is said, one after another, by the rules' names. Assumes nothing.
 use Prim.Native.Nat.{ℕ, _+_, _≤_}
-use mathlib.Core.Path.{_≡_, sym, ap, _∙_, subst}
+use mathlib.Core.Path.{_≡_, refl, sym, ap, _∙_, subst}
 use mathlib.Core.List.{List, [], _∷_}
 use native.Mathlib.Omega.{arith}
 use lib.ListN.{length}
+use Rattle.rules.specs.Limits.{mostStatements, mostTallies}
 use Rattle.rules.specs.Messages.{Effect, toAll, blameSet, vote, effect, outgoing}
 use Rattle.rules.specs.Words.{Statement, message, State}
 use Rattle.rules.specs.Inputs.{Work, saying, _▸_, quit}
 use Rattle.outgoing.specs.Wrote.{Says}
 use Rattle.outgoing.proofs.Writing.{says-none, says-both, says-one, says-length, says-outgoing}
-use Rattle.store.specs.Layout.{statementTable, tallyTable, countOf}
+use Rattle.store.specs.Layout.{statementTable, tallyTable, sizeIn, countOf}
 use Rattle.store.specs.Decode.{statementAt, tallyAt, statements, tallies, stateFrom, stateOf, Left}
 use Rattle.store.proofs.Rows.{rows-length}
 use Rattle.store.proofs.Forms.{form-statements, form-tallies}
@@ -29,6 +30,11 @@ pub count-tallies : (b : List ℕ) → length (stateOf b .tallies) ≡ countOf t
 unfolding stateOf stateFrom tallies
 count-tallies b = rows-length (tallyAt b) 0 (countOf tallyTable b)
 
+-- a store's limits are its state's
+pub state-size : (b : List ℕ) → stateOf b .settings .size ≡ sizeIn b
+unfolding stateOf stateFrom
+state-size b = refl
+
 pub formed-parts : {b : List ℕ} → Formed b → kept.WellFormed (stateOf b)
 formed-parts {b} k = parts (stateOf b) (k .good)
 
@@ -41,8 +47,8 @@ left-formed {b} l f =
           whole
           (record {
             formed = subst kept.Formed (sym (l .is)) f;
-            fewStatements = omega (arith, count-statements b, form-statements b (l .form));
-            fewTallies = omega (arith, count-tallies b, form-tallies b (l .form));
+            fewStatements = omega (arith, count-statements b, form-statements b (l .form), ap mostStatements (state-size b));
+            fewTallies = omega (arith, count-tallies b, form-tallies b (l .form), ap mostTallies (state-size b));
           });
     }
 

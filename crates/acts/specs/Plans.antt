@@ -5,7 +5,7 @@ use mathlib.Core.Bool.{Bool, true, false}
 use mathlib.Core.List.{List}
 use lib.Dec.{eqb}
 use Rattle.rules.specs.Lists.{any}
-use Rattle.rules.specs.Words.{Statement, sameStatement, Tally, ownBlock, certificate, sameBlock, State}
+use Rattle.rules.specs.Words.{Statement, sameStatement, Certificate, Tally, ownBlock, certificate, sameBlock, ofBlock, State}
 use Rattle.rules.specs.Inputs.{stored}
 use Rattle.rules.specs.Refusals.{hasRoom}
 use Rattle.store.specs.Decode.{tallies, Left}
@@ -16,12 +16,12 @@ use Rattle.acts.specs.declared.Plan.{Plan}
 use Rattle.acts.specs.declared.Plan.the-variants.{Repeat, New, Full}
 
 -- the place of a certificate's tally; genesis "has no tally" in view 0
-unfoldable pub certifiedAt : Tally → List Tally → Found
+unfoldable pub certifiedAt : Certificate → List Tally → Found
 unfolding firstFrom sameBlock
 certifiedAt t us = elim (eqb (t .view) 0) [ true ↦ Nothing | false ↦ blockAt t us ]
 
 -- the records that a tally needs by its place
-unfoldable pub needed : Tally → Found → ℕ
+unfoldable pub needed : Certificate → Found → ℕ
 needed t r = elim (eqb (t .view) 0) [ true ↦ 0 | false ↦ elim r [ At j ↦ 0 | Nothing ↦ 1 ] ]
 
 -- what comes of a new statement, by whether there is room

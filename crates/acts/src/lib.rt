@@ -12,20 +12,22 @@ ghost use Rattle.rules.specs.Inputs as inputs;
 ghost use Rattle.rules.specs.Refusals.{hasRoom};
 ghost use Rattle.wire.specs.Meaning.{statementOf, messageOf, Writable, Linked};
 ghost use Rattle.outgoing.specs.Wrote.{Says};
+ghost use Rattle.store.specs.Layout.{sizeIn};
 ghost use Rattle.store.specs.Decode.{stateOf, tallies, Form, Left};
-ghost use Rattle.store.specs.Changes.{blockAt, certifying};
-ghost use Rattle.store.specs.Meaning.{tallyOf};
+ghost use Rattle.store.specs.Changes.{blockAt, withVoters, certifying};
+ghost use Rattle.store.specs.Meaning.{votersOf, Numbered};
 ghost use Rattle.kept.specs.Said.{Sendable};
+ghost use Rattle.words.specs.Meaning.{blockOf};
 ghost use Rattle.acts.specs.Works.{Formed, Works, Tried};
 ghost use Rattle.acts.specs.Plans.{certifiedAt, needed, newPlan, planned, fits, Newly, Stored};
 ghost use Rattle.acts.specs.Answers.{answered, Stands};
-use settings::Settings;
 use store::Found;
 use store::Phase;
 use store::Station;
-use store::Tally;
+use store::Voters;
 use wire::Message;
 use wire::Statement;
+use words::Certificate;
 
 // What comes of a statement: a repeat; a new one, with the places of the tallies of its certificate and of its own block;
 // or that no record is free.
@@ -68,7 +70,7 @@ fn send_both(out: &mut [u8], at: usize, first: Message, second: Message) -> usiz
 
 // Whether the blame mask of a view is full.
 pub fn blame_full(store: &[u8], view: u32) -> bool
-    requires { ⌜ (Form (now store)) × (viewAllowed view ≡ true) ⌝ }
+    requires { ⌜ (Form (now store)) × (viewAllowed (stateOf (now store) .settings) view ≡ true) ⌝ }
     ensures { λ r. ⌜ r ≡ inputs.blameFull view (stateOf (now (store .entry))) ⌝ }
 {
     let station = Station::load(store);
@@ -79,7 +81,7 @@ pub fn blame_full(store: &[u8], view: u32) -> bool
 
 // Sends the blame set of a view, the mask now held, and quits.
 pub fn quit_with_set(store: &mut [u8], out: &mut [u8], at: usize, view: u32) -> usize
-    requires { ⌜ (Formed (now store)) × (viewAllowed view ≡ true) × (at + 19 ≤ length (now out)) ⌝ }
+    requires { ⌜ (Formed (now store)) × (viewAllowed (stateOf (now store) .settings) view ≡ true) × (at + 19 ≤ length (now out)) ⌝ }
     ensures { λ r. ⌜ Works (inputs.quit (toAll (blameSet view (inputs.blamesOf view (stateOf (now (store .entry))))) ∷ []) (stateOf (now (store .entry)))) (now (out .entry)) at (now (store .exit)) (now (out .exit)) r ⌝ }
 {
     let held = store::blame_at(store, view as usize - 1);
@@ -89,7 +91,7 @@ pub fn quit_with_set(store: &mut [u8], out: &mut [u8], at: usize, view: u32) -> 
 
 // A mask joins the blames of a view; at f+1, while the station is in that view, it sends the set and quits.
 pub fn blaming(store: &mut [u8], out: &mut [u8], at: usize, view: u32, mask: u16) -> usize
-    requires { ⌜ (Formed (now store)) × (viewAllowed view ≡ true) × (mask < 2 ^ (stateOf (now store) .settings .n)) × (at + 19 ≤ length (now out)) ⌝ }
+    requires { ⌜ (Formed (now store)) × (viewAllowed (stateOf (now store) .settings) view ≡ true) × (mask < 2 ^ (stateOf (now store) .settings .n)) × (at + 19 ≤ length (now out)) ⌝ }
     ensures { λ r. ⌜ Works (inputs.blaming view mask (stateOf (now (store .entry)))) (now (out .entry)) at (now (store .exit)) (now (out .exit)) r ⌝ }
 {
     store::join_blame(store, view, mask);
@@ -103,9 +105,9 @@ pub fn blaming(store: &mut [u8], out: &mut [u8], at: usize, view: u32, mask: u16
 }
 
 // The place of a certificate's tally. Genesis has none in view 0, and nothing is searched.
-fn find_certificate(store: &[u8], certificate: Tally) -> Found
+fn find_certificate(store: &[u8], certificate: Certificate) -> Found
     requires { ⌜ Form (now store) ⌝ }
-    ensures { λ r. ⌜ r ≡ certifiedAt (tallyOf certificate) (tallies (now (store .entry))) ⌝ }
+    ensures { λ r. ⌜ r ≡ certifiedAt (blockOf certificate) (tallies (now (store .entry))) ⌝ }
 {
     if certificate.view == 0 {
         return Found::Nothing;
@@ -113,11 +115,11 @@ fn find_certificate(store: &[u8], certificate: Tally) -> Found
     store::find_tally(store, certificate)
 }
 
-// How many records a tally needs by its place: none where it is there, nor for genesis in view 0.
-fn needed(tally: Tally, place: Found) -> usize
-    ensures { λ r. ⌜ r ≡ needed (tallyOf tally) place ⌝ }
+// How many records the tally of a block needs by its place: none where it is there, nor for genesis in view 0.
+fn needed(block: Certificate, place: Found) -> usize
+    ensures { λ r. ⌜ r ≡ needed (blockOf block) place ⌝ }
 {
-    if tally.view == 0 {
+    if block.view == 0 {
         return 0;
     }
     match place {
@@ -126,27 +128,27 @@ fn needed(tally: Tally, place: Found) -> usize
     }
 }
 
-// A certificate's mask joins its tally as it was found.
-fn join_certified(store: &mut [u8], certificate: Tally, place: Found)
-    requires { ⌜ (Form (now store)) × (length (joinCertificate (tallyOf certificate) (tallies (now store))) ≤ mostTallies) × (place ≡ certifiedAt (tallyOf certificate) (tallies (now store))) ⌝ }
-    ensures { λ _. ⌜ Left (now (store .exit)) (certifying (tallyOf certificate) (stateOf (now (store .entry)))) ⌝ }
+// Whoever joins the tally of a block, as it was found; genesis has none in view 0.
+fn join_certified(store: &mut [u8], block: Certificate, place: Found, voters: Voters)
+    requires { ⌜ (Form (now store)) × (length (joinCertificate (withVoters (votersOf voters) (blockOf block)) (tallies (now store))) ≤ mostTallies (sizeIn (now store))) × (place ≡ certifiedAt (blockOf block) (tallies (now store))) × (Numbered voters) ⌝ }
+    ensures { λ _. ⌜ Left (now (store .exit)) (certifying (withVoters (votersOf voters) (blockOf block)) (stateOf (now (store .entry)))) ⌝ }
 {
-    if certificate.view != 0 {
-        store::join_found(store, certificate, place);
+    if block.view != 0 {
+        store::join_found(store, block, place, voters);
     }
 }
 
 // A vote or a status joins its tally, if the record that it may need is free; if not, nothing changes.
-pub fn tallied(store: &mut [u8], tally: Tally) -> bool
-    requires { ⌜ Form (now store) ⌝ }
-    ensures { λ r. ⌜ Tried (inputs.tallied (tallyOf tally) (stateOf (now (store .entry))) .now) (stateOf (now (store .entry))) (now (store .exit)) r ⌝ }
+pub fn tallied(store: &mut [u8], block: Certificate, voters: Voters) -> bool
+    requires { ⌜ (Form (now store)) × (Numbered voters) ⌝ }
+    ensures { λ r. ⌜ Tried (inputs.tallied (withVoters (votersOf voters) (blockOf block)) (stateOf (now (store .entry))) .now) (stateOf (now (store .entry))) (now (store .exit)) r ⌝ }
 {
-    let place = find_certificate(store, tally);
+    let place = find_certificate(store, block);
     let station = Station::load(store);
-    if Settings::MOST_TALLIES < station.tallies + needed(tally, place) {
+    if store::most_tallies_in(store) < station.tallies + needed(block, place) {
         return false;
     }
-    join_certified(store, tally, place);
+    join_certified(store, block, place, voters);
     true
 }
 
@@ -179,17 +181,13 @@ pub fn voting(
 {
     let station = Station::load(store);
     let lock = station.lock;
-    if search::below_lock(x, lock) {
+    if words::below_lock(x, lock) {
         return at;
     }
     let settings = station.settings;
     let own = settings.own;
     store::note_vote(store, place, station.clock);
-    store::join_found(
-        store,
-        search::own_block(x, settings::only(own) as u16),
-        tally,
-    );
+    store::join_found(store, words::own_block(x, 0), tally, Voters::One(own));
     let name = x.name;
     let vote = Message::Vote {
         view: x.view,
@@ -218,14 +216,14 @@ pub fn planned(store: &[u8], x: Statement) -> Plan
     let Found::Nothing = store::find_statement(store, x) else {
         return Plan::Repeat;
     };
-    let certificate = search::certificate(x);
+    let certificate = words::certificate_of(x);
     let certified = find_certificate(store, certificate);
-    let block = search::own_block(x, 0);
+    let block = words::own_block(x, 0);
     let own = store::find_tally(store, block);
     let records = needed(certificate, certified) + needed(block, own);
     let station = Station::load(store);
-    let room = (station.statements < Settings::MOST_STATEMENTS)
-        & (station.tallies + records <= Settings::MOST_TALLIES);
+    let room = (station.statements < store::most_statements_in(store))
+        & (station.tallies + records <= store::most_tallies_in(store));
     new_plan(room, certified, own)
 }
 
@@ -245,8 +243,14 @@ fn store_new(store: &mut [u8], x: Statement, certified: Found, own: Found) -> us
     requires { ⌜ (Form (now store)) × (Sendable (stateOf (now store) .settings) (said (statementOf x none))) × (Newly (statementOf x none) (stateOf (now store)) certified own) ⌝ }
     ensures { λ r. ⌜ Stored (statementOf x none) (stateOf (now (store .entry))) (now (store .exit)) r ⌝ }
 {
-    join_certified(store, search::certificate(x), certified);
-    let opened = store::join_found(store, search::own_block(x, 0), own);
+    let certificate = words::certificate_of(x);
+    join_certified(
+        store,
+        certificate,
+        certified,
+        Voters::Mask(certificate.mask),
+    );
+    let opened = store::join_found(store, words::own_block(x, 0), own, Voters::Mask(0));
     store::append_statement(store, x);
     opened
 }
@@ -282,7 +286,7 @@ pub fn statement(store: &mut [u8], out: &mut [u8], at: usize, x: Statement, plan
 {
     match plan {
         Plan::Repeat => {
-            store::join_certificate(store, search::certificate(x));
+            store::join_certificate(store, words::certificate_of(x));
             at
         }
         Plan::New(certified, own) => {

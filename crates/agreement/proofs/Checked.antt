@@ -4,16 +4,17 @@ use Prim.Native.Nat.{ℕ, zero, suc, _+_, _-_, _≤_, _<_, _^_}
 use native.Mathlib.Omega.{arith}
 use native.Mathlib.Decide.{decLt, decLe, ℕ-discrete}
 use mathlib.Core.Bool.{Bool, true, false, not, _&&_, _||_}
-use mathlib.Core.List.{List, [], _∷_, List·Memᴰ, List·Memᴰ·head, List·Memᴰ·tail, List·Memᴰ·not-nil}
+use mathlib.Core.List.{List, [], _∷_, map, List·Memᴰ, List·Memᴰ·head, List·Memᴰ·tail, List·Memᴰ·not-nil}
 use mathlib.Core.Logic.{_⊎_, inl, inr}
 use mathlib.Core.Option.{Option, none, some}
 use lib.Dec.{ltb, eqb}
 use lib.ListN.{length, getD, List·getD-eq-default}
-use borrow.Author.Tests.{eqb-true, eq-eqb, lt-ltb, ltb-true}
+use borrow.Author.Tests.{eqb-true, eq-eqb, leb-true, lt-ltb, ltb-true}
+use Rattle.rules.specs.Limits.{Size}
 use Rattle.rules.specs.Lists.{first, any, all}
-use Rattle.rules.specs.Sizes.{bit}
+use Rattle.rules.specs.Sizes.{goodSettings, faults, bit, count}
 use Rattle.rules.specs.Messages.{Message, newView, propose, vote, blame, blameSet, status, table, rowOf, kind, values, read, write, allowed, Effect, toAll, toOne, committed}
-use Rattle.rules.specs.Words.{Phase, inView, waiting, stopped, full, clock as late, State}
+use Rattle.rules.specs.Words.{State}
 use Rattle.rules.specs.Inputs.{saying, offered}
 use Rattle.rules.specs.Refusals.{done, running}
 use Rattle.rules.specs.Script.{sameList}
@@ -21,8 +22,9 @@ use Rattle.rules.proofs.Tests.{by-bool, by-option, no-some, no-bool}
 use Rattle.rules.proofs.Bytes.{Bytes, none as no-bytes, one}
 use Rattle.rules.proofs.Truths.{and-2, both, or-2}
 use Rattle.rules.proofs.Searches.{by-mem, first-mem, first-any, first-none}
-use Rattle.agreement.specs.Schedule.{Event, idle, commonTick, tickOf, given, offeredTo, happens, ticks, IsCommon, CommonTicks, settingsOf, at, out, clock, Says, HasVoted, HasBlamed, HasMade, Sound, NeverFull, IsLent, ProperBuffers, Sends, InTime, VotersVoted, Genuine, Hands, NoForgery, Offers, OneBlock, OneName}
-use Rattle.agreement.specs.Checks.{implies, every, some?, sameMessage, maskIn, toAllThat, brought, ifSome, isCommon, givenTo, offeredAs, listed, isSound, hasSaid, votersVoted, hasMade, isGenuine, taken, noneForged, comes, comesInTime, saidInTime, allInTime, allCommon, allRun, allLent, isOneBlock, oneNamed}
+use Rattle.agreement.specs.Schedule.{Event, idle, commonTick, tickOf, given, offeredTo, happens, ticks, IsCommon, CommonTicks, settingsOf, at, out, clock, Says, HasVoted, HasBlamed, HasMade, Sound, NeverFull, IsLent, ProperBuffers, Sends, InTime, VotersVoted, Genuine, Hands, NoForgery, Offers, OneBlock, OneName, Run, run, HasRoom, Schedule}
+use Rattle.agreement.proofs.Events.{never-idle}
+use Rattle.agreement.specs.Checks.{Premise, settingsGood, fewFaulty, neverFull, commonTicks, properBuffers, inTime, noForgery, oneName, premises, place, other, Holds, AllBut, test, verdict, implies, every, some?, sameMessage, maskIn, toAllThat, brought, ifSome, isCommon, givenTo, offeredAs, listed, isSound, hasSaid, votersVoted, hasMade, isGenuine, taken, noneForged, comes, comesInTime, saidInTime, allInTime, allCommon, allRun, allLent, isOneBlock, oneNamed}
 
 -- ---- tests
 
@@ -98,86 +100,86 @@ toAllThat-true p (toAll m) h = (m, refl, h)
 toAllThat-true p (toOne i m) h = no-bool (sym h)
 toAllThat-true p (committed a b) h = no-bool (sym h)
 
-module _ (n D : ℕ) (es : List Event) (faulty : ℕ) where
+module _ (size : Size) (n D : ℕ) (es : List Event) (faulty : ℕ) where
   abbrev E : ℕ → Event
   E = listed es
+
+  abbrev R : Run
+  R = run size n D E
 
   listed-idle : (k : ℕ) → length es ≤ k → E k ≡ idle
   unfolding listed
   listed-idle k l = List·getD-eq-default es idle l
 
-  sound-test : (i : ℕ) → Sound n D E faulty i → isSound n D es faulty i ≡ true
+  sound-test : (i : ℕ) → Sound R faulty i → isSound size n D es faulty i ≡ true
   unfolding isSound
   sound-test i ok = both (lt-ltb i n (ok .0)) (eq-eqb (bit faulty i) 0 (ok .1))
 
-  says-here : (i k : ℕ) (e : Effect) → Says n D E i k e → k < length es
+  says-here : (i k : ℕ) (e : Effect) → Says R i k e → k < length es
   unfolding out
   says-here i k e s =
       elim (decLt k (length es)) [
         | yes d ↦ d
-        | no d ↦ absurd (List·Memᴰ·not-nil (subst (λ (y : Event). List·Memᴰ e (happens i y (at n D E i k) .out)) (listed-idle k (omega arith)) s))
+        | no d ↦ absurd (List·Memᴰ·not-nil (subst (λ (y : Event). List·Memᴰ e (happens i y (at size n D E i k) .out)) (listed-idle k (omega arith)) s))
       ]
 
-  said : (i k : ℕ) (p : Message → Bool) → hasSaid n D es faulty i k p ≡ true → (l : ℕ) × (l < k) × ((m : Message) × Says n D E i l (toAll m) × (p m ≡ true))
+  said : (i k : ℕ) (p : Message → Bool) → hasSaid size n D es faulty i k p ≡ true → (l : ℕ) × (l < k) × ((m : Message) × Says R i l (toAll m) × (p m ≡ true))
   unfolding hasSaid
   said i k p h =
-      let (l, d, q) = some-true k (λ l. any (toAllThat p) (out n D E i l)) h in
-      let (e, m, t) = any-true (toAllThat p) (out n D E i l) q in
+      let (l, d, q) = some-true k (λ l. any (toAllThat p) (out size n D E i l)) h in
+      let (e, m, t) = any-true (toAllThat p) (out size n D E i l) q in
       let (x, f, u) = toAllThat-true p e t in
-      (l, d, (x, subst (λ (y : Effect). Says n D E i l y) f m, u))
+      (l, d, (x, subst (λ (y : Effect). Says R i l y) f m, u))
 
-  said-message : (i k : ℕ) (m : Message) → hasSaid n D es faulty i k (sameMessage m) ≡ true → (l : ℕ) × (l < k) × Says n D E i l (toAll m)
+  said-message : (i k : ℕ) (m : Message) → hasSaid size n D es faulty i k (sameMessage m) ≡ true → (l : ℕ) × (l < k) × Says R i l (toAll m)
   said-message i k m h =
       let (l, d, (x, s, u)) = said i k (sameMessage m) h in
-      (l, d, subst (λ (y : Message). Says n D E i l (toAll y)) (sym (sameMessage-eq m x u)) s)
+      (l, d, subst (λ (y : Message). Says R i l (toAll y)) (sym (sameMessage-eq m x u)) s)
 
   -- ---- no forgery
 
-  voters-test : (k m v h b : ℕ) → votersVoted n D es faulty k m v h b ≡ true → VotersVoted n D E faulty k m v h b
+  voters-test : (k m v h b : ℕ) → votersVoted size n D es faulty k m v h b ≡ true → VotersVoted R faulty k m v h b
   unfolding votersVoted
   voters-test k m v h b t i ok y =
       said-message i k (vote v h b i)
-      (implies-true (isSound n D es faulty i && eqb (bit m i) 1) (every-true n _ t i (ok .0)) (both (sound-test i ok) (eq-eqb (bit m i) 1 y)))
+      (implies-true (isSound size n D es faulty i && eqb (bit m i) 1) (every-true n _ t i (ok .0)) (both (sound-test i ok) (eq-eqb (bit m i) 1 y)))
 
-  made-test : (i k : ℕ) (f : ℕ → Message) → hasMade n D es faulty i k f ≡ true → Sound n D E faulty i → HasMade n D E i k f
+  made-test : (i k : ℕ) (f : ℕ → Message) → hasMade size n D es faulty i k f ≡ true → Sound R faulty i → HasMade R i k f
   unfolding hasMade
   made-test i k f t ok =
-      let (l, d, (x, s, u)) = said i k (λ m. sameMessage (f (maskIn m)) m) (implies-true (isSound n D es faulty i) t (sound-test i ok)) in
-      (l, d, (maskIn x, subst (λ (y : Message). Says n D E i l (toAll y)) (sym (sameMessage-eq (f (maskIn x)) x u)) s))
+      let (l, d, (x, s, u)) = said i k (λ m. sameMessage (f (maskIn m)) m) (implies-true (isSound size n D es faulty i) t (sound-test i ok)) in
+      (l, d, (maskIn x, subst (λ (y : Message). Says R i l (toAll y)) (sym (sameMessage-eq (f (maskIn x)) x u)) s))
 
-  genuine-test : (k : ℕ) (m : Message) → isGenuine n D es faulty k m ≡ true → Genuine n D E faulty k m
+  genuine-test : (k : ℕ) (m : Message) → isGenuine size n D es faulty k m ≡ true → Genuine R faulty k m
   unfolding isGenuine
-  genuine-test k (newView v h b c m a) t = let q = and-2 (votersVoted n D es faulty k m c h b) _ t in (voters-test k m c h b (q .0), made-test a k (λ x. newView v h b c x a) (q .1))
-  genuine-test k (propose v h b p m a) t = let q = and-2 (votersVoted n D es faulty k m v (h - 1) p) _ t in (voters-test k m v (h - 1) p (q .0), made-test a k (λ x. propose v h b p x a) (q .1))
-  genuine-test k (vote v h b a) t = λ ok. said-message a k (vote v h b a) (implies-true (isSound n D es faulty a) t (sound-test a ok))
-  genuine-test k (blame v a) t = λ ok. said-message a k (blame v a) (implies-true (isSound n D es faulty a) t (sound-test a ok))
+  genuine-test k (newView v h b c m a) t = let q = and-2 (votersVoted size n D es faulty k m c h b) _ t in (voters-test k m c h b (q .0), made-test a k (λ x. newView v h b c x a) (q .1))
+  genuine-test k (propose v h b p m a) t = let q = and-2 (votersVoted size n D es faulty k m v (h - 1) p) _ t in (voters-test k m v (h - 1) p (q .0), made-test a k (λ x. propose v h b p x a) (q .1))
+  genuine-test k (vote v h b a) t = λ ok. said-message a k (vote v h b a) (implies-true (isSound size n D es faulty a) t (sound-test a ok))
+  genuine-test k (blame v a) t = λ ok. said-message a k (blame v a) (implies-true (isSound size n D es faulty a) t (sound-test a ok))
   genuine-test k (blameSet v m) t = λ i ok y.
       said-message i k (blame v i)
-      (implies-true (isSound n D es faulty i && eqb (bit m i) 1) (every-true n _ t i (ok .0)) (both (sound-test i ok) (eq-eqb (bit m i) 1 y)))
+      (implies-true (isSound size n D es faulty i && eqb (bit m i) 1) (every-true n _ t i (ok .0)) (both (sound-test i ok) (eq-eqb (bit m i) 1 y)))
   genuine-test k (status h b c m) t = voters-test k m c h b t
 
   -- what is handed over is within the list, and was tested
-  hands-test : (k j : ℕ) (m : Message) (p : Message → Bool) → Hands n D E faulty k j m → (k < length es → taken n D es faulty k p ≡ true) → p m ≡ true
+  hands-test : (k j : ℕ) (m : Message) (p : Message → Bool) → Hands R faulty k j m → (k < length es → taken size n D es faulty k p ≡ true) → p m ≡ true
   unfolding taken givenTo
   hands-test k j m p (ok, (bs, e, r), a) t =
       elim (decLt k (length es)) [
         | yes d ↦ (
-            let h = subst (λ (y : Event). givenTo y (λ j bs. implies (isSound n D es faulty j) (ifSome (read bs) (λ m. implies (allowed (settingsOf n D j) m) (p m)))) true ≡ true) e (t d) in
-            implies-true (allowed (settingsOf n D j) m) (ifSome-true (read bs) _ m (implies-true (isSound n D es faulty j) h (sound-test j ok)) r) a)
-        | no d ↦ absurd (no-event (sym (listed-idle k (omega arith)) ∙ e))
+            let h = subst (λ (y : Event). givenTo y (λ j bs. implies (isSound size n D es faulty j) (ifSome (read bs) (λ m. implies (allowed (settingsOf size n D j) m) (p m)))) true ≡ true) e (t d) in
+            implies-true (allowed (settingsOf size n D j) m) (ifSome-true (read bs) _ m (implies-true (isSound size n D es faulty j) h (sound-test j ok)) r) a)
+        | no d ↦ absurd (never-idle (given j bs) tt (sym (listed-idle k (omega arith)) ∙ e))
       ]
-    where
-      no-event : idle ≡ given j bs → ⊥
-      no-event e = let z : _≡_ {A = ℕ} 0 1 = cc in absurd (omega arith)
 
-  pub forgery-checked : noneForged n D es faulty ≡ true → NoForgery n D E faulty
+  forgery-checked : noneForged size n D es faulty ≡ true → NoForgery R faulty
   unfolding noneForged
-  forgery-checked t k j m h = genuine-test k m (hands-test k j m (isGenuine n D es faulty k) h (λ d. every-true (length es) _ t k d))
+  forgery-checked t k j m h = genuine-test k m (hands-test k j m (isGenuine size n D es faulty k) h (λ d. every-true (length es) _ t k d))
 
   -- ---- one block per name
 
   module _ (heightOf parentOf : ℕ → ℕ) where
-    block-test : (m : Message) → isOneBlock n D es faulty heightOf parentOf m ≡ true → OneBlock n D E faulty heightOf parentOf m
+    block-test : (m : Message) → isOneBlock size n D es faulty heightOf parentOf m ≡ true → OneBlock heightOf parentOf m
     unfolding isOneBlock
     block-test (newView v h b c m a) t = eqb-true (heightOf b) h t
     block-test (propose v h b p m a) t = let q = and-2 (eqb (heightOf b) h) (eqb (parentOf b) p) t in (eqb-true (heightOf b) h (q .0), eqb-true (parentOf b) p (q .1))
@@ -187,26 +189,23 @@ module _ (n D : ℕ) (es : List Event) (faulty : ℕ) where
     block-test (status h b c m) t = tt
 
     abbrev fine : Message → Bool
-    fine = isOneBlock n D es faulty heightOf parentOf
+    fine = isOneBlock size n D es faulty heightOf parentOf
 
-    offers-test : (k j : ℕ) (m : Message) → Offers n D E faulty k j m
-        → (k < length es → offeredAs (E k) (λ j b. implies (isSound n D es faulty j) (ifSome (offered b (at n D E j k)) fine)) ≡ true) → fine m ≡ true
+    offers-test : (k j : ℕ) (m : Message) → Offers R faulty k j m
+        → (k < length es → offeredAs (E k) (λ j b. implies (isSound size n D es faulty j) (ifSome (offered b (at size n D E j k)) fine)) ≡ true) → fine m ≡ true
     unfolding offeredAs
     offers-test k j m (ok, (b, e, r)) t =
         elim (decLt k (length es)) [
           | yes d ↦ (
-              let h = subst (λ (y : Event). offeredAs y (λ j b. implies (isSound n D es faulty j) (ifSome (offered b (at n D E j k)) fine)) ≡ true) e (t d) in
-              ifSome-true (offered b (at n D E j k)) fine m (implies-true (isSound n D es faulty j) h (sound-test j ok)) r)
-          | no d ↦ absurd (no-event (sym (listed-idle k (omega arith)) ∙ e))
+              let h = subst (λ (y : Event). offeredAs y (λ j b. implies (isSound size n D es faulty j) (ifSome (offered b (at size n D E j k)) fine)) ≡ true) e (t d) in
+              ifSome-true (offered b (at size n D E j k)) fine m (implies-true (isSound size n D es faulty j) h (sound-test j ok)) r)
+          | no d ↦ absurd (never-idle (offeredTo j b) tt (sym (listed-idle k (omega arith)) ∙ e))
         ]
-      where
-        no-event : idle ≡ offeredTo j b → ⊥
-        no-event e = let z : _≡_ {A = ℕ} 0 1 = cc in absurd (omega arith)
 
-    pub names-checked : oneNamed n D es faulty heightOf parentOf ≡ true → OneName n D E faulty heightOf parentOf
+    names-checked : oneNamed size n D es faulty heightOf parentOf ≡ true → OneName R faulty heightOf parentOf
     unfolding oneNamed
-    names-checked t k j m (inl h) = block-test m (hands-test k j m fine h (λ d. and-2 (taken n D es faulty k fine) _ (every-true (length es) _ t k d) .0))
-    names-checked t k j m (inr o) = block-test m (offers-test k j m o (λ d. and-2 (taken n D es faulty k fine) _ (every-true (length es) _ t k d) .1))
+    names-checked t k j m (inl h) = block-test m (hands-test k j m fine h (λ d. and-2 (taken size n D es faulty k fine) _ (every-true (length es) _ t k d) .0))
+    names-checked t k j m (inr o) = block-test m (offers-test k j m o (λ d. and-2 (taken size n D es faulty k fine) _ (every-true (length es) _ t k d) .1))
 
   -- ---- proper buffers
 
@@ -215,7 +214,7 @@ module _ (n D : ℕ) (es : List Event) (faulty : ℕ) where
   bytes-test [] t = no-bytes
   bytes-test (b ∷ bs) t = let q = and-2 (ltb b 256) (all (λ b. ltb b 256) bs) t in one (ltb-true b 256 (q .0)) (bytes-test bs (q .1))
 
-  lent-test : (e : Event) → givenTo e (λ j bs. all (λ b. ltb b 256) bs) true ≡ true → offeredAs e (λ j b. ltb b (256 ^ 32)) ≡ true → IsLent n D E faulty e
+  lent-test : (e : Event) → givenTo e (λ j bs. all (λ b. ltb b 256) bs) true ≡ true → offeredAs e (λ j b. ltb b (256 ^ 32)) ≡ true → IsLent e
   unfolding givenTo offeredAs
   lent-test idle t u = tt
   lent-test commonTick t u = tt
@@ -223,12 +222,12 @@ module _ (n D : ℕ) (es : List Event) (faulty : ℕ) where
   lent-test (given j bs) t u = bytes-test bs t
   lent-test (offeredTo j b) t u = ltb-true b (256 ^ 32) u
 
-  pub lent-checked : allLent n D es faulty ≡ true → ProperBuffers n D E faulty
+  lent-checked : allLent size n D es faulty ≡ true → ProperBuffers R
   unfolding allLent
   lent-checked t k =
       elim (decLt k (length es)) [
         | yes d ↦ (let q = and-2 _ _ (every-true (length es) _ t k d) in lent-test (E k) (q .0) (q .1))
-        | no d ↦ subst (IsLent n D E faulty) (sym (listed-idle k (omega arith))) tt
+        | no d ↦ subst IsLent (sym (listed-idle k (omega arith))) tt
       ]
 
   -- ---- delivery in time
@@ -242,19 +241,19 @@ module _ (n D : ℕ) (es : List Event) (faulty : ℕ) where
       let q = and-2 (eqb i j) (sameList cs bs) t in ap₂ (λ (x : ℕ) (ys : List ℕ). given x ys) (eqb-true i j (q .0)) (sameList-eq cs bs (q .1))
   given-test (offeredTo i b) j bs t = no-bool (sym t)
 
-  sends-brought : (i j k : ℕ) (m : Message) → Sends n D E faulty i j k m → (e : Effect) × Says n D E i k e × (brought i j e ≡ some m)
+  sends-brought : (i j k : ℕ) (m : Message) → Sends R i j k m → (e : Effect) × Says R i k e × (brought i j e ≡ some m)
   unfolding brought
   sends-brought i j k m (inl (s, ne)) =
       (toAll m, s, by-bool (eqb i j) (λ q. absurd (ne (eqb-true i j q))) (λ q. rw (q, brought)))
   sends-brought i j k m (inr s) = (toOne j m, s, rw (eq-eqb j j refl, brought))
 
-  message-test : (i j k : ℕ) (m : Message) (l : ℕ) → comesInTime n D es faulty i j k m ≡ true → l < length es → ticks i (E l) ≡ 1
-      → clock n D E i l ≡ clock n D E i (suc k) + D → comes n D es faulty j k m l ≡ true
+  message-test : (i j k : ℕ) (m : Message) (l : ℕ) → comesInTime size n D es faulty i j k m ≡ true → l < length es → ticks i (E l) ≡ 1
+      → clock E i l ≡ clock E i (suc k) + D → comes size n D es faulty j k m l ≡ true
   unfolding comesInTime
   message-test i j k m l t d tick now =
-      implies-true (eqb (ticks i (E l)) 1 && eqb (clock n D E i l) (clock n D E i (suc k) + D))
-      (every-true (length es) (λ l. implies (eqb (ticks i (E l)) 1 && eqb (clock n D E i l) (clock n D E i (suc k) + D)) (comes n D es faulty j k m l)) t l d)
-      (both (eq-eqb (ticks i (E l)) 1 tick) (eq-eqb (clock n D E i l) (clock n D E i (suc k) + D) now))
+      implies-true (eqb (ticks i (E l)) 1 && eqb (clock E i l) (clock E i (suc k) + D))
+      (every-true (length es) (λ l. implies (eqb (ticks i (E l)) 1 && eqb (clock E i l) (clock E i (suc k) + D)) (comes size n D es faulty j k m l)) t l d)
+      (both (eq-eqb (ticks i (E l)) 1 tick) (eq-eqb (clock E i l) (clock E i (suc k) + D) now))
 
   tick-here : (i l : ℕ) → ticks i (E l) ≡ 1 → l < length es
   tick-here i l t =
@@ -263,14 +262,14 @@ module _ (n D : ℕ) (es : List Event) (faulty : ℕ) where
         | no d ↦ (let z : ticks i (E l) ≡ 0 = ap (ticks i) (listed-idle l (omega arith)) ∙ (unfold ticks in refl) in absurd (omega arith))
       ]
 
-  pub time-checked : allInTime n D es faulty ≡ true → InTime n D E faulty
+  time-checked : allInTime size n D es faulty ≡ true → InTime R faulty
   unfolding allInTime saidInTime comes
   time-checked t i j hi hj k m s l tick now =
       let (e, q, b) = sends-brought i j k m s in
       let t1 = every-true n _ (every-true n _ t i (hi .0)) j (hj .0) in
-      let t2 = implies-true (isSound n D es faulty i && isSound n D es faulty j) t1 (both (sound-test i hi) (sound-test j hj)) in
-      let t3 = all-true (saidInTime n D es faulty i j k) (out n D E i k) (every-true (length es) (λ x. all (saidInTime n D es faulty i j x) (out n D E i x)) t2 k (says-here i k e q)) e q in
-      let t4 = message-test i j k m l (ifSome-true (brought i j e) (comesInTime n D es faulty i j k) m t3 b) (tick-here i l tick) tick now in
+      let t2 = implies-true (isSound size n D es faulty i && isSound size n D es faulty j) t1 (both (sound-test i hi) (sound-test j hj)) in
+      let t3 = all-true (saidInTime size n D es faulty i j k) (out size n D E i k) (every-true (length es) (λ x. all (saidInTime size n D es faulty i j x) (out size n D E i x)) t2 k (says-here i k e q)) e q in
+      let t4 = message-test i j k m l (ifSome-true (brought i j e) (comesInTime size n D es faulty i j k) m t3 b) (tick-here i l tick) tick now in
       let (h, hl, g) = some-true l (λ h. ltb k h && givenTo (E h) (λ x bs. eqb x j && sameList bs (write m)) false) t4 in
       let g2 = and-2 (ltb k h) (givenTo (E h) (λ x bs. eqb x j && sameList bs (write m)) false) g in
       (h, ltb-true k h (g2 .0), hl, given-test (E h) j (write m) (g2 .1))
@@ -285,7 +284,7 @@ module _ (n D : ℕ) (es : List Event) (faulty : ℕ) where
   common-test (given j bs) t = tt
   common-test (offeredTo j b) t = tt
 
-  pub common-checked : allCommon n D es faulty ≡ true → CommonTicks n D E faulty
+  common-checked : allCommon size n D es faulty ≡ true → CommonTicks R
   unfolding allCommon
   common-checked t k =
       elim (decLt k (length es)) [
@@ -295,24 +294,77 @@ module _ (n D : ℕ) (es : List Event) (faulty : ℕ) where
 
   -- ---- nobody sound stops
 
-  stays : (i k : ℕ) → length es ≤ k → at n D E i k ≡ at n D E i (length es)
+  stays : (i k : ℕ) → length es ≤ k → at size n D E i k ≡ at size n D E i (length es)
   unfolding at
-  stays i zero l = let e : 0 ≡ length es = omega arith in ap (at n D E i) e
+  stays i zero l = let e : 0 ≡ length es = omega arith in ap (at size n D E i) e
   stays i (suc k) l =
       elim (decLe (length es) k) [
-        | yes d ↦ (ap (λ (e : Event). happens i e (at n D E i k) .next) (listed-idle k d) ∙ (unfold happens done saying in refl) ∙ stays i k d)
-        | no d ↦ (let e : suc k ≡ length es = omega arith in ap (at n D E i) e)
+        | yes d ↦ (ap (λ (e : Event). happens i e (at size n D E i k) .next) (listed-idle k d) ∙ (unfold happens done saying in refl) ∙ stays i k d)
+        | no d ↦ (let e : suc k ≡ length es = omega arith in ap (at size n D E i) e)
       ]
 
-  not-stopped : (s : State) → running s ≡ true → ¬ (s .phase ≡ stopped full) × ¬ (s .phase ≡ stopped late)
+  not-stopped : (s : State) → running s ≡ true → HasRoom s
   unfolding running
   not-stopped s r = (λ e. no-bool (sym (rw (e, running) at r)), λ e. no-bool (sym (rw (e, running) at r)))
 
-  pub run-checked : allRun n D es faulty ≡ true → NeverFull n D E faulty
+  run-checked : allRun size n D es faulty ≡ true → NeverFull R faulty
   unfolding allRun
   run-checked t i ok k =
-      let r = implies-true (isSound n D es faulty i) (every-true n _ t i (ok .0)) (sound-test i ok) in
+      let r = implies-true (isSound size n D es faulty i) (every-true n _ t i (ok .0)) (sound-test i ok) in
       elim (decLt k (suc (length es))) [
-        | yes d ↦ not-stopped (at n D E i k) (every-true (suc (length es)) (λ j. running (at n D E i j)) r k d)
-        | no d ↦ rw (stays i k (omega arith)) (not-stopped (at n D E i (length es)) (every-true (suc (length es)) (λ j. running (at n D E i j)) r (length es) (omega arith)))
+        | yes d ↦ not-stopped (at size n D E i k) (every-true (suc (length es)) (λ j. running (at size n D E i j)) r k d)
+        | no d ↦ rw (stays i k (omega arith)) (not-stopped (at size n D E i (length es)) (every-true (suc (length es)) (λ j. running (at size n D E i j)) r (length es) (omega arith)))
       ]
+
+  -- ---- all of them
+
+  module _ (heightOf parentOf : ℕ → ℕ) where
+    abbrev tests : Premise → Bool
+    tests = test size n D es faulty heightOf parentOf
+
+    tested : (p : Premise) → tests p ≡ true → Holds R faulty heightOf parentOf p
+    unfolding test
+    tested settingsGood t = t
+    tested fewFaulty t = leb-true (count faulty) (faults (settingsOf size n D 0)) t
+    tested neverFull t = run-checked t
+    tested commonTicks t = common-checked t
+    tested properBuffers t = lent-checked t
+    tested inTime t = time-checked t
+    tested noForgery t = forgery-checked t
+    tested oneName t = names-checked heightOf parentOf t
+
+    -- a test stands in the verdict at its place
+    placed : (f : Premise → Bool) (p : Premise) → getD (map f premises) (place p) false ≡ f p
+    unfolding premises place
+    placed f settingsGood = refl
+    placed f fewFaulty = refl
+    placed f neverFull = refl
+    placed f commonTicks = refl
+    placed f properBuffers = refl
+    placed f inTime = refl
+    placed f noForgery = refl
+    placed f oneName = refl
+
+    holds : (f : Premise → Bool) → verdict size n D es faulty heightOf parentOf ≡ map f premises → (p : Premise) → f p ≡ true → Holds R faulty heightOf parentOf p
+    unfolding verdict
+    holds f v p t = tested p (sym (placed tests p) ∙ ap (λ (bs : List Bool). getD bs (place p) false) v ∙ placed f p ∙ t)
+
+    pub all-but : (q : Premise) → verdict size n D es faulty heightOf parentOf ≡ map (λ p. other p q) premises → AllBut R faulty heightOf parentOf q
+    all-but q v p t = holds (λ p. other p q) v p t
+
+    pub schedule-checked : verdict size n D es faulty heightOf parentOf ≡ map (λ p. true) premises → Schedule R faulty heightOf parentOf
+    schedule-checked v =
+        let all : (p : Premise) → Holds R faulty heightOf parentOf p = λ p. holds (λ p. true) v p refl in
+        record {
+          premises =
+              record {
+                settings = all settingsGood;
+                few = all fewFaulty;
+                common = all commonTicks;
+                lent = all properBuffers;
+                inTime = all inTime;
+                noForgery = all noForgery;
+                oneName = all oneName;
+              };
+          room = all neverFull;
+        }

@@ -1,5 +1,5 @@
 -- One event, seen from one station: it counts and commits if it is a tick, and then goes by moves. Assumes nothing.
-use mathlib.Core.Path.{_≡_, refl}
+use mathlib.Core.Path.{_≡_, subst, refl, sym}
 use Prim.Native.Nat.{ℕ, _+_}
 use native.Mathlib.Omega.{arith}
 use mathlib.Core.Bool.{true, false}
@@ -40,6 +40,17 @@ OfferedBy i (offeredTo j c) s b m = (i ≡ j) × (b ≡ c) × (offered b s ≡ s
 
 abbrev pub Brings : ℕ → Event → State → Outside
 Brings i e s = record { given = GivenBy i e; offers = OfferedBy i e s }
+
+-- something happens
+abbrev pub Happening : Event → Type 0
+Happening idle = ⊥
+Happening commonTick = Unit {0}
+Happening (tickOf j) = Unit {0}
+Happening (given j bs) = Unit {0}
+Happening (offeredTo j b) = Unit {0}
+
+pub never-idle : (e : Event) → Happening e → idle ≡ e → ⊥
+never-idle e h q = subst Happening (sym q) h
 
 -- the state from which the moves go, and what is said before them
 unfoldable pub begun : Event → State → State

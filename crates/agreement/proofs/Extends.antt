@@ -1,21 +1,22 @@
 -- G4: every sound vote that ranks at or above a ripe propose is for a block that extends it. Assumes nothing.
-use mathlib.Core.Path.{_≡_, subst, subst₂, refl, sym, _∙_}
-use Prim.Native.Nat.{ℕ, zero, suc, _+_, _≤_, _<_}
+use mathlib.Core.Path.{_≡_, subst, refl, sym, _∙_}
+use Prim.Native.Nat.{ℕ, suc, _+_, _≤_, _<_}
 use native.Mathlib.Omega.{arith}
 use native.Mathlib.Decide.{decLt}
 use mathlib.Core.Bool.{true, false}
 use mathlib.Core.Logic.{_⊎_, inl, inr}
-use Rattle.rules.specs.Words.{Statement, conflict, Tally, certificate, below}
+use Rattle.rules.specs.Words.{Statement, conflict, certificate}
 use Rattle.rules.proofs.Tests.{by-bool}
 use Rattle.rules.proofs.Statements.{no-conflict-propose, no-conflict-newView}
 use Rattle.rules.proofs.Tallies.{AtLeast, at-least-trans, not-below}
 use Rattle.agreement.proofs.Lineage.{up}
 use Rattle.agreement.proofs.Group.{Group, ck}
 use Rattle.agreement.proofs.Ripe.{Ripe, ripe-view, no-rival, cast-lock}
-use Rattle.agreement.proofs.Behind.{SoundVote, Behind, grounds}
+use Rattle.agreement.proofs.Behind.{SoundVote}
+use Rattle.agreement.proofs.Rank.{Step, by-rank}
 
 module _ (X : Group) (r k0 t : ℕ) (x : Statement) (R : Ripe X r k0 t x) where
-  open Group X using (n, D, faulty, event, next, parentOf)
+  open Group X using (size, n, D, faulty, event, next, parentOf)
 
   -- the block b of height h has x's block as an ancestor, or is it
   abbrev pub Extends : ℕ → ℕ → Type 0
@@ -25,9 +26,9 @@ module _ (X : Group) (r k0 t : ℕ) (x : Statement) (R : Ripe X r k0 t x) where
   abbrev pub NotBelow : ℕ → ℕ → Type 0
   NotBelow v h = AtLeast v h (x .view) (x .height)
 
-  extends-up : (h b p : ℕ) → parentOf b ≡ p → Extends h p → Extends (suc h) b
+  extends-up : (k h b p : ℕ) → k ≡ suc h → parentOf b ≡ p → Extends h p → Extends k b
   unfolding up
-  extends-up h b p e (d, q, u) = (suc d, omega arith, rw e u)
+  extends-up k h b p l e (d, q, u) = (suc d, omega arith, rw e u)
 
   extends-here : (h b : ℕ) → h ≡ x .height → b ≡ x .name → Extends h b
   unfolding up
@@ -37,66 +38,51 @@ module _ (X : Group) (r k0 t : ℕ) (x : Statement) (R : Ripe X r k0 t x) where
   unfolding certificate
   certificate-rank w k = rw k (refl, refl)
 
-  -- one vote, from the earlier ones
-  one-vote : (c : ℕ) (w : Statement) (lock : Tally) → Behind X c w → (x .view < w .view → NotBelow (lock .view) (lock .height))
-      → (w .isNewView ≡ true → below (certificate w) lock ≡ false) → (w .view ≡ x .view → conflict x w ≡ false)
-      → ((v h b : ℕ) → v < w .view → SoundVote X c v h b → NotBelow v h → Extends h b)
-      → ((h b : ℕ) → w .height ≡ suc h → SoundVote X c (w .view) h b → NotBelow (w .view) h → Extends h b)
-      → NotBelow (w .view) (w .height) → Extends (w .height) (w .name)
-  one-vote c w lock B locked nb nc ihv ihh al =
-      by-bool (w .isNewView) (λ kw. new kw (ripe-view X r k0 t x R) al) (λ kw. let (h, e, p, q) = B .0 kw in old kw al h e p q)
+  abbrev Claim : (c v h b : ℕ) → Type 0
+  Claim c v h b = NotBelow v h → Extends h b
+
+  -- one vote, from those behind it
+  one-vote : Step X Claim (λ c d v h b l p. p)
+  one-vote i ok k v h b g lower under = by-bool (w .isNewView) (λ e a. new e a) (λ e a. old e a (g .behind .0 e))
     where
-      by-certificate : 1 ≤ x .view → NotBelow (w .link) (w .height) → (w .link < w .view) × (((w .link ≡ 0) × (w .height ≡ 0)) ⊎ SoundVote X c (w .link) (w .height) (w .name)) → Extends (w .height) (w .name)
-      by-certificate pos (inl l) (lt, inl (z, y)) = absurd (omega arith)
-      by-certificate pos (inr l) (lt, inl (z, y)) = absurd (omega arith)
-      by-certificate pos l (lt, inr e) = ihv (w .link) (w .height) (w .name) lt e l
+      w : Statement
+      w = g .cast .stands .what
 
-      new : w .isNewView ≡ true → 1 ≤ x .view → NotBelow (w .view) (w .height) → Extends (w .height) (w .name)
-      new kw pos (inl l) =
-          let d = certificate-rank w kw in
-          let f = rw (d .0, d .1) at (not-below (certificate w) lock (nb kw)) in
-          by-certificate pos (at-least-trans _ _ _ _ _ _ f (locked l)) (B .1 kw)
-      new kw pos (inr l) = let z = no-conflict-newView x w (nc (l .0)) (l .0) (R .kind) kw in absurd (omega arith)
+      c : ℕ
+      c = ck X (suc k)
 
-      old : w .isNewView ≡ false → NotBelow (w .view) (w .height) → (h : ℕ) → w .height ≡ suc h → parentOf (w .name) ≡ w .link → SoundVote X c (w .view) h (w .link) → Extends (w .height) (w .name)
-      old kw (inl l) h e p q = rw e (extends-up h (w .name) (w .link) p (ihh h (w .link) e q (inl l)))
-      old kw (inr l) h e p q =
+      -- it doesn't conflict with x, and in a later view the lock is at or above x
+      calm : w .view ≡ x .view → conflict x w ≡ false
+      calm e = no-rival X r k0 t x R i ok k v h b (g .cast) (sym (g .cast .stands .view) ∙ e)
+
+      locked : x .view < w .view → NotBelow (g .cast .at .lock .view) (g .cast .at .lock .height)
+      locked l = cast-lock X r k0 t x R i ok k v h b (g .cast) (subst (λ (z : ℕ). x .view < z) (g .cast .stands .view ∙ sym (g .cast .stands .current)) l)
+
+      -- a new-view is for the block of its certificate
+      certified : 1 ≤ x .view → NotBelow (w .link) (w .height) → (w .link < w .view) × (((w .link ≡ 0) × (w .height ≡ 0)) ⊎ SoundVote X c (w .link) (w .height) (w .name))
+          → Extends (w .height) (w .name)
+      certified pos (inl l) (lt, inl (z, y)) = absurd (omega arith)
+      certified pos (inr l) (lt, inl (z, y)) = absurd (omega arith)
+      certified pos l (lt, inr e) = lower (w .link) (w .height) (w .name) lt c e l
+
+      new : w .isNewView ≡ true → NotBelow (w .view) (w .height) → Extends (w .height) (w .name)
+      new e (inl l) =
+          let d = certificate-rank w e in
+          let f = rw (d .0, d .1) at (not-below (certificate w) (g .cast .at .lock) (g .cast .stands .lock e)) in
+          certified (ripe-view X r k0 t x R) (at-least-trans _ _ _ _ _ _ f (locked l)) (g .behind .1 e)
+      new e (inr l) = let z = no-conflict-newView x w (calm (l .0)) (l .0) (R .kind) e in absurd (omega arith)
+
+      -- a propose is for a child of the block that its certificate is of, or is x's block
+      old : w .isNewView ≡ false → NotBelow (w .view) (w .height)
+          → (h′ : ℕ) × (w .height ≡ suc h′) × (parentOf (w .name) ≡ w .link) × SoundVote X c (w .view) h′ (w .link) → Extends (w .height) (w .name)
+      old e (inl l) (h′, q, p, s) = extends-up (w .height) h′ (w .name) (w .link) q p (under h′ (w .link) q c s (inl l))
+      old e (inr l) (h′, q, p, s) =
           elim (decLt (x .height) (w .height)) [
-            | yes d ↦ rw e (extends-up h (w .name) (w .link) p (ihh h (w .link) e q (inr (l .0, omega arith))))
-            | no d ↦ (let z : w .height ≡ x .height = omega arith in extends-here (w .height) (w .name) z (no-conflict-propose x w (nc (l .0)) (l .0) (R .kind) kw z))
+            | yes d ↦ extends-up (w .height) h′ (w .name) (w .link) q p (under h′ (w .link) q c s (inr (l .0, omega arith)))
+            | no d ↦ (
+                let z : w .height ≡ x .height = omega arith in
+                extends-here (w .height) (w .name) z (no-conflict-propose x w (calm (l .0)) (l .0) (R .kind) e z))
           ]
 
-  -- by induction on the rank of the vote: first the views below, then the heights below in its view
-  abbrev Claim : ℕ → ℕ → ℕ → Type 0
-  Claim v h b = (c : ℕ) → SoundVote X c v h b → NotBelow v h → Extends h b
-
-  by-height : (W : ℕ) → ((v h b : ℕ) → v < W → Claim v h b) → (H h b : ℕ) → h < H → Claim W h b
-  by-height W lower zero h b l c vt al = absurd (omega arith)
-  by-height W lower (suc H) h b l c (i, k, ok, _, m) al =
-      let g = grounds X i ok k W h b i m in
-      let cast = g .cast in
-      let y = cast .stands in
-      let w = y .what in
-      let e = y .height in
-      subst₂ Extends (y .height) (y .name)
-      (one-vote (ck X (suc k)) w (cast .at .lock) (g .behind)
-      (λ q. cast-lock X r k0 t x R i ok k W h b cast (subst (λ (z : ℕ). x .view < z) (y .view ∙ sym (y .current)) q)) (y .lock)
-      (λ q. no-rival X r k0 t x R i ok k W h b cast (sym (y .view) ∙ q))
-      (λ v′ h′ b′ q. lower v′ h′ b′ (subst (λ (z : ℕ). v′ < z) (y .view) q) (ck X (suc k)))
-      (λ h′ b′ q vt′ al″.
-      by-height W lower H h′ b′ (omega arith) (ck X (suc k)) (subst (λ (z : ℕ). SoundVote X (ck X (suc k)) z h′ b′) (y .view) vt′)
-      (subst (λ (z : ℕ). NotBelow z h′) (y .view) al″))
-      (subst₂ NotBelow (sym (y .view)) (sym (y .height)) al))
-
-  by-view : (W v h b : ℕ) → v < W → Claim v h b
-  by-view zero v h b l c vt al = absurd (omega arith)
-  by-view (suc W) v h b l c vt al =
-      elim (decLt v W) [
-        | yes d ↦ by-view W v h b d c vt al
-        | no d ↦ (
-            let e : v ≡ W = omega arith in
-            by-height W (by-view W) (suc h) h b (omega arith) c (subst (λ (z : ℕ). SoundVote X c z h b) e vt) (subst (λ (z : ℕ). NotBelow z h) e al))
-      ]
-
   pub extends : (c v h b : ℕ) → SoundVote X c v h b → NotBelow v h → Extends h b
-  extends c v h b = by-view (suc v) v h b (omega arith) c
+  extends c v h b = by-rank X Claim (λ c d v h b l p. p) one-vote v h b c

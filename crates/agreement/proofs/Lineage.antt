@@ -98,7 +98,9 @@ module _ (parentOf : ℕ → ℕ) where
         by-option (first (isBlock (suc h) b) xs)
         (λ q. no-bool (sym (subst (λ (k : ℕ). any (isBlock k b) xs ≡ true) z (f 0 (omega arith))) ∙ first-none (isBlock (suc h) b) xs q)) λ y q.
         let (p, u) = block-link xs h b y a q in
-        let (l, e) = chain-to-whole xs a h (y .link) (b ∷ above) (λ d k. let w : suc h - suc d ≡ h - d = omega arith in subst₂ (λ (i j : ℕ). any (isBlock i (up d j)) xs ≡ true) w p (f (suc d) (omega arith))) in
+        let below : AllStored xs h (y .link) =
+        λ d k. let w : suc h - suc d ≡ h - d = omega arith in subst₂ (λ (i j : ℕ). any (isBlock i (up d j)) xs ≡ true) w p (f (suc d) (omega arith)) in
+        let (l, e) = chain-to-whole xs a h (y .link) (b ∷ above) below in
         (l, rw (q, chainTo) e)
 
     pub chain-whole : (xs : List Statement) (x : Statement) → All Placed xs → Placed x → x .isNewView ≡ false → AllStored xs (x .height - 1) (x .link)

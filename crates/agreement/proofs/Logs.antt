@@ -22,7 +22,7 @@ use Rattle.rules.proofs.Kept.{in-true, moves-fixed}
 use Rattle.rules.proofs.Orderly.{Voted}
 use Rattle.rules.proofs.Commits.{begins-merge, commits-some, commits-none, Due, due-facts, reports-append, moves-messages}
 use Rattle.rules.proofs.Splits.{dueCommits}
-use Rattle.agreement.specs.Schedule.{Event, idle, commonTick, tickOf, given, offeredTo, happens, ticks, IsCommon, at, out, Linked, lineage, reportsIn, reported}
+use Rattle.agreement.specs.Schedule.{Event, idle, commonTick, tickOf, given, offeredTo, happens, ticks, IsCommon, at, out, Linked, lineage, reportsIn, reported, Run, run, OneBegins}
 use Rattle.agreement.proofs.Lineage.{Placed, up, lineage-up, lineage-linked, chain-lineage}
 use Rattle.agreement.proofs.Events.{Brings, begun, before}
 use Rattle.agreement.proofs.Clock.{clock-suc}
@@ -35,7 +35,7 @@ use Rattle.agreement.proofs.Extends.{Extends, extends}
 
 pub event-log : (i : ℕ) (e : Event) (s : State) → IsCommon e → running (happens i e s .next) ≡ true
     → (begun e s .log ≡ s .log)
-    ⊎ ((e ≡ commonTick) × (begun e s .log ≡ logAfter s) × (commits (counted s .statements) (due (counted s)) (counted s .log) ≡ some (logAfter s)))
+    ⊎ ((e ≡ commonTick) × (begun e s .log ≡ logAfter s) × (dueCommits s ≡ some (logAfter s)))
 unfolding happens begun withLog
 event-log i idle s c r = inl refl
 event-log i commonTick s c r = inr (refl, refl, tick-moves (Brings i commonTick s) s r .0)
@@ -44,19 +44,20 @@ event-log i (given j bs) s c r = inl refl
 event-log i (offeredTo j b) s c r = inl refl
 
 event-tick : (i : ℕ) (e : Event) (s : State) → e ≡ commonTick → running (happens i e s .next) ≡ true
-    → (begun e s .log ≡ logAfter s) × (commits (counted s .statements) (due (counted s)) (counted s .log) ≡ some (logAfter s))
+    → (begun e s .log ≡ logAfter s) × (dueCommits s ≡ some (logAfter s))
 event-tick i e s q =
-    subst (λ (y : Event). running (happens i y s .next) ≡ true → (begun y s .log ≡ logAfter s) × (commits (counted s .statements) (due (counted s)) (counted s .log) ≡ some (logAfter s))) (sym q)
+    subst (λ (y : Event). running (happens i y s .next) ≡ true → (begun y s .log ≡ logAfter s) × (dueCommits s ≡ some (logAfter s))) (sym q)
     (λ r. unfold happens begun withLog in (refl, tick-moves (Brings i commonTick s) s r .0))
 
 -- a tick changes no statement and no log by counting
-pub counted-same : (s : State) → (counted s .statements ≡ s .statements) × (counted s .log ≡ s .log) × (counted s .settings ≡ s .settings) × (counted s .phase ≡ s .phase) × (counted s .view ≡ s .view) × (counted s .clock ≡ s .clock + 1)
+pub counted-same : (s : State) → (counted s .statements ≡ s .statements) × (counted s .log ≡ s .log) × (counted s .settings ≡ s .settings)
+    × (counted s .phase ≡ s .phase) × (counted s .view ≡ s .view) × (counted s .clock ≡ s .clock + 1)
 unfolding counted withClock
 counted-same s = (refl, refl, refl, refl, refl, refl)
 
 -- ---- reports
 
-reportsIn-append : (a b : List Effect) → reportsIn (a ++ b) ≡ reportsIn a ++ reportsIn b
+pub reportsIn-append : (a b : List Effect) → reportsIn (a ++ b) ≡ reportsIn a ++ reportsIn b
 unfolding reportsIn
 reportsIn-append [] b = refl
 reportsIn-append (toAll m ∷ a) b = reportsIn-append a b
@@ -80,7 +81,9 @@ event-reported i idle s c r = append-nil _
 event-reported i commonTick s c r =
     let (new, e) = commits-some (counted s .statements) (due (counted s)) (counted s .log) (logAfter s) (tick-moves (Brings i commonTick s) s r .0) .begins in
     let f : logAfter s ≡ s .log ++ new = sym e ∙ ap (_++ new) (counted-same s .1) in
-    let g : news s ≡ reports (suc (length (s .log))) new = ap (λ (l : List ℕ). reports (suc (length (s .log))) (drop (length (s .log)) l)) f ∙ ap (reports (suc (length (s .log)))) (drop-append-seam (s .log) new) in
+    let above = suc (length (s .log)) in
+    let g : news s ≡ reports above new =
+    ap (λ (l : List ℕ). reports above (drop (length (s .log)) l)) f ∙ ap (reports above) (drop-append-seam (s .log) new) in
     let z : 1 + length (s .log) ≡ suc (length (s .log)) = omega arith in
     ap (λ (x : List Effect). reports 1 (s .log) ++ reportsIn x) g ∙ ap (reports 1 (s .log) ++_) (reportsIn-reports (suc (length (s .log))) new)
     ∙ sym (ap (reports 1) f ∙ reports-append 1 (s .log) new ∙ ap (λ (y : ℕ). reports 1 (s .log) ++ reports y new) z)
@@ -89,7 +92,10 @@ event-reported i (given j bs) s c r = append-nil _
 event-reported i (offeredTo j b) s c r = append-nil _
 
 module _ (X : Group) where
-  open Group X using (n, D, faulty, event, next, parentOf)
+  open Group X using (size, n, D, faulty, event, next, parentOf)
+
+  abbrev R : Run
+  R = run size n D event
 
   -- what is due is ripe
   pub due-ripe : (i : ℕ) → Ok X i → (k : ℕ) → ck X k + 1 ≤ next k → (x : Statement) → Due (counted (st X i k)) x → (c : ℕ) × Ripe X i k c x
@@ -132,7 +138,7 @@ module _ (X : Group) where
 
   -- a common tick leaves the log that its commits make
   pub tick-log : (i : ℕ) → Ok X i → (k : ℕ) → event k ≡ commonTick
-      → (st X i (suc k) .log ≡ logAfter (st X i k)) × (commits (counted (st X i k) .statements) (due (counted (st X i k))) (counted (st X i k) .log) ≡ some (logAfter (st X i k)))
+      → (st X i (suc k) .log ≡ logAfter (st X i k)) × (dueCommits (st X i k) ≡ some (logAfter (st X i k)))
   unfolding at
   tick-log i ok k e =
       let same = moves-fixed (moves-of X i ok k .2) .2 in
@@ -162,7 +168,7 @@ module _ (X : Group) where
           let s = st X i k in
           let d = due-facts (counted s) x m in
           let es = counted-same s .0 in
-          let t : ck X k + 1 ≡ ck X (suc k) = sym (clock-suc n D event k ∙ ap (λ (y : Event). ck X k + ticks 0 y) f ∙ (unfold ticks in refl)) in
+          let t : ck X k + 1 ≡ ck X (suc k) = sym (clock-suc event k ∙ ap (λ (y : Event). ck X k + ticks 0 y) f ∙ (unfold ticks in refl)) in
           let sn = X .soon k in
           let (c, r) = due-ripe i ok k (omega arith) x d in
           let (l, u) = stored-lineage i ok k x (logAfter s) (subst (List·Memᴰ x) es (d .0)) (d .1) (subst (λ (y : List Statement). chain y x ≡ some (logAfter s)) es q) in
@@ -170,7 +176,7 @@ module _ (X : Group) where
 
       go : st X i (suc k) .log ≡ begun (event k) (st X i k) .log → (st X i k .log ≡ []) ⊎ RipeLog i (st X i k .log)
           → (begun (event k) (st X i k) .log ≡ st X i k .log)
-          ⊎ ((event k ≡ commonTick) × (begun (event k) (st X i k) .log ≡ logAfter (st X i k)) × (commits (counted (st X i k) .statements) (due (counted (st X i k))) (counted (st X i k) .log) ≡ some (logAfter (st X i k))))
+          ⊎ ((event k ≡ commonTick) × (begun (event k) (st X i k) .log ≡ logAfter (st X i k)) × (dueCommits (st X i k) ≡ some (logAfter (st X i k))))
           → (st X i (suc k) .log ≡ []) ⊎ RipeLog i (st X i (suc k) .log)
       go e h (inl q) = keeps (st X i k .log) _ (e ∙ q) h
       go e h (inr (f, q, c)) = now (e ∙ q) f h (commits-some _ _ _ _ c .from)
@@ -189,20 +195,20 @@ module _ (X : Group) where
 
   -- of the lineages of two ripe proposes one begins the other
   pub ripe-begins : (r k0 t : ℕ) (x : Statement) → Ripe X r k0 t x → (s k1 u : ℕ) (y : Statement) → Ripe X s k1 u y
-      → IsPrefix (lineage parentOf (x .height) (x .name)) (lineage parentOf (y .height) (y .name)) ⊎ IsPrefix (lineage parentOf (y .height) (y .name)) (lineage parentOf (x .height) (x .name))
+      → OneBegins (lineage parentOf (x .height) (x .name)) (lineage parentOf (y .height) (y .name))
   ripe-begins r k0 t x R s k1 u y S = go (at-least-either (y .view) (y .height) (x .view) (x .height))
     where
       go : AtLeast (y .view) (y .height) (x .view) (x .height) ⊎ AtLeast (x .view) (x .height) (y .view) (y .height)
-          → IsPrefix (lineage parentOf (x .height) (x .name)) (lineage parentOf (y .height) (y .name)) ⊎ IsPrefix (lineage parentOf (y .height) (y .name)) (lineage parentOf (x .height) (x .name))
+          → OneBegins (lineage parentOf (x .height) (x .name)) (lineage parentOf (y .height) (y .name))
       go (inl a) = inl (extends-lineage r k0 t x R y (extends X r k0 t x R u (y .view) (y .height) (y .name) (ripe-vote s k1 u y S) a))
       go (inr a) = inr (extends-lineage s k1 u y S x (extends X s k1 u y S t (x .view) (x .height) (x .name) (ripe-vote r k0 t x R) a))
 
   -- of two sound logs, at whatever moments, one begins the other
-  pub logs-begin : (i j : ℕ) → Ok X i → Ok X j → (k l : ℕ) → IsPrefix (st X i k .log) (st X j l .log) ⊎ IsPrefix (st X j l .log) (st X i k .log)
+  pub logs-begin : (i j : ℕ) → Ok X i → Ok X j → (k l : ℕ) → OneBegins (st X i k .log) (st X j l .log)
   logs-begin i j hi hj k l = go (log-run i hi k) (log-run j hj l)
     where
       go : (st X i k .log ≡ []) ⊎ RipeLog i (st X i k .log) → (st X j l .log ≡ []) ⊎ RipeLog j (st X j l .log)
-          → IsPrefix (st X i k .log) (st X j l .log) ⊎ IsPrefix (st X j l .log) (st X i k .log)
+          → OneBegins (st X i k .log) (st X j l .log)
       go (inl e) (inl f) = inl (st X j l .log, ap (_++ (st X j l .log)) e)
       go (inl e) (inr b) = inl (st X j l .log, ap (_++ (st X j l .log)) e)
       go (inr a) (inl e) = inr (st X i k .log, ap (_++ (st X i k .log)) e)
@@ -218,7 +224,7 @@ module _ (X : Group) where
 
   -- ---- each name is reported once, in order, with its height
 
-  pub log-reported : (i : ℕ) → Ok X i → (k : ℕ) → reported n D event i k ≡ reports 1 (st X i k .log)
+  pub log-reported : (i : ℕ) → Ok X i → (k : ℕ) → reported R i k ≡ reports 1 (st X i k .log)
   unfolding reported at fresh reports
   log-reported i ok zero = refl
   log-reported i ok (suc k) =
@@ -226,8 +232,8 @@ module _ (X : Group) where
       let same = moves-fixed w .2 in
       let s = st X i k in
       let quiet = none-reported o (moves-messages (λ e. reportsIn (e ∷ []) ≡ []) (λ m. unfold reportsIn in refl) (λ j m. unfold reportsIn in refl) (begun (event k) s) (st X i (suc k)) o w) in
-      let e : reportsIn (out n D event i k) ≡ reportsIn (before (event k) s) = ap reportsIn q ∙ reportsIn-append (before (event k) s) o ∙ ap (reportsIn (before (event k) s) ++_) quiet ∙ append-nil _ in
-      ap (_++ reportsIn (out n D event i k)) (log-reported i ok k) ∙ ap (reports 1 (s .log) ++_) e ∙ event-reported i (event k) s (X .common k) (X .runs i ok (suc k)) ∙ ap (reports 1) (sym same)
+      let e : reportsIn (out size n D event i k) ≡ reportsIn (before (event k) s) = ap reportsIn q ∙ reportsIn-append (before (event k) s) o ∙ ap (reportsIn (before (event k) s) ++_) quiet ∙ append-nil _ in
+      ap (_++ reportsIn (out size n D event i k)) (log-reported i ok k) ∙ ap (reports 1 (s .log) ++_) e ∙ event-reported i (event k) s (X .common k) (X .runs i ok (suc k)) ∙ ap (reports 1) (sym same)
 
   -- ---- no due commit differs from the log
 
@@ -249,7 +255,7 @@ module _ (X : Group) where
       go : (j : List ℕ) (t : ℕ) (x : Statement) → Ripe X i k t x
           → (j ≡ counted (st X i k) .log) ⊎ ((y : Statement) × List·Memᴰ y (due (counted (st X i k))) × (chain (counted (st X i k) .statements) y ≡ some j))
           → (st X i k .log ≡ []) ⊎ RipeLog i (st X i k .log)
-          → IsPrefix (lineage parentOf (x .height) (x .name)) j ⊎ IsPrefix j (lineage parentOf (x .height) (x .name))
+          → OneBegins (lineage parentOf (x .height) (x .name)) j
       go j t x R (inr (y, m, c)) h = let (u, S, l) = due-lineage y j m c in rw l (ripe-begins i k t x R i k u y S)
       go j t x R (inl e) (inl z) = rw (e ∙ counted-same (st X i k) .1 ∙ z) (inr (lineage parentOf (x .height) (x .name), refl))
       go j t x R (inl e) (inr (k0, u, y, S, z, w)) = rw (e ∙ counted-same (st X i k) .1 ∙ z) (ripe-begins i k t x R i k0 u y S)

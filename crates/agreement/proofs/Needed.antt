@@ -1,80 +1,104 @@
--- The premises of 01 give what the proof needs. Of what is forged it needs the votes alone, of a block the parent alone, and that
--- a delivery comes after its sending is not used. Assumes nothing.
+-- The premises of 01 give what the proof needs. Of what is forged it needs the votes alone, of a block the parent alone. Assumes nothing.
 use mathlib.Core.Path.{_≡_, subst, refl, sym, ap, _∙_}
 use Prim.Native.Nat.{ℕ, suc, _+_, _≤_, _<_}
 use native.Mathlib.Omega.{arith}
+use mathlib.Core.Bool.{true}
 use mathlib.Core.Logic.{_⊎_, inl, inr}
 use mathlib.Core.Option.{some, Option·some-injective}
-use Rattle.rules.specs.Sizes.{bit}
-use Rattle.rules.specs.Messages.{Message, newView, propose, vote, blame, blameSet, status, write, toAll}
-use Rattle.rules.specs.Words.{Tally}
+use Rattle.rules.specs.Limits.{Size}
+use Rattle.rules.specs.Sizes.{Settings, bit}
+use Rattle.rules.specs.Messages.{Message, newView, propose, vote, blame, blameSet, status, write, allowed}
+use Rattle.rules.specs.Words.{Certificate}
+use Rattle.rules.specs.Refusals.{Outcome, running, step}
 use Rattle.rules.proofs.Tests.{no-some}
 use Rattle.rules.proofs.Tallies.{bit-only}
 use Rattle.rules.proofs.Moves.{carried}
+use Rattle.rules.proofs.Held.{step-taken}
+use Rattle.rules.proofs.Views.{viewOf}
 use Rattle.rules.proofs.Proper.{Parented}
-use Rattle.agreement.specs.Schedule.{Event, commonTick, given, ticks, IsCommon, clock, Says, HasVoted, Sound, SoundRun, Genuine, OneBlock, Premises}
-use Rattle.agreement.proofs.Events.{ticks-two}
-use Rattle.agreement.proofs.Clock.{clock-suc, last-of, clock-alike}
-use Rattle.agreement.proofs.Group.{Group}
+use Rattle.agreement.specs.Schedule.{Event, commonTick, given, happens, ticks, IsCommon, at, clock, HasVoted, Sound, GoodSettings, SoundRun, ProperBuffers, Sends, Genuine, OneBlock, Premises, Run, run, CommonTicks, InTime}
+use Rattle.agreement.proofs.Events.{happens-given}
+use Rattle.agreement.proofs.Whole.{settings-alike, settings-at, sent-allowed}
+use Rattle.agreement.proofs.Clock.{last-of, clock-alike, one-tick}
+use Rattle.agreement.proofs.Group.{Reaches, Takes, Group}
 
-pub one-tick : (n D : ℕ) (event : ℕ → Event) → ((k : ℕ) → IsCommon (event k)) → (k : ℕ) → clock n D event 0 (suc k) ≤ clock n D event 0 k + 1
-one-tick n D event cm k = go (clock-suc n D event k) (ticks-two (event k) (cm k))
+-- the voters of a genuine message's certificate voted
+pub genuine-voters : (R : Run) (faulty k : ℕ) (m : Message) (t : Certificate) → carried m ≡ some t → Genuine R faulty k m → (i : ℕ) → Sound R faulty i → bit (t .mask) i ≡ 1
+    → HasVoted R i k (t .view) (t .height) (t .name)
+unfolding carried
+genuine-voters R faulty k m t e g i ok y = go m e g
   where
-    go : clock n D event 0 (suc k) ≡ clock n D event 0 k + ticks 0 (event k) → (ticks 0 (event k) ≡ 0) ⊎ ((ticks 0 (event k) ≡ 1) × (event k ≡ commonTick))
-        → clock n D event 0 (suc k) ≤ clock n D event 0 k + 1
-    go e (inl t) = omega arith
-    go e (inr (t, f)) = omega arith
+    -- the certificate is the one that the message carries
+    same : (u : Certificate) → some u ≡ some t → (bit (u .mask) i ≡ 1 → HasVoted R i k (u .view) (u .height) (u .name)) → HasVoted R i k (t .view) (t .height) (t .name)
+    same u e f =
+        let q = Option·some-injective u t e in
+        subst (λ (x : Certificate). HasVoted R i k (x .view) (x .height) (x .name)) q (f (rw (← q) at y))
 
-module _ (n D : ℕ) (event : ℕ → Event) (faulty : ℕ) (heightOf parentOf : ℕ → ℕ) where
-  pub genuine-voters : (k : ℕ) (m : Message) (t : Tally) → carried m ≡ some t → Genuine n D event faulty k m → (i : ℕ) → Sound n D event faulty i → bit (t .mask) i ≡ 1
-      → HasVoted n D event i k (t .view) (t .height) (t .name)
-  unfolding carried
-  genuine-voters k (newView v h b c m a) t e g i ok y = let q = Option·some-injective _ t e in subst (λ (u : Tally). HasVoted n D event i k (u .view) (u .height) (u .name)) q (g .0 i ok (rw (← q) at y))
-  genuine-voters k (propose v h b p m a) t e g i ok y = let q = Option·some-injective _ t e in subst (λ (u : Tally). HasVoted n D event i k (u .view) (u .height) (u .name)) q (g .0 i ok (rw (← q) at y))
-  genuine-voters k (vote v h b a) t e g i ok y =
-      let q = Option·some-injective _ t e in
-      let s : i ≡ a = bit-only a i (rw (← q) at y) in
-      subst (λ (u : Tally). HasVoted n D event i k (u .view) (u .height) (u .name)) q
-      (subst (λ (x : ℕ). HasVoted n D event x k v h b) (sym s) (g (subst (Sound n D event faulty) s ok)))
-  genuine-voters k (blame v a) t e g i ok y = no-some e
-  genuine-voters k (blameSet v m) t e g i ok y = no-some e
-  genuine-voters k (status h b c m) t e g i ok y = let q = Option·some-injective _ t e in subst (λ (u : Tally). HasVoted n D event i k (u .view) (u .height) (u .name)) q (g i ok (rw (← q) at y))
+    go : (m : Message) → carried m ≡ some t → Genuine R faulty k m → HasVoted R i k (t .view) (t .height) (t .name)
+    go (newView v h b c m a) e g = same _ e (g .0 i ok)
+    go (propose v h b p m a) e g = same _ e (g .0 i ok)
+    go (vote v h b a) e g = same _ e (λ z. let s = bit-only a i z in subst (λ (x : ℕ). HasVoted R x k v h b) (sym s) (g (subst (Sound R faulty) s ok)))
+    go (blame v a) e g = no-some e
+    go (blameSet v m) e g = no-some e
+    go (status h b c m) e g = same _ e (g i ok)
 
-  pub block-parent : (m : Message) → OneBlock n D event faulty heightOf parentOf m → Parented parentOf m
-  block-parent (newView v h b c m a) o = tt
-  block-parent (propose v h b p m a) o = o .1
-  block-parent (vote v h b a) o = tt
-  block-parent (blame v a) o = tt
-  block-parent (blameSet v m) o = tt
-  block-parent (status h b c m) o = tt
+pub block-parent : (heightOf parentOf : ℕ → ℕ) (m : Message) → OneBlock heightOf parentOf m → Parented parentOf m
+block-parent heightOf parentOf (newView v h b c m a) o = tt
+block-parent heightOf parentOf (propose v h b p m a) o = o .1
+block-parent heightOf parentOf (vote v h b a) o = tt
+block-parent heightOf parentOf (blame v a) o = tt
+block-parent heightOf parentOf (blameSet v m) o = tt
+block-parent heightOf parentOf (status h b c m) o = tt
 
-  -- what was said to all is delivered before every moment after which the clock is D + 1 later
-  pub delivered : Premises n D event faulty heightOf parentOf → (i j : ℕ) → Sound n D event faulty i → Sound n D event faulty j → ¬ (i ≡ j) → (l k : ℕ) (m : Message)
-      → Says n D event i l (toAll m) → clock n D event 0 (suc l) + D + 1 ≤ clock n D event 0 (suc k) → (h : ℕ) × (h < k) × (event h ≡ given j (write m))
-  delivered P i j hi hj ne l k m s d =
-      let (k′, a, b, c, e) = last-of n D event (P .common) (clock n D event 0 (suc l) + D) (suc k) (omega arith) in
+module _ (size : Size) (n D : ℕ) (event : ℕ → Event) (faulty : ℕ) where
+  abbrev R : Run
+  R = run size n D event
+
+  -- who runs takes what was sent to it: it can be read, is allowed, and there is room
+  pub running-takes : GoodSettings R → ProperBuffers R → SoundRun R faulty → Takes R faulty
+  unfolding at
+  running-takes g lent runs i j hi hj l h m s o e v =
+      let t = at size n D event j h in
+      let z : happens j (event h) t ≡ step (write m) t = ap (λ (y : Event). happens j y t) e ∙ happens-given j (write m) t in
+      let (r, a) = sent-allowed size n D event lent i (settings-alike size n D i g (hi .0)) j l m s in
+      let b = subst (λ (y : Settings). allowed y m ≡ true) (sym (settings-at size n D event lent j (settings-alike size n D j g (hj .0)) h)) a in
+      ap (λ (x : Outcome). x .number) z
+      ∙ step-taken (write m) m t (runs j hj h) r b (subst (λ (x : Outcome). running (x .next) ≡ true) z (runs j hj (suc h)))
+
+  -- what was sent to all or to one is handed over before every moment after which the clock is D + 1 later
+  pub delivered : CommonTicks R → InTime R faulty → Reaches R faulty (λ k. clock event 0 (suc k))
+  delivered common inTime i j hi hj l k m s d =
+      let (k′, a, b, c, e) = last-of event common (clock event 0 (suc l) + D) (suc k) (omega arith) in
       let ti : ticks i (event k′) ≡ 1 = ap (ticks i) e ∙ (unfold ticks in refl) in
-      let ca = clock-alike n D event (P .common) i in
-      let (h, u, w, g) = P .inTime i j hi hj l m (inl (s, ne)) k′ ti (ca k′ ∙ b ∙ ap (_+ D) (sym (ca (suc l)))) in
-      (h, omega arith, g)
+      let ca = clock-alike event common i in
+      let (h, u, w, g) = inTime i j hi hj l m s k′ ti (ca k′ ∙ b ∙ ap (_+ D) (sym (ca (suc l)))) in
+      (h, u, omega arith, g)
 
-  abbrev pub to-group : Premises n D event faulty heightOf parentOf → SoundRun n D event faulty → Group
-  to-group P R =
-      record {
-        n = n;
-        D = D;
-        faulty = faulty;
-        event = event;
-        next = λ k. clock n D event 0 (suc k);
-        parentOf = parentOf;
-        settings = P .settings;
-        few = P .few;
-        common = P .common;
-        runs = R;
-        soon = λ k. omega arith;
-        late = one-tick n D event (P .common);
-        lent = P .lent;
-        reaches = delivered P;
-        voters = λ k j m h t c i ok y. genuine-voters k m t c (P .noForgery k j m h) i ok y;
-        parents = λ k j m o. block-parent m (P .oneName k j m o);
-      }
+  module _ (heightOf parentOf : ℕ → ℕ) (P : Premises R faulty heightOf parentOf) (runs : SoundRun R faulty) where
+    -- a group, from where its ticks would go and what reaches whom by then
+    abbrev pub group-of : (next : ℕ → ℕ) → ((k : ℕ) → clock event 0 (suc k) ≤ next k) → ((k : ℕ) → next k ≤ clock event 0 k + 1) → Reaches R faulty next → Group
+    group-of next soon late reaches =
+        record {
+          size = size;
+          n = n;
+          D = D;
+          faulty = faulty;
+          event = event;
+          next = next;
+          parentOf = parentOf;
+          settings = P .settings;
+          few = P .few;
+          common = P .common;
+          runs = runs;
+          soon = soon;
+          late = late;
+          lent = P .lent;
+          reaches = reaches;
+          takes = running-takes (P .settings) (P .lent) runs;
+          voters = λ k j m h t c i ok y. genuine-voters R faulty k m t c (P .noForgery k j m h) i ok y;
+          parents = λ k j m o. block-parent heightOf parentOf m (P .oneName k j m o);
+        }
+
+    -- that of the whole schedule
+    abbrev pub to-group : Group
+    to-group = group-of (λ k. clock event 0 (suc k)) (λ k. omega arith) (one-tick event (P .common)) (delivered (P .common) (P .inTime))

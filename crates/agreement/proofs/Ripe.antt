@@ -11,7 +11,7 @@ use Rattle.rules.specs.Limits.{maskBits, firstView}
 use Rattle.rules.specs.Lists.{first}
 use Rattle.rules.specs.Sizes.{Settings, bit}
 use Rattle.rules.specs.Messages.{vote, Effect}
-use Rattle.rules.specs.Words.{Statement, message, sameStatement, conflict, Tally, voters, State, inView, waiting, fresh}
+use Rattle.rules.specs.Words.{Statement, message, sameStatement, conflict, Certificate, Tally, voters, State, inView, waiting, fresh}
 use Rattle.rules.proofs.Tests.{by-option, no-bool}
 use Rattle.rules.proofs.Searches.{first-none}
 use Rattle.rules.proofs.Statements.{In, in-cong}
@@ -26,11 +26,11 @@ use Rattle.rules.proofs.Locks.{HasAll, Locked, moves-locked}
 use Rattle.agreement.specs.Schedule.{Event, at}
 use Rattle.agreement.proofs.Events.{Brings, begun, begun-same, begun-kept}
 use Rattle.agreement.proofs.Clock.{last-of}
-use Rattle.agreement.proofs.Group.{Group, st, ck, Ok, G, SaidAt, moves-of, at-settings, at-clock, kept-run, orderly-run, view-run, reach}
-use Rattle.agreement.proofs.Follow.{told-out, follow}
+use Rattle.agreement.proofs.Group.{Group, st, ck, Ok, G, SaidAt, moves-of, at-settings, at-clock, kept-run, orderly-run, view-run}
+use Rattle.agreement.proofs.Follow.{follow, reach, told-out}
 
 module _ (X : Group) where
-  open Group X using (n, D, faulty, event, next, parentOf)
+  open Group X using (size, n, D, faulty, event, next, parentOf)
 
   pub odd-stations : n % 2 ≡ 1
   odd-stations = sizes (G X 0) (X .settings) .odd
@@ -77,7 +77,7 @@ module _ (X : Group) where
         let d = R .due in
         let u = X .late k0 in
         let delay = sizes (G X 0) (X .settings) .leastD in
-        let m = last-of n D event (X .common) (t + D) k0 (omega arith) in
+        let m = last-of event (X .common) (t + D) k0 (omega arith) in
         (m .0, m .1, m .2, m .3)
 
     -- G3b: at that moment every sound station is in the view, holds x and has voted for it
@@ -110,7 +110,11 @@ module _ (X : Group) where
           | no y ↦ omega arith
         ] in
         let p : st X s k .phase ≡ inView =
-        by-phase (st X s k) (X .runs s hs k) (λ p. p) (λ q p. let g = quit-of s hs k q p in let b = g .0 in let z = late q (subst (λ (w : ℕ). Told (SaidAt X s) (G X s) q w) v (g .1)) in absurd (omega arith)) in
+        by-phase (st X s k) (X .runs s hs k) (λ p. p)
+        (λ q p.
+        let (b, told) = quit-of s hs k q p in
+        let z = late q (subst (λ (w : ℕ). Told (SaidAt X s) (G X s) q w) v told) in
+        absurd (omega arith)) in
         let (y, e, m, w) = R .sent in
         let a : In (st X s k .statements) x = in-cong x y e (st X s k .statements) ∙ held-stored (G X s) (st X s k) y (reach X r s (R .ok) hs (message y) t k m (omega arith)) in
         record { view = v; phase = p; has = a; voted = cast-of s hs k (t + D) p a (sym v) (le-of-eq c1) }
@@ -127,13 +131,18 @@ module _ (X : Group) where
         let w = y .what in
         let sh = shares s hs (l .0) (l .2) (l .3) in
         elim (decLe (suc k) (l .0)) [
-          | yes d ↦ orderly-run X s hs (l .0) .clean (sh .phase) x w (sh .has) (kept-run X s hs (suc k) (l .0) d .has w (moves-kept (c .after) .has w (y .has))) (sym (sh .view))
-          | no d ↦ c .orderly .clean (y .phase) x w (moves-kept (c .before) .has x (begun-kept (event k) (st X s k) .has x (kept-run X s hs (l .0) k (omega arith) .has x (sh .has)))) (y .has) (sym e ∙ sym (y .current))
+          | yes d ↦ (
+              let has = kept-run X s hs (suc k) (l .0) d .has w (moves-kept (c .after) .has w (y .has)) in
+              orderly-run X s hs (l .0) .clean (sh .phase) x w (sh .has) has (sym (sh .view)))
+          | no d ↦ (
+              let still = kept-run X s hs (l .0) k (omega arith) .has x (sh .has) in
+              let has = moves-kept (c .before) .has x (begun-kept (event k) (st X s k) .has x still) in
+              c .orderly .clean (y .phase) x w has (y .has) (sym e ∙ sym (y .current)))
         ]
 
     -- ---- G3d: from the tick to t + 2D + 1 on every sound station has all sound votes for x, and locks at or above it in later views
 
-    abbrev B : Tally
+    abbrev B : Certificate
     B = block (x .view) (x .height) (x .name)
 
     abbrev Saw : State → Type 0
@@ -170,7 +179,7 @@ module _ (X : Group) where
     begun-locked : (e : Event) (s : State) → LocksAbove s → LocksAbove (begun e s)
     begun-locked e s h u =
         let (a, p, v, c, b, d, l) = begun-same e s in
-        subst (λ (y : Tally). Above y B) (sym l) (h (subst (λ (y : ℕ). x .view < y) v u))
+        subst (λ (y : Certificate). Above y B) (sym l) (h (subst (λ (y : ℕ). x .view < y) v u))
 
     -- along the moves of event k, from a moment at which what is needed holds
     along : (j : ℕ) → Ok X j → (k : ℕ) → LocksAbove (st X j k) → t + 2 * D + 1 ≤ next k → (u : State) (o : List Effect)

@@ -1,45 +1,92 @@
 -- Demand 3, of the rules of one station under every schedule. A: of the logs of two sound stations one begins the other, and each is
 -- one that a single clerk could have kept. B: who votes for a propose and stays commits it with all its ancestors. C: no sound
--- station is ever stopped by a due commit. Assumes nothing.
-use mathlib.Core.Path.{_≡_, sym, ap, _∙_}
-use Prim.Native.Nat.{ℕ, suc, _+_, _*_}
-use mathlib.Core.List.{IsPrefix}
-use mathlib.Core.Logic.{_⊎_}
-use Rattle.rules.specs.Messages.{propose, vote, toAll}
-use Rattle.rules.specs.Words.{inView}
+-- station is ever stopped by a due commit. All three again up to any moment, for stations that stop later. Assumes nothing.
+use mathlib.Core.Path.{_≡_, subst, subst₂, sym, ap, _∙_}
+use Prim.Native.Nat.{ℕ, suc, _+_, _*_, _≤_, _<_}
+use native.Mathlib.Omega.{arith}
+use mathlib.Core.Bool.{true}
+use mathlib.Core.List.{List, IsPrefix}
+use Rattle.rules.specs.Limits.{Size}
+use Rattle.rules.specs.Messages.{propose, vote, Effect, toAll}
+use Rattle.rules.specs.Words.{inView, State}
 use Rattle.rules.specs.Inputs.{reports}
-use Rattle.agreement.specs.Schedule.{Event, commonTick, at, clock, Says, Sound, SoundRun, Schedule, Linked, lineage, reported}
+use Rattle.rules.specs.Refusals.{running}
+use Rattle.agreement.specs.Schedule.{Event, commonTick, until, at, clock, Says, Sound, SoundRun, RunsTo, Schedule, Linked, lineage, reported, Run, run, OneBegins}
 use Rattle.agreement.proofs.Clock.{clock-alike}
-use Rattle.agreement.proofs.Group.{Group}
+use Rattle.agreement.proofs.Group.{Group, at-clock}
 use Rattle.agreement.proofs.Logs.{logs-begin, log-linked, log-reported}
-use Rattle.agreement.proofs.Ancestors.{commits-lineage}
+use Rattle.agreement.proofs.Stays.{commits-lineage}
 use Rattle.agreement.proofs.Needed.{to-group}
+use Rattle.agreement.proofs.Until.{until-before, at-until, clock-until, reported-until, says-on}
 use Rattle.agreement.proofs.NoSplit.{never-split}
 
-module _ (n D : ℕ) (event : ℕ → Event) (faulty : ℕ) (heightOf parentOf : ℕ → ℕ) (X : Schedule n D event faulty heightOf parentOf) where
+module _ (size : Size) (n D : ℕ) (event : ℕ → Event) (faulty : ℕ) (heightOf parentOf : ℕ → ℕ) (X : Schedule (run size n D event) faulty heightOf parentOf) where
+  abbrev R : Run
+  R = run size n D event
+
   -- Theorem C: a sound station is never stopped
-  pub sound-run : SoundRun n D event faulty
-  sound-run = never-split n D event faulty heightOf parentOf (X .premises) (X .room)
+  pub sound-run : SoundRun R faulty
+  sound-run = never-split size n D event faulty heightOf parentOf (X .premises) (X .room)
 
   abbrev group : Group
-  group = to-group n D event faulty heightOf parentOf (X .premises) sound-run
+  group = to-group size n D event faulty heightOf parentOf (X .premises) sound-run
 
   -- Theorem A: of the logs of two sound stations, at whatever moments, one begins the other
-  pub logs-agree : (i j : ℕ) → Sound n D event faulty i → Sound n D event faulty j → (k l : ℕ)
-      → IsPrefix (at n D event i k .log) (at n D event j l .log) ⊎ IsPrefix (at n D event j l .log) (at n D event i k .log)
+  pub logs-agree : (i j : ℕ) → Sound R faulty i → Sound R faulty j → (k l : ℕ)
+      → OneBegins (at size n D event i k .log) (at size n D event j l .log)
   logs-agree i j hi hj k l = logs-begin group i j hi hj k l
 
   -- a sound log is linked by parent to genesis, and was reported name by name, each once, in order, with heights 1, 2, 3, ..
-  pub one-clerk : (i : ℕ) → Sound n D event faulty i → (k : ℕ)
-      → Linked parentOf 0 (at n D event i k .log) × (reported n D event i k ≡ reports 1 (at n D event i k .log))
+  pub one-clerk : (i : ℕ) → Sound R faulty i → (k : ℕ)
+      → Linked parentOf 0 (at size n D event i k .log) × (reported R i k ≡ reports 1 (at size n D event i k .log))
   one-clerk i ok k = (log-linked group i ok k, log-reported group i ok k)
 
   -- Theorem B: a sound station that says a propose and its vote at event j, at clock t, and is in that view as the tick to t+2D+1
   -- begins, has that block and all its ancestors in its log after that tick
-  pub vote-commits : (r : ℕ) → Sound n D event faulty r → (j v h b p m a : ℕ)
-      → Says n D event r j (toAll (propose v h b p m a)) → Says n D event r j (toAll (vote v h b r))
-      → (k : ℕ) → event k ≡ commonTick → clock n D event r k ≡ clock n D event r (suc j) + 2 * D → at n D event r k .phase ≡ inView → at n D event r k .view ≡ v
-      → IsPrefix (lineage parentOf h b) (at n D event r (suc k) .log)
+  pub vote-commits : (r : ℕ) → Sound R faulty r → (j v h b p m a : ℕ)
+      → Says R r j (toAll (propose v h b p m a)) → Says R r j (toAll (vote v h b r))
+      → (k : ℕ) → event k ≡ commonTick → clock event r k ≡ clock event r (suc j) + 2 * D → at size n D event r k .phase ≡ inView → at size n D event r k .view ≡ v
+      → IsPrefix (lineage parentOf h b) (at size n D event r (suc k) .log)
   vote-commits r ok j v h b p m a s w k e d ph vw =
-      let alike = clock-alike n D event (X .premises .common) r in
+      let alike = clock-alike event (X .premises .common) r in
       commits-lineage group r j k v h b p m a (record { ok = ok; statement = s; ballot = w; tick = e; due = sym (alike k) ∙ d ∙ ap (_+ 2 * D) (alike (suc j)); phase = ph; view = vw })
+
+  -- the clock in a sound station's state is the clock of the schedule
+  pub clock-held : (i : ℕ) → Sound R faulty i → (k : ℕ) → at size n D event i k .clock ≡ clock event i k
+  clock-held i ok k = at-clock group i ok k ∙ sym (clock-alike event (X .premises .common) i k)
+
+-- ---- up to a moment
+
+-- A, B and C up to moment K. What is asked is asked of the schedule up to K alone: a station that is stopped later is sound until
+-- then, and its log so far is one of those that agree
+module _ (size : Size) (n D : ℕ) (event : ℕ → Event) (faulty : ℕ) (heightOf parentOf : ℕ → ℕ) (K : ℕ) (X : Schedule (run size n D (until K event)) faulty heightOf parentOf) where
+  -- the run that goes on
+  abbrev Whole : Run
+  Whole = run size n D event
+
+  pub sound-run-until : RunsTo Whole faulty K
+  sound-run-until i ok k l = subst (λ (s : State). running s ≡ true) (at-until size n D event K i k l) (sound-run size n D (until K event) faulty heightOf parentOf X i ok k)
+
+  pub logs-agree-until : (i j : ℕ) → Sound Whole faulty i → Sound Whole faulty j → (k l : ℕ) → k ≤ K → l ≤ K
+      → OneBegins (at size n D event i k .log) (at size n D event j l .log)
+  logs-agree-until i j hi hj k l u v =
+      subst₂ (λ (s t : State). OneBegins (s .log) (t .log)) (at-until size n D event K i k u) (at-until size n D event K j l v)
+      (logs-agree size n D (until K event) faulty heightOf parentOf X i j hi hj k l)
+
+  pub one-clerk-until : (i : ℕ) → Sound Whole faulty i → (k : ℕ) → k ≤ K
+      → Linked parentOf 0 (at size n D event i k .log) × (reported Whole i k ≡ reports 1 (at size n D event i k .log))
+  one-clerk-until i ok k l =
+      subst₂ (λ (s : State) (o : List Effect). Linked parentOf 0 (s .log) × (o ≡ reports 1 (s .log))) (at-until size n D event K i k l) (reported-until size n D event K i k l)
+      (one-clerk size n D (until K event) faulty heightOf parentOf X i ok k)
+
+  pub vote-commits-until : (r : ℕ) → Sound Whole faulty r → (j v h b p m a : ℕ)
+      → Says Whole r j (toAll (propose v h b p m a)) → Says Whole r j (toAll (vote v h b r))
+      → (k : ℕ) → k < K → j < k → event k ≡ commonTick → clock event r k ≡ clock event r (suc j) + 2 * D → at size n D event r k .phase ≡ inView
+      → at size n D event r k .view ≡ v → IsPrefix (lineage parentOf h b) (at size n D event r (suc k) .log)
+  vote-commits-until r ok j v h b p m a s w k l e t d ph vw =
+      let here = at-until size n D event K r k (omega arith) in
+      subst (λ (u : State). IsPrefix (lineage parentOf h b) (u .log)) (at-until size n D event K r (suc k) l)
+      (vote-commits size n D (until K event) faulty heightOf parentOf X r ok j v h b p m a (says-on size n D event K r j _ (omega arith) s) (says-on size n D event K r j _ (omega arith) w)
+      k (until-before K event k l ∙ t)
+      (clock-until size n D event K r k (omega arith) ∙ d ∙ ap (_+ 2 * D) (sym (clock-until size n D event K r (suc j) (omega arith))))
+      (ap (λ (u : State). u .phase) here ∙ ph) (ap (λ (u : State). u .view) here ∙ vw))

@@ -1,17 +1,20 @@
--- The premises of a schedule that ends, as tests that can be evaluated. proofs/Checked.antt shows that a test that holds is the premise. Assumes nothing.
+-- The premises by name, and of a schedule that ends as tests that can be evaluated. proofs/Checked.antt shows that a test that holds is
+-- the premise. Assumes nothing.
 use Prim.Native.Nat.{ℕ, zero, suc, _+_, _-_, _^_}
+use mathlib.Core.Path.{_≡_}
 use mathlib.Core.Bool.{Bool, true, false, not, _&&_, _||_}
-use mathlib.Core.List.{List, [], _∷_}
+use mathlib.Core.List.{List, [], _∷_, map}
 use mathlib.Core.Option.{Option, none, some}
-use lib.Dec.{ltb, eqb}
+use lib.Dec.{leb, ltb, eqb}
 use lib.ListN.{length, getD}
+use Rattle.rules.specs.Limits.{Size}
 use Rattle.rules.specs.Lists.{any, all}
-use Rattle.rules.specs.Sizes.{bit}
+use Rattle.rules.specs.Sizes.{goodSettings, faults, bit, count}
 use Rattle.rules.specs.Messages.{Message, newView, propose, vote, blame, blameSet, status, kind, values, read, write, allowed, Effect, toAll, toOne, committed}
 use Rattle.rules.specs.Inputs.{offered}
 use Rattle.rules.specs.Refusals.{running}
 use Rattle.rules.specs.Script.{sameList}
-use Rattle.agreement.specs.Schedule.{Event, idle, commonTick, tickOf, given, offeredTo, ticks, settingsOf, at, out, clock}
+use Rattle.agreement.specs.Schedule.{Event, idle, commonTick, tickOf, given, offeredTo, ticks, settingsOf, at, out, clock, Run, GoodSettings, CommonTicks, ProperBuffers, AtMostF, NeverFull, InTime, NoForgery, OneName}
 
 unfoldable pub implies : Bool → Bool → Bool
 implies true b = b
@@ -75,18 +78,57 @@ offeredAs (tickOf j) p = true
 offeredAs (given j bs) p = true
 offeredAs (offeredTo j b) p = p j b
 
+-- ---- the premises, by name
+
+pub data Premise : Type 0 where
+  settingsGood fewFaulty neverFull commonTicks properBuffers inTime noForgery oneName : Premise
+
+unfoldable pub premises : List Premise
+premises = settingsGood ∷ fewFaulty ∷ neverFull ∷ commonTicks ∷ properBuffers ∷ inTime ∷ noForgery ∷ oneName ∷ []
+
+unfoldable pub place : Premise → ℕ
+place settingsGood = 0
+place fewFaulty = 1
+place neverFull = 2
+place commonTicks = 3
+place properBuffers = 4
+place inTime = 5
+place noForgery = 6
+place oneName = 7
+
+unfoldable pub other : Premise → Premise → Bool
+unfolding place
+other p q = not (eqb (place p) (place q))
+
+module _ (R : Run) (faulty : ℕ) (heightOf parentOf : ℕ → ℕ) where
+  abbrev pub Holds : Premise → Type 0
+  Holds settingsGood = GoodSettings R
+  Holds fewFaulty = AtMostF R faulty
+  Holds neverFull = NeverFull R faulty
+  Holds commonTicks = CommonTicks R
+  Holds properBuffers = ProperBuffers R
+  Holds inTime = InTime R faulty
+  Holds noForgery = NoForgery R faulty
+  Holds oneName = OneName R faulty heightOf parentOf
+
+  -- every premise but one holds
+  abbrev pub AllBut : Premise → Type 0
+  AllBut q = (p : Premise) → other p q ≡ true → Holds p
+
+-- ---- a schedule that ends
+
 -- the events in order, then idle
 unfoldable pub listed : List Event → ℕ → Event
 listed es k = getD es k idle
 
-module _ (n D : ℕ) (es : List Event) (faulty : ℕ) where
+module _ (size : Size) (n D : ℕ) (es : List Event) (faulty : ℕ) where
   unfoldable pub isSound : ℕ → Bool
   isSound i = ltb i n && eqb (bit faulty i) 0
 
   -- i said to all, before event k, a message that passes a test
   unfoldable pub hasSaid : ℕ → ℕ → (Message → Bool) → Bool
   unfolding some? any toAllThat out listed
-  hasSaid i k p = some? k (λ l. any (toAllThat p) (out n D (listed es) i l))
+  hasSaid i k p = some? k (λ l. any (toAllThat p) (out size n D (listed es) i l))
 
   unfoldable pub votersVoted : (k mask view height name : ℕ) → Bool
   unfolding every implies isSound hasSaid sameMessage
@@ -109,7 +151,7 @@ module _ (n D : ℕ) (es : List Event) (faulty : ℕ) where
   unfoldable pub taken : ℕ → (Message → Bool) → Bool
   unfolding givenTo listed implies isSound ifSome read allowed
   taken k p =
-      givenTo (listed es k) (λ j bs. implies (isSound j) (ifSome (read bs) (λ m. implies (allowed (settingsOf n D j) m) (p m)))) true
+      givenTo (listed es k) (λ j bs. implies (isSound j) (ifSome (read bs) (λ m. implies (allowed (settingsOf size n D j) m) (p m)))) true
 
   unfoldable pub noneForged : Bool
   unfolding every taken isGenuine
@@ -123,7 +165,7 @@ module _ (n D : ℕ) (es : List Event) (faulty : ℕ) where
   unfoldable pub comesInTime : (i j k : ℕ) → Message → Bool
   unfolding every implies ticks clock listed comes
   comesInTime i j k m =
-      every (length es) (λ l. implies (eqb (ticks i (listed es l)) 1 && eqb (clock n D (listed es) i l) (clock n D (listed es) i (suc k) + D)) (comes j k m l))
+      every (length es) (λ l. implies (eqb (ticks i (listed es l)) 1 && eqb (clock (listed es) i l) (clock (listed es) i (suc k) + D)) (comes j k m l))
 
   unfoldable pub saidInTime : (i j k : ℕ) → Effect → Bool
   unfolding ifSome brought comesInTime
@@ -132,11 +174,11 @@ module _ (n D : ℕ) (es : List Event) (faulty : ℕ) where
   unfoldable pub allInTime : Bool
   unfolding every implies isSound saidInTime out listed all
   allInTime =
-      every n (λ i. every n (λ j. implies (isSound i && isSound j) (every (length es) (λ k. all (saidInTime i j k) (out n D (listed es) i k)))))
+      every n (λ i. every n (λ j. implies (isSound i && isSound j) (every (length es) (λ k. all (saidInTime i j k) (out size n D (listed es) i k)))))
 
   unfoldable pub allRun : Bool
   unfolding every implies isSound running at listed
-  allRun = every n (λ i. implies (isSound i) (every (suc (length es)) (λ k. running (at n D (listed es) i k))))
+  allRun = every n (λ i. implies (isSound i) (every (suc (length es)) (λ k. running (at size n D (listed es) i k))))
 
   unfoldable pub allCommon : Bool
   unfolding every isCommon listed
@@ -159,9 +201,20 @@ module _ (n D : ℕ) (es : List Event) (faulty : ℕ) where
     unfolding every taken isOneBlock offeredAs listed implies isSound ifSome offered at
     oneNamed =
         every (length es) (λ k. taken k isOneBlock
-        && offeredAs (listed es k) (λ j b. implies (isSound j) (ifSome (offered b (at n D (listed es) j k)) isOneBlock)))
+        && offeredAs (listed es k) (λ j b. implies (isSound j) (ifSome (offered b (at size n D (listed es) j k)) isOneBlock)))
 
-    -- the tests of a schedule: who runs, what is lent, in time, genuine, one block per name, common ticks
+    -- the test of each premise
+    unfoldable pub test : Premise → Bool
+    unfolding goodSettings count allRun allCommon allLent allInTime noneForged oneNamed
+    test settingsGood = goodSettings (settingsOf size n D 0)
+    test fewFaulty = leb (count faulty) (faults (settingsOf size n D 0))
+    test neverFull = allRun
+    test commonTicks = allCommon
+    test properBuffers = allLent
+    test inTime = allInTime
+    test noForgery = noneForged
+    test oneName = oneNamed
+
     unfoldable pub verdict : List Bool
-    unfolding allRun allLent allInTime noneForged oneNamed allCommon
-    verdict = allRun ∷ allLent ∷ allInTime ∷ noneForged ∷ oneNamed ∷ allCommon ∷ []
+    unfolding test
+    verdict = map test premises

@@ -3,10 +3,11 @@
 use Prim.Native.Nat.{ℕ, zero, suc, _+_, _-_, _≤_, _<_, _^_}
 use mathlib.Core.Path.{_≡_}
 use mathlib.Core.Bool.{true, false}
-use mathlib.Core.List.{List, [], _∷_, _++_, List·Memᴰ}
+use mathlib.Core.List.{List, [], _∷_, _++_, IsPrefix, List·Memᴰ}
 use mathlib.Core.Logic.{_⊎_}
 use mathlib.Core.Option.{some}
-use lib.Dec.{eqb}
+use lib.Dec.{ltb, eqb}
+use Rattle.rules.specs.Limits.{Size}
 use Rattle.rules.specs.Sizes.{Settings, goodSettings, faults, bit, count}
 use Rattle.rules.specs.Messages.{Message, newView, propose, vote, blame, blameSet, status, read, write, allowed, Effect, toAll, toOne, committed}
 use Rattle.rules.specs.Words.{full, clock as late, stopped, State, fresh}
@@ -47,9 +48,13 @@ IsCommon (tickOf j) = ⊥
 IsCommon (given j bs) = Unit {0}
 IsCommon (offeredTo j b) = Unit {0}
 
+-- a schedule up to moment K: what would come later doesn't happen
+unfoldable pub until : ℕ → (ℕ → Event) → ℕ → Event
+until K event k = elim (ltb k K) [ true ↦ event k | false ↦ idle ]
+
 -- "alike in every setting but the own number, limits included, station i numbered i"
-abbrev pub settingsOf : ℕ → ℕ → ℕ → Settings
-settingsOf n D i = record { n = n; D = D; own = i }
+abbrev pub settingsOf : Size → ℕ → ℕ → ℕ → Settings
+settingsOf size n D i = record { n = n; D = D; own = i; size = size }
 
 -- the reports of commits among what is said
 unfoldable pub reportsIn : List Effect → List Effect
@@ -58,11 +63,50 @@ reportsIn (toAll m ∷ es) = reportsIn es
 reportsIn (toOne i m ∷ es) = reportsIn es
 reportsIn (committed h b ∷ es) = committed h b ∷ reportsIn es
 
-module _ (n D : ℕ) (event : ℕ → Event) where
+-- "hosts lend proper buffers": a message is bytes, an offered name is 32 of them
+abbrev pub IsLent : Event → Type 0
+IsLent idle = Unit {0}
+IsLent commonTick = Unit {0}
+IsLent (tickOf j) = Unit {0}
+IsLent (given j bs) = Bytes bs
+IsLent (offeredTo j b) = b < 256 ^ 32
+
+-- "one name has one height and parent": what a message says of its block. A new-view that a sound leader makes is of a block that
+-- was certified, so nothing is asked of it.
+module _ (heightOf parentOf : ℕ → ℕ) where
+  abbrev pub OneBlock : Message → Type 0
+  OneBlock (newView v h b c m a) = heightOf b ≡ h
+  OneBlock (propose v h b p m a) = (heightOf b ≡ h) × (parentOf b ≡ p)
+  OneBlock (vote v h b a) = Unit {0}
+  OneBlock (blame v a) = Unit {0}
+  OneBlock (blameSet v m) = Unit {0}
+  OneBlock (status h b c m) = Unit {0}
+
+-- the ticks of station i before moment k
+unfoldable pub clock : (ℕ → Event) → ℕ → ℕ → ℕ
+unfolding ticks
+clock event i zero = 0
+clock event i (suc k) = clock event i k + ticks i (event k)
+
+-- not stopped for want of records, nor at the last clock
+abbrev pub HasRoom : State → Type 0
+HasRoom s = ¬ (s .phase ≡ stopped full) × ¬ (s .phase ≡ stopped late)
+
+-- a run, as far as the premises look at it: what station i holds at moment k, and what event k makes it say
+pub record Run : Type 0 where
+  pub size : Size
+  pub n : ℕ
+  pub D : ℕ
+  pub event : ℕ → Event
+  pub state : ℕ → ℕ → State
+  pub said : ℕ → ℕ → List Effect
+
+-- the run of the rules
+module _ (size : Size) (n D : ℕ) (event : ℕ → Event) where
   -- station i at moment k: "from fresh stores"
   unfoldable pub at : ℕ → ℕ → State
   unfolding fresh happens
-  at i zero = fresh (settingsOf n D i)
+  at i zero = fresh (settingsOf size n D i)
   at i (suc k) = happens i (event k) (at i k) .next
 
   -- what event k makes station i say
@@ -70,14 +114,18 @@ module _ (n D : ℕ) (event : ℕ → Event) where
   unfolding at happens
   out i k = happens i (event k) (at i k) .out
 
-  -- the ticks of station i before moment k
-  unfoldable pub clock : ℕ → ℕ → ℕ
-  unfolding ticks
-  clock i zero = 0
-  clock i (suc k) = clock i k + ticks i (event k)
+  abbrev pub run : Run
+  run = record { size = size; n = n; D = D; event = event; state = at; said = out }
+
+module _ (R : Run) where
+  open Run R using (size, n, D, event, state, said)
 
   abbrev pub Says : ℕ → ℕ → Effect → Type 0
-  Says i k e = List·Memᴰ e (out i k)
+  Says i k e = List·Memᴰ e (said i k)
+
+  -- i sends m to j: to all others, or to one
+  abbrev pub Sends : (i j k : ℕ) → Message → Type 0
+  Sends i j k m = (Says i k (toAll m) × ¬ (i ≡ j)) ⊎ Says i k (toOne j m)
 
   -- ---- what station i said before event k
 
@@ -91,50 +139,46 @@ module _ (n D : ℕ) (event : ℕ → Event) where
   abbrev pub HasMade : (i k : ℕ) → (ℕ → Message) → Type 0
   HasMade i k m = (l : ℕ) × (l < k) × ((mask : ℕ) × Says i l (toAll (m mask)))
 
+  -- ---- the premises
+
+  -- "every setting .. limits included"
+  abbrev pub GoodSettings : Type 0
+  GoodSettings = goodSettings (settingsOf size n D 0) ≡ true
+
+  -- "a common tick is one event: every station is ticked before the next delivery"
+  abbrev pub CommonTicks : Type 0
+  CommonTicks = (k : ℕ) → IsCommon (event k)
+
+  abbrev pub ProperBuffers : Type 0
+  ProperBuffers = (k : ℕ) → IsLent (event k)
+
   module _ (faulty : ℕ) where
     -- a mask of faulty stations; the others are sound
     abbrev pub Sound : ℕ → Type 0
     Sound i = (i < n) × (bit faulty i ≡ 0)
 
-    -- ---- the premises
-
-    -- "every setting .. limits included"
-    abbrev pub GoodSettings : Type 0
-    GoodSettings = goodSettings (settingsOf n D 0) ≡ true
-
     abbrev pub AtMostF : Type 0
-    AtMostF = count faulty ≤ faults (settingsOf n D 0)
+    AtMostF = count faulty ≤ faults (settingsOf size n D 0)
 
     -- "stopped stations count among the f": a sound station is never stopped for want of records or at the last clock. That a due
     -- commit never stops one needs no premise (SoundRun, Theorem C).
     abbrev pub NeverFull : Type 0
-    NeverFull = (i : ℕ) → Sound i → (k : ℕ) → ¬ (at i k .phase ≡ stopped full) × ¬ (at i k .phase ≡ stopped late)
+    NeverFull = (i : ℕ) → Sound i → (k : ℕ) → HasRoom (state i k)
 
     abbrev pub SoundRun : Type 0
-    SoundRun = (i : ℕ) → Sound i → (k : ℕ) → running (at i k) ≡ true
+    SoundRun = (i : ℕ) → Sound i → (k : ℕ) → running (state i k) ≡ true
 
-    -- "a common tick is one event: every station is ticked before the next delivery"
-    abbrev pub CommonTicks : Type 0
-    CommonTicks = (k : ℕ) → IsCommon (event k)
+    -- both up to moment K: a station that stops later is sound until then
+    abbrev pub RoomTo : ℕ → Type 0
+    RoomTo K = (i : ℕ) → Sound i → (k : ℕ) → k ≤ K → HasRoom (state i k)
 
-    -- "hosts lend proper buffers": a message is bytes, an offered name is 32 of them
-    abbrev pub IsLent : Event → Type 0
-    IsLent idle = Unit {0}
-    IsLent commonTick = Unit {0}
-    IsLent (tickOf j) = Unit {0}
-    IsLent (given j bs) = Bytes bs
-    IsLent (offeredTo j b) = b < 256 ^ 32
+    abbrev pub RunsTo : ℕ → Type 0
+    RunsTo K = (i : ℕ) → Sound i → (k : ℕ) → k ≤ K → running (state i k) ≡ true
 
-    abbrev pub ProperBuffers : Type 0
-    ProperBuffers = (k : ℕ) → IsLent (event k)
-
-    -- "a message sent at clock s is delivered before the tick to s+D+1": to all others, or to one
-    abbrev pub Sends : (i j k : ℕ) → Message → Type 0
-    Sends i j k m = (Says i k (toAll m) × ¬ (i ≡ j)) ⊎ Says i k (toOne j m)
-
+    -- "a message sent at clock s is delivered before the tick to s+D+1"
     abbrev pub InTime : Type 0
     InTime =
-        (i j : ℕ) → Sound i → Sound j → (k : ℕ) (m : Message) → Sends i j k m → (l : ℕ) → ticks i (event l) ≡ 1 → clock i l ≡ clock i (suc k) + D
+        (i j : ℕ) → Sound i → Sound j → (k : ℕ) (m : Message) → Sends i j k m → (l : ℕ) → ticks i (event l) ≡ 1 → clock event i l ≡ clock event i (suc k) + D
         → (h : ℕ) × (k < h) × (h < l) × (event h ≡ given j (write m))
 
     -- "a mask or author names a sound station only after it sent that vote or blame, or is the leader that made that statement"
@@ -151,28 +195,19 @@ module _ (n D : ℕ) (event : ℕ → Event) where
 
     -- event k hands m over to the sound station j, which takes it
     abbrev pub Hands : (k j : ℕ) → Message → Type 0
-    Hands k j m = Sound j × ((bs : List ℕ) × (event k ≡ given j bs) × (read bs ≡ some m)) × (allowed (settingsOf n D j) m ≡ true)
+    Hands k j m = Sound j × ((bs : List ℕ) × (event k ≡ given j bs) × (read bs ≡ some m)) × (allowed (settingsOf size n D j) m ≡ true)
 
     abbrev pub NoForgery : Type 0
     NoForgery = (k j : ℕ) (m : Message) → Hands k j m → Genuine k m
 
     -- event k offers a name to the sound station j, which takes it and makes m
     abbrev pub Offers : (k j : ℕ) → Message → Type 0
-    Offers k j m = Sound j × ((b : ℕ) × (event k ≡ offeredTo j b) × (offered b (at j k) ≡ some m))
+    Offers k j m = Sound j × ((b : ℕ) × (event k ≡ offeredTo j b) × (offered b (state j k) ≡ some m))
 
-    -- "in all statements and offers, sound leaders' too, one name has one height and parent". A new-view that a sound leader makes is
-    -- of a block that was certified, so nothing is asked of it.
+    -- "in all statements and offers, sound leaders' too, one name has one height and parent"
     module _ (heightOf parentOf : ℕ → ℕ) where
-      abbrev pub OneBlock : Message → Type 0
-      OneBlock (newView v h b c m a) = heightOf b ≡ h
-      OneBlock (propose v h b p m a) = (heightOf b ≡ h) × (parentOf b ≡ p)
-      OneBlock (vote v h b a) = Unit {0}
-      OneBlock (blame v a) = Unit {0}
-      OneBlock (blameSet v m) = Unit {0}
-      OneBlock (status h b c m) = Unit {0}
-
       abbrev pub OneName : Type 0
-      OneName = (k j : ℕ) (m : Message) → Hands k j m ⊎ Offers k j m → OneBlock m
+      OneName = (k j : ℕ) (m : Message) → Hands k j m ⊎ Offers k j m → OneBlock heightOf parentOf m
 
       -- ---- the schedule of demand 3
 
@@ -191,9 +226,9 @@ module _ (n D : ℕ) (event : ℕ → Event) where
 
   -- the reports of station i before moment k
   unfoldable pub reported : ℕ → ℕ → List Effect
-  unfolding reportsIn out
+  unfolding reportsIn
   reported i zero = []
-  reported i (suc k) = reported i k ++ reportsIn (out i k)
+  reported i (suc k) = reported i k ++ reportsIn (said i k)
 
 module _ (parentOf : ℕ → ℕ) where
   -- each name's parent is the one before it, the first one's parent is p
@@ -205,3 +240,7 @@ module _ (parentOf : ℕ → ℕ) where
   unfoldable pub lineage : ℕ → ℕ → List ℕ
   lineage zero b = []
   lineage (suc h) b = lineage h (parentOf b) ++ b ∷ []
+
+-- of two logs one begins the other
+abbrev pub OneBegins : List ℕ → List ℕ → Type 0
+OneBegins a b = IsPrefix a b ⊎ IsPrefix b a

@@ -14,6 +14,7 @@ use Rattle.rules.specs.Lists.{within}
 use Rattle.rules.specs.Messages.{newView, viewAllowed, blockAllowed, maskAllowed, certificateAllowed, allowed}
 use Rattle.rules.specs.Sizes.{Settings, leader}
 use Rattle.rules.specs.Words.{message}
+use Rattle.rules.proofs.Bounds.{views-most}
 use Rattle.rules.proofs.Tests.{by-bool, and-left, and-right}
 use Rattle.wire.specs.declared.Statement.{Statement}
 use Rattle.wire.specs.declared.Message.{Message}
@@ -39,12 +40,12 @@ link-certificate a g l v h m f =
 
 module _ (g : Settings) (x : Statement) where
   pub new-view-allowed : x .«is_new_view» ≡ true → x .view < 2 ^ 64
-      → (viewAllowed (x .view) && blockAllowed (x .height) (nameOf (x .name)) && ltb (nameOf (x .link)) (x .view) && certificateAllowed g (x .height) (x .link .fourth) (x .mask) && eqb (x .author) (leader g (x .view)))
+      → (viewAllowed g (x .view) && blockAllowed (x .height) (nameOf (x .name)) && ltb (nameOf (x .link)) (x .view) && certificateAllowed g (x .height) (x .link .fourth) (x .mask) && eqb (x .author) (leader g (x .view)))
       ≡ allowed g (message (statementOf x none))
   unfolding allowed
   new-view-allowed e h =
       ap (λ (b : Bool). b && eqb (x .author) (leader g (x .view)))
-      (link-certificate (viewAllowed (x .view) && blockAllowed (x .height) (nameOf (x .name))) g (x .link) (x .view) (x .height) (x .mask) h)
+      (link-certificate (viewAllowed g (x .view) && blockAllowed (x .height) (nameOf (x .name))) g (x .link) (x .view) (x .height) (x .mask) h)
       ∙ ap (allowed g) (sym (new-view-said x e))
 
   -- "a propose has height at least 1"
@@ -53,7 +54,7 @@ module _ (g : Settings) (x : Statement) where
   propose-low e h = rw (propose-said x e, lt-leb 1 (x .height) h, and-false)
 
   pub propose-allowed : x .«is_new_view» ≡ false → 1 ≤ x .height
-      → (viewAllowed (x .view) && blockAllowed (x .height) (nameOf (x .name)) && blockAllowed (x .height - 1) (nameOf (x .link)) && maskAllowed g (x .mask) && eqb (x .author) (leader g (x .view)))
+      → (viewAllowed g (x .view) && blockAllowed (x .height) (nameOf (x .name)) && blockAllowed (x .height - 1) (nameOf (x .link)) && maskAllowed g (x .mask) && eqb (x .author) (leader g (x .view)))
       ≡ allowed g (message (statementOf x none))
   unfolding allowed
   propose-allowed e h = rw (propose-said x e, le-leb 1 (x .height) h, and-true)
@@ -62,13 +63,13 @@ module _ (g : Settings) (x : Statement) where
 new-view-below : (g : Settings) (v h b c m a : ℕ) → allowed g (newView v h b c m a) ≡ true → c < 256 ^ 4
 unfolding allowed viewAllowed within
 new-view-below g v h b c m a e =
-    let view = viewAllowed v in
+    let view = viewAllowed g v in
     let block = view && blockAllowed h b in
     let low = block && ltb c v in
     let first = and-left low (certificateAllowed g h c m) (and-left (low && certificateAllowed g h c m) (eqb a (leader g v)) e) in
     let below = ltb-true c v (and-right block (ltb c v) first) in
-    let most = leb-true v lastView (and-right (leb firstView v) (leb v lastView) (and-left view (blockAllowed h b) (and-left block (ltb c v) first))) in
-    omega arith
+    let most = leb-true v (lastView (g .size)) (and-right (leb firstView v) (leb v (lastView (g .size))) (and-left view (blockAllowed h b) (and-left block (ltb c v) first))) in
+    omega (arith, views-most (g .size))
 
 pub allowed-writable : (g : Settings) (m : Message) → allowed g (messageOf m) ≡ true → Writable m
 unfolding messageOf

@@ -10,10 +10,10 @@ ghost use Rattle.rules.specs.Sizes.{leader};
 ghost use Rattle.settings.specs.Made.{settingsOf};
 
 // A view within the limits.
-pub fn view_allowed(view: u64) -> bool
-    ensures { λ r. ⌜ r ≡ viewAllowed view ⌝ }
+pub fn view_allowed(settings: Settings, view: u64) -> bool
+    ensures { λ r. ⌜ r ≡ viewAllowed (settingsOf settings) view ⌝ }
 {
-    (Settings::FIRST_VIEW <= view) & (view <= Settings::LAST_VIEW)
+    (Settings::FIRST_VIEW <= view) & (view <= settings.last_view())
 }
 
 // A height within the limits, 0 exactly when the name is all zero.
@@ -48,7 +48,7 @@ pub fn certificate_allowed(settings: Settings, height: u64, cert: u64, mask: u16
     if cert == 0 {
         return (height == 0) & (mask == 0);
     }
-    (cert <= Settings::LAST_VIEW) & mask_allowed(settings, mask)
+    (cert <= settings.last_view()) & mask_allowed(settings, mask)
 }
 
 // Whether the author is the leader of the view. Without stations a view is its own remainder.

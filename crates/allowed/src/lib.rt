@@ -21,7 +21,7 @@ fn new_view_allowed(settings: Settings, statement: Statement) -> bool
     let height = statement.height as u64;
     let name = statement.name;
     let link = statement.link;
-    let block = clauses::view_allowed(view) & clauses::block_allowed(height, name);
+    let block = clauses::view_allowed(settings, view) & clauses::block_allowed(height, name);
     let certificate = clauses::certificate_allowed(settings, height, link.fourth, statement.mask);
     block
         & clauses::link_below(link, view)
@@ -41,7 +41,7 @@ fn propose_allowed(settings: Settings, statement: Statement) -> bool
     }
     let name = statement.name;
     let parent = statement.link;
-    let block = clauses::view_allowed(view)
+    let block = clauses::view_allowed(settings, view)
         & clauses::block_allowed(height, name)
         & clauses::block_allowed(height - 1, parent);
     block
@@ -71,13 +71,13 @@ pub fn message_allowed(settings: Settings, message: Message) -> bool
             name,
             author,
         } => {
-            let block = clauses::view_allowed(view as u64)
+            let block = clauses::view_allowed(settings, view as u64)
                 & clauses::block_allowed(height as u64, name);
             block & ((author as u64) < settings.n)
         }
-        Message::Blame { view, author } => clauses::view_allowed(view as u64)
+        Message::Blame { view, author } => clauses::view_allowed(settings, view as u64)
             & ((author as u64) < settings.n),
-        Message::BlameSet { view, mask } => clauses::view_allowed(view as u64)
+        Message::BlameSet { view, mask } => clauses::view_allowed(settings, view as u64)
             & clauses::mask_allowed(settings, mask),
         Message::Status {
             height,

@@ -7,12 +7,12 @@ use mathlib.Core.List.{List, _++_}
 use mathlib.Core.Option.{none, some}
 use lib.ListN.{length, drop}
 use lib.Dec.{leb, eqb}
-use Rattle.rules.specs.Limits.{leastOut}
+use Rattle.rules.specs.Limits.{leastOut, lastView, mostStatements, mostTallies}
 use Rattle.rules.specs.Lists.{be}
 use Rattle.rules.specs.Messages.{outgoing}
 use Rattle.rules.specs.Words.{State}
 use Rattle.rules.specs.Refusals.{Outcome, step, tick, offer, result}
-use Rattle.store.specs.Layout.{storeLength}
+use Rattle.store.specs.Layout.{storeLength, sizeIn}
 use Rattle.store.specs.Decode.{decode, encode}
 
 pub record Called : Type 0 where
@@ -33,9 +33,9 @@ answered x o =
 
 -- "order: 1, 2", then what the rules say of the state that the store holds
 unfoldable pub called : (State → Outcome) → List ℕ → List ℕ → Called
-unfolding refusal answered decode
+unfolding refusal answered decode sizeIn leastOut lastView mostStatements mostTallies
 called f b o =
-    elim (eqb (length b) storeLength && leb leastOut (length o))
+    elim (eqb (length b) (storeLength (sizeIn b)) && leb (leastOut (sizeIn b)) (length o))
     [ false ↦ refusal 1 b o | true ↦ elim (decode b) [ none ↦ refusal 2 b o | some s ↦ answered (f s) o ] ]
 
 unfoldable pub stepCalled : List ℕ → List ℕ → List ℕ → Called

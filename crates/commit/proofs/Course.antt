@@ -9,7 +9,7 @@ use native.Mathlib.Nat.{sub-zero}
 use lib.Dec.{eqb}
 use lib.ListN.{length, getD}
 use borrow.Author.Tests.{not-true}
-use Rattle.rules.specs.Limits.{mostStatements}
+use Rattle.rules.specs.Limits.{mostStatements, mostStatementsLarge}
 use Rattle.rules.specs.Lists.{keep}
 use Rattle.rules.specs.Words.{Statement}
 use Rattle.rules.specs.Inputs.{chain, merge, commit, commits}
@@ -31,28 +31,28 @@ use Rattle.commit.proofs.Joining.{merge-short}
 -- the last chain walked, if whole, is in the log so far
 pub record Chained (b gained table : List ℕ) (len height left : ℕ) : Type 0 where
   pub walked : Walked b table height left
-  pub high : height ≤ mostStatements
-  pub long : length table ≡ mostStatements
+  pub high : height ≤ mostStatementsLarge
+  pub long : length table ≡ mostStatementsLarge
   pub has : left ≡ 0 → Has b gained table height len
 
 -- the due statements from place i on have joined
 pub record Course (b : List ℕ) (p : Statement → Bool) (count i len : ℕ) (gained table : List ℕ) (height left : ℕ) : Type 0 where
   pub up : i ≤ count
   pub log : Log (commits (statements b) (keep p (rows (statementAt b) i (count - i))) (names b)) b gained len
-  pub long : length gained ≡ mostStatements
+  pub long : length gained ≡ mostStatementsLarge
   pub chained : Chained b gained table len height left
 
 -- the chain of the due statement before place i was walked
 pub record Turn (b : List ℕ) (p : Statement → Bool) (count i len : ℕ) (gained table : List ℕ) (left own : ℕ) : Type 0 where
   pub up : i ≤ count
   pub log : Log (commits (statements b) (keep p (rows (statementAt b) i (count - i))) (names b)) b gained len
-  pub long : length gained ≡ mostStatements
+  pub long : length gained ≡ mostStatementsLarge
   pub pos : 0 < i
   pub due : p (statementAt b (i - 1)) ≡ true
   pub tall : own ≡ statementAt b (i - 1) .height
-  pub high : own ≤ mostStatements
+  pub high : own ≤ mostStatementsLarge
   pub walked : WalkedFrom b table (i - 1) left
-  pub whole : length table ≡ mostStatements
+  pub whole : length table ≡ mostStatementsLarge
 
 -- ---- one block
 
@@ -244,7 +244,7 @@ module _ {b : List ℕ} {p : Statement → Bool} {count i len : ℕ} {gained tab
     }
 
     module _ (gained′ : List ℕ) (r : Merged) (j : JoinedWith b gained gained′ table own len r) where
-      pub turn-grown : length gained′ ≡ mostStatements → (m : ℕ) → r ≡ Grown m → Course b p count (i - 1) m gained′ table own left
+      pub turn-grown : length gained′ ≡ mostStatementsLarge → (m : ℕ) → r ≡ Grown m → Course b p count (i - 1) m gained′ table own left
       turn-grown n m q =
           let g = subst (JoinedWith b gained gained′ table own len) q j in
           record {

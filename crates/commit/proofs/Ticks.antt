@@ -9,19 +9,19 @@ use native.Mathlib.Nat.{zero-add}
 use lib.Dec.{leb}
 use lib.ListN.{length}
 use borrow.Author.Tests.{leb-true}
-use Rattle.rules.specs.Limits.{mostStatements, mostTallies}
+use Rattle.rules.specs.Limits.{mostStatements, mostTallies, mostStatementsLarge}
 use Rattle.rules.specs.Lists.{keep, sorted, all, distinct}
 use Rattle.rules.specs.Sizes.{Settings, goodSettings}
 use Rattle.rules.specs.Messages.{propose, viewAllowed, blockAllowed, maskAllowed, allowed}
-use Rattle.rules.specs.Words.{Statement, message, Phase, inView, waiting, stopped, State, sameStatement, sameBlock}
+use Rattle.rules.specs.Words.{Statement, message, Phase, inView, waiting, stopped, State, sameStatement}
 use Rattle.rules.specs.Inputs.{withClock, isIn, isDue, due, commits}
-use Rattle.rules.specs.WellFormed.{isName, wellFormed, clocksInOrder, lockGood, statementGood, tallyGood, talliesThere, blamesGood, linked}
+use Rattle.rules.specs.WellFormed.{isName, wellFormed, clocksInOrder, lockGood, statementGood, tallyGood, sameTally, talliesThere, blamesGood, linked}
 use Rattle.rules.proofs.Tests.{by-bool, and-left, and-right}
 use Rattle.fields.specs.Places.{Bytes}
 use Rattle.fields.specs.Records.{fields}
 use Rattle.fields.proofs.Laws.{number-lt}
 use Rattle.store.specs.Layout.{headerFormat, statementTable, logTable, countOf}
-use Rattle.store.specs.Meaning.{headerOf}
+use Rattle.store.specs.Meaning.{headerOf, Loads}
 use Rattle.store.specs.declared.Station.{Station}
 use Rattle.store.proofs.Loaded.{loaded-settings}
 use Rattle.store.specs.Decode.{nth, rows, statementAt, statements, nameAt, names, stateFrom, stateOf}
@@ -90,7 +90,7 @@ module _ (b : List ℕ) where
   tick-out d = due-out (withClock (stateOf b .clock + 1) (stateOf b)) d
 
   -- nothing is gained
-  pub gained-none : (t : List ℕ) (n : ℕ) → n ≡ countOf logTable b → countOf logTable b ≤ mostStatements → tickLog b ≡ some (names b) → Committed b t (Grown n)
+  pub gained-none : (t : List ℕ) (n : ℕ) → n ≡ countOf logTable b → countOf logTable b ≤ mostStatementsLarge → tickLog b ≡ some (names b) → Committed b t (Grown n)
   unfolding rows
   gained-none t n e l q =
       let z : n - countOf logTable b ≡ 0 = omega arith in
@@ -128,9 +128,9 @@ all-good : (s : State) → wellFormed s ≡ true → all (statementGood s) (s .s
 unfolding wellFormed
 all-good s =
     sixth-last
-    (goodSettings (s .settings) && viewAllowed (s .view) && clocksInOrder s && lockGood s && leb (length (s .statements)) mostStatements
-    && leb (length (s .tallies)) mostTallies)
-    (all (statementGood s) (s .statements)) (distinct sameStatement (s .statements)) (all (tallyGood (s .settings)) (s .tallies)) (distinct sameBlock (s .tallies))
+    (goodSettings (s .settings) && viewAllowed (s .settings) (s .view) && clocksInOrder s && lockGood s && leb (length (s .statements)) (mostStatements (s .settings .size))
+    && leb (length (s .tallies)) (mostTallies (s .settings .size)))
+    (all (statementGood s) (s .statements)) (distinct sameStatement (s .statements)) (all (tallyGood (s .settings)) (s .tallies)) (distinct sameTally (s .tallies))
     (all (talliesThere (s .tallies)) (s .statements)) (blamesGood (s .settings) (s .blames)) (linked (s .statements) 0 0 (s .log))
 
 propose-high : (s : State) (x : Statement) → statementGood s x ≡ true → x .isNewView ≡ false → 1 ≤ x .height
@@ -142,7 +142,7 @@ propose-high s x e q =
     let l = isName (x .link) in
     let m : message x ≡ propose (x .view) (x .height) (x .name) (x .link) (x .mask) (x .author) = rw (q, message) in
     let f = ap (allowed g) (sym m) ∙ and-left a n (and-left (a && n) l (and-left (a && n && l) _ e)) in
-    let v = viewAllowed (x .view) in
+    let v = viewAllowed g (x .view) in
     let h = leb 1 (x .height) in
     let b = blockAllowed (x .height) (x .name) in
     let p = blockAllowed (x .height - 1) (x .link) in
@@ -158,10 +158,10 @@ heights b w count e i l =
 
 -- ---- a loaded delay
 
-module _ (s : Station) (b : List ℕ) (e : headerOf s ≡ fields b 0 headerFormat) where
+module _ (s : Station) (b : List ℕ) (e : Loads s b) where
   pub delay-is : 2 * s .settings .delay ≡ 2 * stateOf b .settings .D
   delay-is = ap (λ (g : Settings). 2 * g .D) (loaded-settings s b e)
 
   pub delay-short : Bytes b → s .settings .delay < 256 ^ 2
   unfolding headerOf
-  delay-short k = omega (arith, ap (λ (vs : List ℕ). nth vs 2) e, number-lt b k (0 + 5) 2)
+  delay-short k = omega (arith, ap (λ (vs : List ℕ). nth vs 2) (e .header), number-lt b k (0 + 5) 2)

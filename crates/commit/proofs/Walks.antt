@@ -12,7 +12,7 @@ use lib.Dec.{eqb}
 use lib.ListN.{length, getD, set, length-set}
 use lib.Seq.{getD-set-same, getD-set-other}
 use borrow.Author.Tests.{eqb-true}
-use Rattle.rules.specs.Limits.{mostStatements}
+use Rattle.rules.specs.Limits.{mostStatements, mostStatementsLarge}
 use Rattle.rules.specs.Lists.{first}
 use Rattle.rules.specs.Words.{Statement}
 use Rattle.rules.specs.Inputs.{isBlock, chainTo, chain}
@@ -151,13 +151,13 @@ module _ (b : List ℕ) where
 pub record Walking (b t : List ℕ) (i height k link : ℕ) : Type 0 where
   pub below : k < height
   pub tall : height ≡ statementAt b i .height
-  pub most : height ≤ mostStatements
-  pub long : length t ≡ mostStatements
+  pub most : height ≤ mostStatementsLarge
+  pub long : length t ≡ mostStatementsLarge
   pub top : getD t (height - 1) 0 ≡ i
   pub down : Down b t height k link
 
-pub walking-start : {b : List ℕ} {i height link : ℕ} (t : List ℕ) → i < countOf statementTable b → height ≡ statementAt b i .height → 1 ≤ height → height ≤ mostStatements
-    → length t ≡ mostStatements → link ≡ statementAt b i .link → Walking b (set t (height - 1) i) i height (height - 1) link
+pub walking-start : {b : List ℕ} {i height link : ℕ} (t : List ℕ) → i < countOf statementTable b → height ≡ statementAt b i .height → 1 ≤ height → height ≤ mostStatementsLarge
+    → length t ≡ mostStatementsLarge → link ≡ statementAt b i .link → Walking b (set t (height - 1) i) i height (height - 1) link
 walking-start {b} {i} {height} t s e l m n q = record {
   below = omega arith;
   tall = e;

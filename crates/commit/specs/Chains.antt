@@ -6,7 +6,7 @@ use mathlib.Core.List.{List}
 use mathlib.Core.Option.{Option, none, some}
 use lib.ListN.{length, getD}
 use lib.Dec.{leb, ltb, eqb}
-use Rattle.rules.specs.Limits.{mostStatements}
+use Rattle.rules.specs.Limits.{mostStatements, mostStatementsLarge}
 use Rattle.rules.specs.Words.{Statement}
 use Rattle.rules.specs.Inputs.{chain}
 use Rattle.store.specs.Layout.{statementTable, logTable, countOf}
@@ -60,8 +60,8 @@ pub record Begun (b gained chain : List ℕ) (count logged wait : ℕ) : Type 0 
   pub form : Form b
   pub all : count ≡ countOf statementTable b
   pub old : logged ≡ countOf logTable b
-  pub long : length gained ≡ mostStatements
-  pub whole : length chain ≡ mostStatements
+  pub long : length gained ≡ mostStatementsLarge
+  pub whole : length chain ≡ mostStatementsLarge
   pub heights : (i : ℕ) → i < count → statementAt b i .isNewView ≡ false → 1 ≤ statementAt b i .height
   pub short : wait < 2 ^ 32
 
@@ -70,11 +70,11 @@ pub record Ready (b gained chain : List ℕ) (logged len height : ℕ) : Type 0 
   pub form : Form b
   pub old : logged ≡ countOf logTable b
   pub more : logged ≤ len
-  pub fits : len ≤ mostStatements
-  pub long : length gained ≡ mostStatements
+  pub fits : len ≤ mostStatementsLarge
+  pub long : length gained ≡ mostStatementsLarge
   pub gains : Stored b gained logged len
-  pub high : height ≤ mostStatements
-  pub whole : length chain ≡ mostStatements
+  pub high : height ≤ mostStatementsLarge
+  pub whole : length chain ≡ mostStatementsLarge
   pub blocks : Stored b chain 0 height
 
 -- whether the two logs have the same names up to a height

@@ -3,7 +3,7 @@ use Prim.Native.Nat.{ℕ, _+_, _-_, _<_, _≤_}
 use mathlib.Core.Path.{_≡_}
 use mathlib.Core.List.{List, _++_}
 use mathlib.Core.Option.{Option, none, some}
-use Rattle.rules.specs.Limits.{mostStatements}
+use Rattle.rules.specs.Limits.{mostStatements, mostStatementsLarge}
 use Rattle.rules.specs.Inputs.{withClock, due, merge, commits}
 use Rattle.store.specs.Layout.{logTable, countOf}
 use Rattle.store.specs.Decode.{rows, names, stateOf}
@@ -20,7 +20,7 @@ tickLog b = let now = withClock (stateOf b .clock + 1) (stateOf b) in commits (n
 pub record Log (o : Option (List ℕ)) (b t : List ℕ) (n : ℕ) : Type 0 where
   pub is : o ≡ some (rows (nameSoFar b t) 0 n)
   pub more : countOf logTable b ≤ n
-  pub fits : n ≤ mostStatements
+  pub fits : n ≤ mostStatementsLarge
   pub stored : Stored b t (countOf logTable b) n
 
 abbrev pub Joined : Option (List ℕ) → List ℕ → List ℕ → Merged → Type 0
@@ -40,7 +40,7 @@ JoinedWith b t t′ chain height len Differs = merge (rows (nameIn b chain) 0 he
 pub record Gained (b t : List ℕ) (n : ℕ) : Type 0 where
   pub is : tickLog b ≡ some (names b ++ rows (nameIn b t) (countOf logTable b) (n - countOf logTable b))
   pub more : countOf logTable b ≤ n
-  pub fits : n ≤ mostStatements
+  pub fits : n ≤ mostStatementsLarge
   pub stored : Stored b t (countOf logTable b) n
 
 abbrev pub Committed : List ℕ → List ℕ → Merged → Type 0

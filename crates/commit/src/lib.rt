@@ -4,15 +4,15 @@ ghost use mathlib.Core.Path.{_≡_};
 ghost use lib.ListN.{length, getD};
 ghost use Prim.Native.Nat.{_<_, _≤_, _^_};
 ghost use Rattle.rules.specs.Lists.{keep};
-ghost use Rattle.rules.specs.Limits.{mostStatements};
+ghost use Rattle.rules.specs.Limits.{mostStatements, mostStatementsLarge};
 ghost use mathlib.Core.Bool.{true};
 ghost use Rattle.rules.specs.WellFormed.{wellFormed};
 ghost use Rattle.rules.specs.Inputs.{isBlock, commits, votes};
 ghost use Rattle.fields.specs.Records.{fields};
 ghost use Rattle.fields.specs.Names.{nameOf};
-ghost use Rattle.store.specs.Layout.{headerFormat, statementTable, logTable, storeLength, countOf};
+ghost use Rattle.store.specs.Layout.{sizeIn, headerFormat, statementTable, logTable, storeLength, countOf};
 ghost use Rattle.store.specs.Decode.{statements, statementAt, names, stateOf, Form};
-ghost use Rattle.store.specs.Meaning.{headerOf};
+ghost use Rattle.store.specs.Meaning.{Loads, headerOf};
 ghost use Rattle.store.specs.Changes.{firstFrom};
 ghost use Rattle.commit.specs.Chains.{nameIn, nameSoFar, Stored, voteIn, isRipe, WalkedFrom, Settled, Copied, Begun, Ready, Agree};
 ghost use Rattle.commit.specs.Outcome.{Joined, JoinedWith, Committed};
@@ -30,7 +30,7 @@ pub enum Merged {
 
 // Whether statement i is a propose of the name at the height; no more than its height is read where that differs.
 fn is_block(store: &[u8], i: usize, height: u32, name: Name) -> bool
-    requires { ⌜ (length (now store) ≡ storeLength) × (i < mostStatements) ⌝ }
+    requires { ⌜ (length (now store) ≡ storeLength (sizeIn (now store))) × (i < mostStatements (sizeIn (now store))) ⌝ }
     ensures { λ r. ⌜ r ≡ isBlock height (nameOf name) (statementAt (now (store .entry)) i) ⌝ }
 {
     if height != store::height_at(store, i) {
@@ -58,14 +58,14 @@ pub fn find_block(store: &[u8], count: usize, height: u32, name: Name) -> Found
 }
 
 // Puts the places of the chain of statement i into the table, from its height down; answers how many of the lowest are not stored.
-fn walk(store: &[u8], count: usize, i: usize, chain: &mut [u8]) -> usize
-    requires { ⌜ (Form (now store)) × (count ≡ countOf statementTable (now store)) × (i < count) × (length (now chain) ≡ mostStatements) × (1 ≤ statementAt (now store) i .height) × (statementAt (now store) i .height ≤ mostStatements) ⌝ }
+fn walk(store: &[u8], count: usize, i: usize, chain: &mut [u16]) -> usize
+    requires { ⌜ (Form (now store)) × (count ≡ countOf statementTable (now store)) × (i < count) × (length (now chain) ≡ mostStatementsLarge) × (1 ≤ statementAt (now store) i .height) × (statementAt (now store) i .height ≤ mostStatementsLarge) ⌝ }
     ensures { λ r. ⌜ WalkedFrom (now (store .entry)) (now (chain .exit)) i r ⌝ }
 {
     let x = store::statement_at(store, i);
     let height = x.height as usize;
     let mut k = height - 1;
-    chain[k] = i as u8;
+    chain[k] = i as u16;
     let mut link = x.link;
     loop {
         if k == 0 {
@@ -75,7 +75,7 @@ fn walk(store: &[u8], count: usize, i: usize, chain: &mut [u8]) -> usize
             break k;
         };
         k -= 1;
-        chain[k] = p as u8;
+        chain[k] = p as u16;
         let parent = store::statement_at(store, p);
         link = parent.link;
     }
@@ -83,7 +83,7 @@ fn walk(store: &[u8], count: usize, i: usize, chain: &mut [u8]) -> usize
 
 // The number of the own vote for statement i, if it is a propose of the view; else 0.
 fn vote_in(store: &[u8], i: usize, view: u32) -> u32
-    requires { ⌜ (length (now store) ≡ storeLength) × (i < mostStatements) ⌝ }
+    requires { ⌜ (length (now store) ≡ storeLength (sizeIn (now store))) × (i < mostStatements (sizeIn (now store))) ⌝ }
     ensures { λ r. ⌜ r ≡ voteIn view (statementAt (now (store .entry)) i) ⌝ }
 {
     let x = store::statement_at(store, i);
@@ -98,7 +98,7 @@ fn vote_in(store: &[u8], i: usize, view: u32) -> u32
 
 // How many proposes of the view were voted for.
 pub fn votes(store: &[u8], station: Station) -> usize
-    requires { ⌜ (Form (now store)) × (headerOf station ≡ fields (now store) 0 headerFormat) ⌝ }
+    requires { ⌜ (Form (now store)) × (Loads station (now store)) ⌝ }
     ensures { λ r. ⌜ r ≡ votes (stateOf (now (store .entry))) ⌝ }
 {
     let view = station.view;
@@ -118,7 +118,7 @@ pub fn votes(store: &[u8], station: Station) -> usize
 
 // Whether statement i is a propose of the view that was voted for more than `wait` ticks ago.
 fn is_due(store: &[u8], i: usize, view: u32, wait: u64, clock: u64) -> bool
-    requires { ⌜ (length (now store) ≡ storeLength) × (i < mostStatements) × (wait < 2 ^ 32) ⌝ }
+    requires { ⌜ (length (now store) ≡ storeLength (sizeIn (now store))) × (i < mostStatements (sizeIn (now store))) × (wait < 2 ^ 32) ⌝ }
     ensures { λ r. ⌜ r ≡ isRipe view wait clock (statementAt (now (store .entry)) i) ⌝ }
 {
     let vote = vote_in(store, i, view);
@@ -129,7 +129,7 @@ fn is_due(store: &[u8], i: usize, view: u32, wait: u64, clock: u64) -> bool
 }
 
 // The place that stands in a table.
-fn place_in(table: &[u8], k: usize) -> usize
+fn place_in(table: &[u16], k: usize) -> usize
     requires { ⌜ k < length (now table) ⌝ }
     ensures { λ r. ⌜ r ≡ getD (now (table .entry)) k 0 ⌝ }
 {
@@ -137,8 +137,8 @@ fn place_in(table: &[u8], k: usize) -> usize
 }
 
 // The name of the statement whose place stands in a table.
-fn name_in(store: &[u8], table: &[u8], k: usize) -> Name
-    requires { ⌜ (length (now store) ≡ storeLength) × (k < length (now table)) × (getD (now table) k 0 < mostStatements) ⌝ }
+fn name_in(store: &[u8], table: &[u16], k: usize) -> Name
+    requires { ⌜ (length (now store) ≡ storeLength (sizeIn (now store))) × (k < length (now table)) × (getD (now table) k 0 < mostStatements (sizeIn (now store))) ⌝ }
     ensures { λ r. ⌜ nameOf r ≡ nameIn (now (store .entry)) (now (table .entry)) k ⌝ }
 {
     let x = store::statement_at(store, place_in(table, k));
@@ -146,8 +146,8 @@ fn name_in(store: &[u8], table: &[u8], k: usize) -> Name
 }
 
 // The name at height k + 1 of the log so far.
-fn name_so_far(store: &[u8], logged: usize, gained: &[u8], k: usize) -> Name
-    requires { ⌜ (length (now store) ≡ storeLength) × (logged ≡ countOf logTable (now store)) × (k < mostStatements) × (k < length (now gained)) × (logged ≤ k → getD (now gained) k 0 < mostStatements) ⌝ }
+fn name_so_far(store: &[u8], logged: usize, gained: &[u16], k: usize) -> Name
+    requires { ⌜ (length (now store) ≡ storeLength (sizeIn (now store))) × (logged ≡ countOf logTable (now store)) × (logged ≤ mostStatements (sizeIn (now store))) × (k < length (now gained)) × (logged ≤ k → getD (now gained) k 0 < mostStatements (sizeIn (now store))) ⌝ }
     ensures { λ r. ⌜ nameOf r ≡ nameSoFar (now (store .entry)) (now (gained .entry)) k ⌝ }
 {
     if k < logged {
@@ -161,8 +161,8 @@ fn agrees(
     store: &[u8],
     logged: usize,
     len: usize,
-    gained: &[u8],
-    chain: &[u8],
+    gained: &[u16],
+    chain: &[u16],
     height: usize,
     end: usize,
 ) -> bool
@@ -184,7 +184,7 @@ fn agrees(
 }
 
 // Copies the places from one height up to another.
-fn copy_places(from: &[u8], to: &mut [u8], start: usize, end: usize)
+fn copy_places(from: &[u16], to: &mut [u16], start: usize, end: usize)
     requires { ⌜ (end ≤ length (now from)) × (end ≤ length (now to)) ⌝ }
     ensures { λ _. ⌜ Copied (now (from .entry)) (now (to .entry)) (now (to .exit)) start end ⌝ }
 {
@@ -210,8 +210,8 @@ fn join(
     store: &[u8],
     logged: usize,
     len: usize,
-    gained: &mut [u8],
-    chain: &[u8],
+    gained: &mut [u16],
+    chain: &[u16],
     height: usize,
 ) -> Merged
     requires { ⌜ Ready (now store) (now gained) (now chain) logged len height ⌝ }
@@ -236,7 +236,7 @@ fn join(
 }
 
 // Whether the last walk went through statement i, of the height `own`: its place stands in the table.
-fn is_settled(chain: &[u8], height: usize, left: usize, own: usize, i: usize) -> bool
+fn is_settled(chain: &[u16], height: usize, left: usize, own: usize, i: usize) -> bool
     requires { ⌜ height ≤ length (now chain) ⌝ }
     ensures { λ r. ⌜ Settled (now (chain .entry)) height left own i r ⌝ }
 {
@@ -260,8 +260,8 @@ fn commit_due(
     view: u32,
     wait: u64,
     clock: u64,
-    gained: &mut [u8],
-    chain: &mut [u8],
+    gained: &mut [u16],
+    chain: &mut [u16],
 ) -> Merged
     requires { ⌜ Begun (now store) (now gained) (now chain) count logged wait ⌝ }
     ensures { λ r. ⌜ Joined (commits (statements (now (store .entry))) (keep (isRipe view wait clock) (statements (now (store .entry)))) (names (now (store .entry)))) (now (store .entry)) (now (gained .exit)) r ⌝ }
@@ -299,8 +299,8 @@ fn commit_due(
 }
 
 // The commit stage of a tick from this store: the new log's length, its new names by place in the table, or refusal 7.
-pub fn commits(store: &[u8], station: Station, gained: &mut [u8]) -> Merged
-    requires { ⌜ (Form (now store)) × (wellFormed (stateOf (now store)) ≡ true) × (headerOf station ≡ fields (now store) 0 headerFormat) × (length (now gained) ≡ mostStatements) ⌝ }
+pub fn commits(store: &[u8], station: Station, gained: &mut [u16]) -> Merged
+    requires { ⌜ (Form (now store)) × (wellFormed (stateOf (now store)) ≡ true) × (Loads station (now store)) × (length (now gained) ≡ mostStatementsLarge) ⌝ }
     ensures { λ r. ⌜ Committed (now (store .entry)) (now (gained .exit)) r ⌝ }
 {
     let logged = station.logged;
@@ -311,7 +311,7 @@ pub fn commits(store: &[u8], station: Station, gained: &mut [u8]) -> Merged
     let settings = station.settings;
     let wait = 2 * settings.delay;
     let clock = station.clock as u64 + 1;
-    let mut chain = [0u8; Settings::MOST_STATEMENTS];
+    let mut chain = [0u16; Settings::MOST_STATEMENTS_LARGE];
     commit_due(
         store,
         station.statements,

@@ -152,19 +152,7 @@ put-put s at (suc w) u v =
     rw (put-set (set s (at + w) (u % 256)) at w (u / 256) (at + w) (v % 256) (omega arith), set-set)
     (put-put (set s (at + w) (v % 256)) at w (u / 256) (v / 256))
 
--- where the numbers of the first bytes differ, so do those of more bytes, and in the same order
 module _ (a b : List ℕ) (ba : Bytes a) (bb : Bytes b) (i j : ℕ) where
-  lt-more : (k m : ℕ) → number a i k < number b j k → number a i (k + m) < number b j (k + m)
-  unfolding number
-  lt-more k zero h = rw add-zero h
-  lt-more k (suc m) h = rw add-suc (omega (arith, ba (i + (k + m)), bb (j + (k + m)), lt-more k m h))
-
-  pub lt-at : (k w : ℕ) → k < w → number a i k ≡ number b j k → getD a (i + k) 0 < getD b (j + k) 0 → number a i w < number b j w
-  lt-at k w l e d =
-      let h : number a i (k + 1) < number b j (k + 1) = simp number-suc (omega arith) in
-      let q : k + 1 + (w - (k + 1)) ≡ w = omega arith in
-      rw q at (lt-more (k + 1) (w - (k + 1)) h)
-
   -- places of the same number have the same bytes
   pub same-bytes : (w : ℕ) → number a i w ≡ number b j w → (k : ℕ) → k < w → getD a (i + k) 0 ≡ getD b (j + k) 0
   unfolding number

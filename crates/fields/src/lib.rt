@@ -137,14 +137,6 @@ pub fn put_name(s: &mut [u8], at: usize, name: Name)
     put(s, at, 8, name.first);
 }
 
-// Copies the name at a place to a place of another slice.
-pub fn copy_name(from: &[u8], i: usize, to: &mut [u8], j: usize)
-    requires { ⌜ (i + 32 ≤ length (now from)) × (j + 32 ≤ length (now to)) ⌝ }
-    ensures { λ _. ⌜ now (to .exit) ≡ written (now (to .entry)) j 32 (number (now (from .entry)) i 32) ⌝ }
-{
-    put_name(to, j, get_name(from, i));
-}
-
 // Whether the bytes of a place are all zero.
 pub fn all_zero(s: &[u8], at: usize, width: usize) -> bool
     requires { ⌜ at + width ≤ length (now s) ⌝ }
@@ -183,24 +175,4 @@ pub fn same(a: &[u8], i: usize, b: &[u8], j: usize, width: usize) -> bool
         k += 1;
     }
     any == 0
-}
-
-// Whether the bytes of one place come before those of another, in byte order.
-pub fn less(a: &[u8], i: usize, b: &[u8], j: usize, width: usize) -> bool
-    requires { ⌜ (i + width ≤ length (now a)) × (j + width ≤ length (now b)) ⌝ }
-    ensures { λ r. ⌜ r ≡ ltb (number (now (a .entry)) i width) (number (now (b .entry)) j width) ⌝ }
-{
-    let mut k: usize = 0;
-    while k < width {
-        let x = a[i + k];
-        let y = b[j + k];
-        if x < y {
-            return true;
-        }
-        if y < x {
-            return false;
-        }
-        k += 1;
-    }
-    false
 }

@@ -3,28 +3,48 @@ use Prim.Native.Nat.{ℕ, _+_, _-_, _*_, _≤_}
 use mathlib.Core.Path.{_≡_, sym, ap, _∙_}
 use mathlib.Core.Bool.{Bool, true, false, not, _&&_}
 use mathlib.Core.List.{List}
+use native.Mathlib.Omega.{arith}
 use lib.Dec.{leb, eqb}
 use borrow.Author.Tests.{not-true, not-false, leb-true, eq-eqb}
+use Rattle.rules.specs.Limits.{mostStatementsLarge, mostTalliesLarge}
 use Rattle.rules.specs.Lists.{all, within}
+use Rattle.rules.proofs.Bounds.{statements-most, tallies-most}
 use Rattle.rules.proofs.Tests.{and-left, and-right}
 use Rattle.fields.specs.Places.{number}
-use Rattle.store.specs.Layout.{Table, statementTable, tallyTable, logTable, countOf}
+use Rattle.store.specs.Layout.{sizeIn, Table, statementTable, tallyTable, logTable, countOf}
 use Rattle.store.specs.Decode.{tableFits, kinds, hasForm}
 use Rattle.store.specs.declared.Station.{Station}
 use Rattle.store.proofs.Loaded.{loaded-statements, loaded-tallies, loaded-logged}
 use Rattle.formed.specs.Lent.{Lent, Counts, fits}
 
+-- a count in range is below the larger limits too
+pub few-statements : {b : List ℕ} {n : ℕ} → Counts statementTable b n → n ≤ mostStatementsLarge
+few-statements {b} k = omega (arith, k .room, statements-most (sizeIn b))
+
+pub few-tallies : {b : List ℕ} {n : ℕ} → Counts tallyTable b n → n ≤ mostTalliesLarge
+few-tallies {b} k = omega (arith, k .room, tallies-most (sizeIn b))
+
+pub few-names : {b : List ℕ} {n : ℕ} → Counts logTable b n → n ≤ mostStatementsLarge
+few-names {b} k = omega (arith, k .room, statements-most (sizeIn b))
+
 -- a table's count and unused records
 abbrev pub used : Table → List ℕ → ℕ → Bool
-used t b n = fits b (t .base) (t .size) (t .room) n
+used t b n = fits b (t .base (sizeIn b)) (t .size) (t .room (sizeIn b)) n
 
-pub used-is : (t : Table) (b : List ℕ) (n : ℕ) → n ≡ countOf t b → used t b n ≡ tableFits t b
+pub used-is : (t : Table) (b : List ℕ) (n : ℕ) → n ≡ countOf t b → used t b n ≡ tableFits (sizeIn b) t b
 unfolding fits tableFits
-used-is t b n e = ap (λ (k : ℕ). leb k (t .room) && eqb (number b (t .base + t .size * k) (t .size * t .room - t .size * k)) 0) e
+used-is t b n e =
+    let z = sizeIn b in
+    ap (λ (k : ℕ). leb k (t .room z) && eqb (number b (t .base z + t .size * k) (t .size * t .room z - t .size * k)) 0) e
 
-used-room : (t : Table) (b : List ℕ) (n : ℕ) → used t b n ≡ true → n ≤ t .room
+-- as the code tests it, with the limits of the store
+pub used-by : (t : Table) (b : List ℕ) (n : ℕ) {r : Bool} {base room : ℕ} → base ≡ t .base (sizeIn b) → room ≡ t .room (sizeIn b) → r ≡ fits b base (t .size) room n
+    → r ≡ used t b n
+used-by t b n p q e = rw (← p, ← q) e
+
+used-room : (t : Table) (b : List ℕ) (n : ℕ) → used t b n ≡ true → n ≤ t .room (sizeIn b)
 unfolding fits
-used-room t b n e = leb-true n (t .room) (and-left (leb n (t .room)) _ e)
+used-room t b n e = leb-true n (t .room (sizeIn b)) (and-left (leb n (t .room (sizeIn b))) _ e)
 
 module _ (b : List ℕ) (s : Station) (h : Lent b s) where
   abbrev xs : Bool

@@ -8,15 +8,16 @@ use native.Mathlib.Numerals.{add-one}
 use lib.ListN.{length}
 use lib.Dec.{leb, ltb, eqb}
 use borrow.Author.Tests.{lt-ltb, ltb-true, leb-true, ne-eqb, eq-eqb}
-use Rattle.rules.specs.Limits.{lastClock, firstView, lastView}
+use Rattle.rules.specs.Limits.{lastClock, lastView}
 use Rattle.rules.specs.Lists.{all, any, within}
 use Rattle.rules.specs.Sizes as sizes
 use Rattle.rules.specs.Sizes.{goodSettings, leader}
 use Rattle.rules.specs.Messages.{newView, propose, viewAllowed, blockAllowed, maskAllowed, certificateAllowed, allowed}
 use Rattle.rules.specs.Words as words
-use Rattle.rules.specs.Words.{message, ownBlock, certificate, sameBlock}
+use Rattle.rules.specs.Words.{message, ownBlock, certificate, opened, ofBlock}
 use Rattle.rules.specs.Inputs.{isBlock}
 use Rattle.rules.specs.WellFormed.{isName, isMask, clocksInOrder, lockGood, statementGood, tallyGood, talliesThere, blamesGood, linked}
+use Rattle.rules.proofs.Bounds.{views-most}
 use Rattle.rules.proofs.Tests.{by-bool, and-left, and-right}
 use Rattle.fields.specs.declared.Name.{Name}
 use Rattle.fields.specs.Names.{nameOf}
@@ -29,14 +30,17 @@ use Rattle.settings.specs.declared.Made.{Made}
 use Rattle.settings.specs.declared.Made.the-variants.{Good, Bad}
 use Rattle.wire.specs.Meaning.{statementOf}
 use Rattle.wire.specs.declared.Statement.{Statement}
-use Rattle.store.specs.Decode.{rows, voteOf, statementAt, voteAt, blameAt, blames, stateFrom}
+use Rattle.words.specs.Meaning.{Certifies}
+use Rattle.words.proofs.Statements.{certifies-allowed, certifies-read}
+use Rattle.store.specs.Layout.{sizeIn}
+use Rattle.store.specs.Decode.{rows, voteOf, statementAt, voteAt, blameAt, blamesFor, blames, stateFrom}
 use Rattle.store.specs.Meaning.{courseOf, tallyOf, headerOf}
 use Rattle.store.specs.declared.Phase.{Phase}
 use Rattle.store.specs.declared.Station.{Station}
 use Rattle.store.specs.declared.Tally.{Tally}
 use Rattle.store.proofs.Values.{number-phase}
 use Rattle.store.proofs.Rows.{rows-length, rows-from}
-use Rattle.formed.specs.Lent.{alone, bare, phaseInOrder, voteInOrder, isLink, Certifies}
+use Rattle.formed.specs.Lent.{alone, bare, phaseInOrder, voteInOrder, isLink}
 use Rattle.formed.proofs.Walks.{rows-end}
 
 -- four words are a name
@@ -46,14 +50,14 @@ words-name n w = lt-ltb _ _ (name-lt n (w .0 .fits) (w .1 .0 .fits) (w .1 .1 .0 
 
 -- ---- settings
 
-module _ (g : Settings) (m : Made) (e : m ≡ made (g .n) (g .delay) (g .own)) where
+module _ (g : Settings) (m : Made) (e : m ≡ made (g .n) (g .delay) (g .own) (g .size)) where
   pub made-good : (h : Settings) → m ≡ Good h → true ≡ goodSettings (settingsOf g)
   unfolding made
   made-good h q = by-bool (goodSettings (settingsOf g)) sym (λ p. let z : Bad ≡ Good h = sym (e ∙ rw p) ∙ q in let y : _≡_ {A = ℕ} 0 1 = cc in absurd (omega arith))
 
   pub made-bad : m ≡ Bad → false ≡ goodSettings (settingsOf g)
   unfolding made
-  made-bad q = by-bool (goodSettings (settingsOf g)) (λ p. let z : Good (record { n = g .n; delay = g .delay; own = g .own }) ≡ Bad = sym (e ∙ rw p) ∙ q in let y : _≡_ {A = ℕ} 0 1 = cc in absurd (omega arith)) sym
+  made-bad q = by-bool (goodSettings (settingsOf g)) (λ p. let z : Good (record { n = g .n; delay = g .delay; own = g .own; size = g .size }) ≡ Bad = sym (e ∙ rw p) ∙ q in let y : _≡_ {A = ℕ} 0 1 = cc in absurd (omega arith)) sym
 
 -- ---- clocks
 
@@ -64,7 +68,7 @@ pub clocks-are : (s : Station) → (leb (s .entry) (s .clock) && leb (s .clock) 
 unfolding clocksInOrder phaseInOrder stateFrom headerOf
 clocks-are s = rw (number-phase (courseOf (s .phase)))
 
--- ---- the lock, a tally
+-- ---- the lock, and a tally
 
 pub lock-is : (s : Station) → Words (s .lock .name)
     → (ltb (s .lock .view) (s .view) && blockAllowed (s .lock .height) (nameOf (s .lock .name)) && certificateAllowed (settingsOf (s .settings)) (s .lock .height) (s .lock .view) (s .lock .mask))
@@ -73,7 +77,7 @@ unfolding lockGood stateFrom headerOf
 lock-is s w = rw (words-name (s .lock .name) w, and-true)
 
 pub tally-is : (g : Settings) (t : Tally) → Words (t .name)
-    → (viewAllowed (t .view) && blockAllowed (t .height) (nameOf (t .name)) && ltb (t .mask) (2 ^ g .n)) ≡ tallyGood (settingsOf g) (tallyOf t)
+    → (viewAllowed (settingsOf g) (t .view) && blockAllowed (t .height) (nameOf (t .name)) && ltb (t .mask) (2 ^ g .n)) ≡ tallyGood (settingsOf g) (tallyOf t)
 unfolding tallyGood tallyOf isMask
 tally-is g t w = rw (words-name (t .name) w, and-true)
 
@@ -107,96 +111,45 @@ module _ (b : List ℕ) (i : ℕ) (x : Statement) (e : statementOf x (statementA
   statement-is s bytes = rw said (simp (stored-name b bytes, and-true))
 
   pub certifies-bare : Certifies y → Certifies (bare x)
-  unfolding statementOf
-  certifies-bare h = let g : Certifies (statementOf x (y .voted)) = rw e h in record { view = g .view; height = g .height }
+  certifies-bare = certifies-read x y e
 
   pub there-bare : (ts : List words.Tally) → talliesThere ts (bare x) ≡ talliesThere ts y
   unfolding talliesThere ownBlock certificate statementOf
   there-bare ts = ap (talliesThere ts) e
 
--- what an allowed statement's certificate is
-module _ (g : sizes.Settings) (v h b l m a : ℕ) where
-  new-view-link : allowed g (newView v h b l m a) ≡ true → l < 256 ^ 4
-  unfolding allowed viewAllowed within
-  new-view-link e =
-      let view = viewAllowed v in
-      let block = blockAllowed h b in
-      let below = ltb l v in
-      let rest = certificateAllowed g h l m in
-      let p = and-left (view && block && below) rest (and-left (view && block && below && rest) (eqb a (leader g v)) e) in
-      let q = and-left view block (and-left (view && block) below p) in
-      omega (arith, ltb-true l v (and-right (view && block) below p), leb-true v lastView (and-right (leb firstView v) _ q))
-
-  propose-height : allowed g (propose v h b l m a) ≡ true → 1 ≤ h
-  unfolding allowed
-  propose-height e =
-      let view = viewAllowed v in
-      let high = leb 1 h in
-      let block = blockAllowed h b in
-      let parent = blockAllowed (h - 1) l in
-      let mask = maskAllowed g m in
-      let p = and-left (view && high && block && parent) mask (and-left (view && high && block && parent && mask) (eqb a (leader g v)) e) in
-      leb-true 1 h (and-right view high (and-left (view && high) block (and-left (view && high && block) parent p)))
-
 pub good-certifies : (s : words.State) (x : words.Statement) → statementGood s x ≡ true → Certifies x
 unfolding statementGood message
 good-certifies s x e =
     let said = allowed (s .settings) (message x) in
-    let p = and-left said (isName (x .name)) (and-left (said && isName (x .name)) (isName (x .link)) (and-left (said && isName (x .name) && isName (x .link)) _ e)) in
-    record {
-      view = λ k. new-view-link (s .settings) (x .view) (x .height) (x .name) (x .link) (x .mask) (x .author) (rw (k, message) at p);
-      height = λ k. propose-height (s .settings) (x .view) (x .height) (x .name) (x .link) (x .mask) (x .author) (rw (k, message) at p);
-    }
-
--- ---- its certificate
-
-link-view : (l : Name) → nameOf l < 256 ^ 4 → l .fourth ≡ nameOf l
-unfolding nameOf
-link-view l h = low ((l .first * 2 ^ 64 + l .second) * 2 ^ 64 + l .third) (l .fourth) h
-  where
-    low : (n x : ℕ) → n * 2 ^ 64 + x < 256 ^ 4 → x ≡ n * 2 ^ 64 + x
-    low n x h = omega arith
-
-module _ (x : Statement) (h : Certifies (bare x)) where
-  pub certificate-view : x .«is_new_view» ≡ true → x .link .fourth < 256 ^ 4
-  unfolding statementOf
-  certificate-view e = rw (link-view (x .link) (h .view e)) (h .view e)
-
-  pub certificate-new-view : x .«is_new_view» ≡ true
-      → tallyOf (record { view = x .link .fourth; height = x .height; name = x .name; mask = x .mask }) ≡ certificate (bare x)
-  unfolding tallyOf certificate statementOf
-  certificate-new-view e = rw (link-view (x .link) (h .view e), e, certificate)
-
-  pub certificate-propose : x .«is_new_view» ≡ false
-      → tallyOf (record { view = x .view; height = x .height - 1; name = x .link; mask = x .mask }) ≡ certificate (bare x)
-  unfolding tallyOf certificate statementOf
-  certificate-propose e = rw (e, certificate)
+    certifies-allowed (s .settings) x (and-left said (isName (x .name)) (and-left (said && isName (x .name)) (isName (x .link)) (and-left (said && isName (x .name) && isName (x .link)) _ e)))
 
 -- ---- its tallies
 
-module _ (ts : List words.Tally) (x : words.Statement) where
-  pub there-missing : any (sameBlock (ownBlock x 0)) ts ≡ false → talliesThere ts x ≡ false
+module _ (ts : List words.Tally) (x : words.Statement) (u : words.Certificate) (r : u ≡ ownBlock x 0) where
+  pub there-missing : any (ofBlock u) ts ≡ false → talliesThere ts x ≡ false
   unfolding talliesThere
-  there-missing e = rw e
+  there-missing e = rw (← r, e)
 
-  module _ (t : words.Tally) (q : t ≡ certificate x) (e : any (sameBlock (ownBlock x 0)) ts ≡ true) where
+  module _ (t : words.Certificate) (q : t ≡ certificate x) (e : any (ofBlock u) ts ≡ true) where
     pub there-genesis : t .view ≡ 0 → talliesThere ts x ≡ true
     unfolding talliesThere
-    there-genesis z = rw (e, ← q, z)
+    there-genesis z = rw (← r, e, ← q, z)
 
-    pub there-both : (t .view ≡ 0 → ⊥) → talliesThere ts x ≡ any (sameBlock t) ts
+    pub there-both : (t .view ≡ 0 → ⊥) → talliesThere ts x ≡ any (ofBlock t) ts
     unfolding talliesThere
-    there-both d = rw (e, ← q, ne-eqb _ _ d)
+    there-both d = rw (← r, e, ← q, ne-eqb _ _ d)
 
 -- ---- blame masks
 
-masks-are : (g : sizes.Settings) (ms : List ℕ) → length ms ≡ lastView → blamesGood g (0 ∷ ms) ≡ all (isMask g) ms
+masks-are : (g : sizes.Settings) (ms : List ℕ) → length ms ≡ lastView (g .size) → blamesGood g (0 ∷ ms) ≡ all (isMask g) ms
 unfolding blamesGood
-masks-are g ms e = rw e
+masks-are g ms e = rw (eq-eqb _ _ e)
 
-pub blames-are : (g : sizes.Settings) (b : List ℕ) → blamesGood g (blames b) ≡ all (isMask g) (rows (blameAt b) 0 lastView)
-unfolding blames
-blames-are g b = masks-are g (rows (blameAt b) 0 lastView) (rows-length (blameAt b) 0 lastView)
+pub blames-are : (g : sizes.Settings) (b : List ℕ) → g .size ≡ sizeIn b → blamesGood g (blames b) ≡ all (isMask g) (rows (blameAt b) 0 (lastView (sizeIn b)))
+unfolding blamesFor
+blames-are g b e =
+    let last = lastView (sizeIn b) in
+    masks-are g (rows (blameAt b) 0 last) (rows-length (blameAt b) 0 last ∙ ap lastView (sym e))
 
 -- ---- the log
 

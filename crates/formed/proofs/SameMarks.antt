@@ -10,14 +10,16 @@ use lib.ListN.{length, set}
 use lib.Seq.{getD-set-same, getD-set-other}
 use lib.Dec.{eqb}
 use borrow.Author.Tests.{eqb-true, eq-eqb}
+use Rattle.rules.specs.Limits.{small}
 use Rattle.rules.specs.Lists.{iff, any}
 use Rattle.rules.specs.Words.{Statement, sameStatement, Tally, sameBlock}
+use Rattle.rules.specs.WellFormed.{sameTally}
 use Rattle.rules.proofs.Tests.{and-left, and-right}
 use Rattle.fields.specs.Places.{Bytes, number}
 use Rattle.fields.proofs.Laws.{number-lt, number-split}
 use Rattle.fields.proofs.Differ.{digit-low}
-use Rattle.store.specs.Layout.{statementTable, tallyTable}
-use Rattle.store.specs.Decode.{rows, nth, statementAt, tallyAt}
+use Rattle.store.specs.Layout.{sizeIn, statementTable, tallyTable}
+use Rattle.store.specs.Decode.{rows, nth, statementAt, tallyAt, tallyFor}
 use Rattle.formed.specs.Lent.{Marked}
 use Rattle.formed.proofs.Walks.{any-fewer}
 
@@ -44,8 +46,8 @@ same-mark b bytes at to e =
     (sym (number-split b (at + 8) 28 4) ∙ e ∙ number-split b (to + 8) 28 4))
 
 -- what is the same has the same name
-tally-name : (t u : Tally) → sameBlock t u ≡ true → t .name ≡ u .name
-unfolding sameBlock
+tally-name : (t u : Tally) → sameTally t u ≡ true → t .name ≡ u .name
+unfolding sameTally sameBlock
 tally-name t u e = eqb-true _ _ (and-right (eqb (t .view) (u .view) && eqb (t .height) (u .height)) _ e)
 
 statement-name : (x y : Statement) → sameStatement x y ≡ true → x .name ≡ y .name
@@ -64,14 +66,14 @@ module _ (b : List ℕ) (bytes : Bytes b) (base size n : ℕ) (marks : List ℕ)
       any-fewer f p (nth marks) (eqb (nth marks i)) (i + 1) (n - (i + 1))
       (λ k a c e. eq-eqb _ _ (m i h ∙ same-mark b bytes (base + size * i) (base + size * k) (named k e) ∙ sym (m k (omega arith))))
 
-pub tally-not-met : (b : List ℕ) → Bytes b → (n : ℕ) (marks : List ℕ) → Marked b (tallyTable .base) (tallyTable .size) n marks → (i : ℕ) → i < n
+pub tally-not-met : (b : List ℕ) → Bytes b → (n : ℕ) (marks : List ℕ) → Marked b (tallyTable .base (sizeIn b)) (tallyTable .size) n marks → (i : ℕ) → i < n
     → any (eqb (nth marks i)) (rows (nth marks) (i + 1) (n - (i + 1))) ≡ false
-    → any (sameBlock (tallyAt b i)) (rows (tallyAt b) (i + 1) (n - (i + 1))) ≡ false
-unfolding tallyAt
+    → any (sameTally (tallyAt b i)) (rows (tallyAt b) (i + 1) (n - (i + 1))) ≡ false
+unfolding tallyFor
 tally-not-met b bytes n marks m i h =
-    not-met b bytes _ _ n marks m i h (tallyAt b) (sameBlock (tallyAt b i)) (λ k e. tally-name (tallyAt b i) (tallyAt b k) e)
+    not-met b bytes _ _ n marks m i h (tallyAt b) (sameTally (tallyAt b i)) (λ k e. tally-name (tallyAt b i) (tallyAt b k) e)
 
-pub statement-not-met : (b : List ℕ) → Bytes b → (n : ℕ) (marks : List ℕ) → Marked b (statementTable .base) (statementTable .size) n marks → (i : ℕ) → i < n
+pub statement-not-met : (b : List ℕ) → Bytes b → (n : ℕ) (marks : List ℕ) → Marked b (statementTable .base small) (statementTable .size) n marks → (i : ℕ) → i < n
     → any (eqb (nth marks i)) (rows (nth marks) (i + 1) (n - (i + 1))) ≡ false
     → any (sameStatement (statementAt b i)) (rows (statementAt b) (i + 1) (n - (i + 1))) ≡ false
 unfolding statementAt

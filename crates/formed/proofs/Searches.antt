@@ -1,7 +1,7 @@
 -- The place that a search answers: of a part of the rows, and of all of them by a later and an earlier part. Each once, for every
 -- test and table. Assumes nothing.
 use Prim.Native.Nat.{ℕ, _+_, _-_, _<_, _≤_}
-use mathlib.Core.Path.{_≡_, refl, sym, ap, _∙_}
+use mathlib.Core.Path.{_≡_, refl, sym, ap, _∙_, subst}
 use mathlib.Core.Bool.{Bool, true, false, _||_, or-true, or-false}
 use mathlib.Core.List.{List, [], _∷_, _++_}
 use native.Mathlib.Omega.{arith}
@@ -10,7 +10,11 @@ use borrow.Author.Tests.{lt-ltb, le-ltb}
 use Rattle.rules.specs.Lists.{any}
 use Rattle.rules.proofs.Tests.{by-bool}
 use Rattle.store.specs.Decode.{rows}
+use Rattle.store.specs.Changes.{firstFrom}
+use Rattle.store.specs.declared.Found.{Found}
+use Rattle.store.specs.declared.Found.the-variants.{At, Nothing}
 use Rattle.store.proofs.Rows.{rows-append}
+use Rattle.store.proofs.Searches.{Tells, tells}
 use Rattle.formed.specs.Lent.{Place}
 
 module _ (n r : ℕ) (test : Bool) where
@@ -25,6 +29,17 @@ module _ (n r : ℕ) (test : Bool) where
 
 pub place-end : (n : ℕ) (test : Bool) → test ≡ false → Place n test n
 place-end n test e = record { within = omega arith; is = le-ltb n n (omega arith) ∙ sym e }
+
+-- a place that was found from one place up to another
+module _ {A : Type 0} (p : A → Bool) (f : ℕ → A) (i n : ℕ) (r : Found) (e : r ≡ firstFrom p i (rows f i (n - i))) where
+  told : Tells p f i (n - i) r
+  told = subst (Tells p f i (n - i)) (sym e) (tells p f i (n - i))
+
+  pub place-at : (j : ℕ) → r ≡ At j → Place n (any p (rows f i (n - i))) j
+  place-at j q = let t = subst (Tells p f i (n - i)) q told in place-here n j _ (omega (arith, t .0, t .1)) (t .3)
+
+  pub place-nowhere : r ≡ Nothing → Place n (any p (rows f i (n - i))) n
+  place-nowhere q = place-end n _ (subst (Tells p f i (n - i)) q told .0)
 
 module _ {A : Type 0} (p : A → Bool) where
   any-both : (xs ys : List A) → any p (xs ++ ys) ≡ (any p xs || any p ys)

@@ -70,7 +70,7 @@ module _ {A : Type 0} (f : ℕ → A) (n : ℕ) where
       unfolding distinct
       distinct-next t = ap (distinct same) (rows-from f i n h) ∙ rw t
 
-pub any-alike : {A : Type 0} (same : A → A → Bool) {x y : A} (xs : List A) → x ≡ y → any (same x) xs ≡ any (same y) xs
+pub any-alike : {A B : Type 0} (same : A → B → Bool) {x y : A} (xs : List B) → x ≡ y → any (same x) xs ≡ any (same y) xs
 any-alike same xs e = rw e
 
 -- where one test holds so does another, so where none of the other's rows match none of its own do

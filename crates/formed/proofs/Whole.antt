@@ -7,18 +7,18 @@ use mathlib.Core.Option.{none, some}
 use native.Mathlib.Omega.{arith}
 use lib.ListN.{length}
 use borrow.Author.Tests.{le-leb, not-true, not-false}
-use Rattle.rules.specs.Limits.{mostStatements, mostTallies}
+use Rattle.rules.specs.Limits.{Size, mostStatements, mostTallies}
 use Rattle.rules.specs.Lists.{all, distinct}
 use Rattle.rules.specs.Sizes.{goodSettings}
 use Rattle.rules.specs.Messages.{viewAllowed}
-use Rattle.rules.specs.Words.{Statement, sameStatement, Tally, sameBlock}
-use Rattle.rules.specs.WellFormed.{clocksInOrder, lockGood, statementGood, tallyGood, talliesThere, blamesGood, linked, wellFormed}
+use Rattle.rules.specs.Words.{Statement, sameStatement, Tally}
+use Rattle.rules.specs.WellFormed.{clocksInOrder, lockGood, statementGood, tallyGood, sameTally, talliesThere, blamesGood, linked, wellFormed}
 use Rattle.rules.proofs.Tests.{and-left, and-right}
 use Rattle.fields.specs.Records.{fields}
-use Rattle.settings.specs.Made.{settingsOf}
-use Rattle.store.specs.Layout.{headerFormat, storeLength, statementTable, countOf}
+use Rattle.settings.specs.Made.{sizeFrom, settingsOf}
+use Rattle.store.specs.Layout.{sizeIn, headerFormat, storeLength, statementTable, countOf}
 use Rattle.store.specs.Decode.{statementAt, tallyAt, statements, tallies, blames, names, stateFrom, stateOf, hasForm, decode}
-use Rattle.store.specs.Meaning.{headerOf}
+use Rattle.store.specs.Meaning.{Loads, headerOf}
 use Rattle.store.specs.declared.Station.{Station}
 use Rattle.store.proofs.Rows.{rows-length, rows-all}
 use Rattle.formed.specs.Lent.{Lent, Counts, Ready, AllCertify, alone, tablesGood}
@@ -26,18 +26,19 @@ use Rattle.formed.proofs.Forms.{form-tables, counts-statements, counts-
 use Rattle.formed.proofs.Parts.{good-certifies}
 
 abbrev pub headerGood : Station → Bool
-headerGood s = goodSettings (alone s .settings) && viewAllowed (alone s .view) && clocksInOrder (alone s) && lockGood (alone s)
+headerGood s = goodSettings (alone s .settings) && viewAllowed (alone s .settings) (alone s .view) && clocksInOrder (alone s) && lockGood (alone s)
 
 -- a header looks at no table, a table at no more of the header than settings and clock
-parts-are : (s : Station) (xs : List Statement) (ts : List Tally) (ms l : List ℕ) → length xs ≤ mostStatements → length ts ≤ mostTallies
-    → (headerGood s && all (statementGood (alone s)) xs && distinct sameStatement xs && all (tallyGood (settingsOf (s .settings))) ts && distinct sameBlock ts
+parts-are : (s : Station) (xs : List Statement) (ts : List Tally) (ms l : List ℕ) → length xs ≤ mostStatements (sizeFrom (s .settings .size))
+    → length ts ≤ mostTallies (sizeFrom (s .settings .size))
+    → (headerGood s && all (statementGood (alone s)) xs && distinct sameStatement xs && all (tallyGood (settingsOf (s .settings))) ts && distinct sameTally ts
     && all (talliesThere ts) xs && blamesGood (settingsOf (s .settings)) ms && linked xs 0 0 l)
-    ≡ wellFormed (stateFrom (headerOf s) xs ts ms l)
+    ≡ wellFormed (stateFrom (sizeFrom (s .settings .size)) (headerOf s) xs ts ms l)
 unfolding wellFormed clocksInOrder lockGood statementGood stateFrom headerOf
 parts-are s xs ts ms l p q = simp (le-leb _ _ p, le-leb _ _ q, and-true)
 
 -- the state of the bytes, by its header and tables
-state-is : (b : List ℕ) → stateOf b ≡ stateFrom (fields b 0 headerFormat) (statements b) (tallies b) (blames b) (names b)
+state-is : (b : List ℕ) → stateOf b ≡ stateFrom (sizeIn b) (fields b 0 headerFormat) (statements b) (tallies b) (blames b) (names b)
 unfolding stateOf
 state-is b = refl
 
@@ -50,7 +51,7 @@ pub formless : (b : List ℕ) (r : Bool) → r ≡ hasForm b → not r ≡ true 
 formless b r e n = rw (sym e ∙ not-true r n)
 
 -- a store of the exact length, its station, and that it has the form, as the code tests it
-module _ (b : List ℕ) (s : Station) (long : length b ≡ storeLength) (holds : headerOf s ≡ fields b 0 headerFormat) (answer : Bool) (is : answer ≡ hasForm b) (held : not answer ≡ false) where
+module _ (b : List ℕ) (s : Station) (long : length b ≡ storeLength (sizeIn b)) (holds : Loads s b) (answer : Bool) (is : answer ≡ hasForm b) (held : not answer ≡ false) where
   lent : Lent b s
   lent = record { long = long; holds = holds }
 
@@ -60,15 +61,15 @@ module _ (b : List ℕ) (s : Station) (long : length b ≡ storeLength) (holds :
   pub counted : Counts statementTable b (s .statements)
   counted = counts-statements b s lent (form-tables b s lent form)
 
-  few-statements : length (statements b) ≤ mostStatements
+  few-statements : length (statements b) ≤ mostStatements (sizeFrom (s .settings .size))
   unfolding statements
-  few-statements = rw (rows-length (statementAt b) 0, ← counted .is) (counted .room)
+  few-statements = rw (rows-length (statementAt b) 0, ← counted .is, holds .size) (counted .room)
 
-  few-tallies : length (tallies b) ≤ mostTallies
+  few-tallies : length (tallies b) ≤ mostTallies (sizeFrom (s .settings .size))
   unfolding tallies
   few-tallies =
       let k = counts-tallies b s lent (form-tables b s lent form) in
-      rw (rows-length (tallyAt b) 0, ← k .is) (k .room)
+      rw (rows-length (tallyAt b) 0, ← k .is, holds .size) (k .room)
 
   abbrev good : Bool
   good = all (statementGood (alone s)) (statements b)
@@ -87,9 +88,10 @@ module _ (b : List ℕ) (s : Station) (long : length b ≡ storeLength) (holds :
       let xs = statements b in
       let ts = tallies b in
       let whole = wellFormed (stateOf b) in
-      grouped (headerGood s && good && apart) (all (tallyGood g) ts) (distinct sameBlock ts) (all (talliesThere ts) xs) (blamesGood g (blames b)) (linked xs 0 0 (names b))
+      grouped (headerGood s && good && apart) (all (tallyGood g) ts) (distinct sameTally ts) (all (talliesThere ts) xs) (blamesGood g (blames b)) (linked xs 0 0 (names b))
       ∙ parts-are s xs ts (blames b) (names b) few-statements few-tallies
-      ∙ ap (λ (vs : List ℕ). wellFormed (stateFrom vs xs ts (blames b) (names b))) holds
+      ∙ ap (λ (z : Size). wellFormed (stateFrom z (headerOf s) xs ts (blames b) (names b))) (holds .size)
+      ∙ ap (λ (vs : List ℕ). wellFormed (stateFrom (sizeIn b) vs xs ts (blames b) (names b))) (holds .header)
       ∙ ap wellFormed (sym (state-is b))
       ∙ ap (_&& whole) (sym form)
 
@@ -107,6 +109,7 @@ module _ (b : List ℕ) (s : Station) (long : length b ≡ storeLength) (holds :
     ready e =
         let k = form-tables b s lent form in
         record {
+          size = holds .size;
           statements = counted;
           tallies = counts-tallies b s lent k;
           log = counts-log b s lent k;

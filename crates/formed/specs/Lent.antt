@@ -9,28 +9,29 @@ use lib.Dec.{leb, ltb, eqb}
 use Rattle.rules.specs.Lists.{all, distinct, within}
 use Rattle.rules.specs.Sizes.{Settings}
 use Rattle.rules.specs.Words as words
-use Rattle.rules.specs.Words.{sameBlock}
-use Rattle.rules.specs.WellFormed.{tallyGood, talliesThere, blamesGood, linked}
+use Rattle.rules.specs.WellFormed.{tallyGood, sameTally, talliesThere, blamesGood, linked}
 use Rattle.rules.specs.Inputs.{isBlock}
 use Rattle.fields.specs.Places.{number}
 use Rattle.fields.specs.Records.{fields}
 use Rattle.wire.specs.Meaning.{statementOf}
 use Rattle.wire.specs.declared.Statement.{Statement}
-use Rattle.store.specs.Layout.{headerFormat, storeLength, Table, statementTable, tallyTable, logTable, countOf}
+use Rattle.words.specs.Meaning.{Certifies}
+use Rattle.settings.specs.Made.{sizeFrom}
+use Rattle.store.specs.Layout.{sizeIn, headerFormat, storeLength, Table, statementTable, tallyTable, logTable, countOf}
 use Rattle.store.specs.Decode.{nth, statementAt, statements, tallies, blames, names, stateFrom}
-use Rattle.store.specs.Meaning.{headerOf}
+use Rattle.store.specs.Meaning.{headerOf, Loads}
 use Rattle.store.specs.declared.Station.{Station}
 
 -- any bytes of the exact length
 pub record Lent (b : List ℕ) (s : Station) : Type 0 where
-  pub long : length b ≡ storeLength
-  pub holds : headerOf s ≡ fields b 0 headerFormat
+  pub long : length b ≡ storeLength (sizeIn b)
+  pub holds : Loads s b
 
 -- a table's count, in range
 pub record Counts (t : Table) (b : List ℕ) (count : ℕ) : Type 0 where
-  pub long : length b ≡ storeLength
+  pub long : length b ≡ storeLength (sizeIn b)
   pub is : count ≡ countOf t b
-  pub room : count ≤ t .room
+  pub room : count ≤ t .room (sizeIn b)
 
 -- the count of a table's records is in range, and the unused ones are zero
 unfoldable pub fits : List ℕ → ℕ → ℕ → ℕ → ℕ → Bool
@@ -51,7 +52,7 @@ bare x = statementOf x none
 
 -- a station without its tables
 abbrev pub alone : Station → words.State
-alone s = stateFrom (headerOf s) [] [] [] []
+alone s = stateFrom (sizeFrom (s .settings .size)) (headerOf s) [] [] [] []
 
 -- a quit, if waiting, is from the entry to the clock
 unfoldable pub phaseInOrder : ℕ → ℕ → words.Phase → Bool
@@ -67,17 +68,13 @@ unfoldable pub isLink : ℕ → ℕ → ℕ → words.Statement → Bool
 unfolding isBlock
 isLink height name parent x = isBlock height name x && eqb parent (x .link)
 
--- a statement's certificate is a tally: its view is a number of four bytes, its height is not below 0
-pub record Certifies (x : words.Statement) : Type 0 where
-  pub view : x .isNewView ≡ true → x .link < 256 ^ 4
-  pub height : x .isNewView ≡ false → 1 ≤ x .height
-
 -- each of the first n statements
 abbrev pub AllCertify : List ℕ → ℕ → Type 0
 AllCertify b n = (i : ℕ) → i < n → Certifies (statementAt b i)
 
--- every table's count in range, and statements that certify
+-- the limits of the store, every table's count in range, and statements that certify
 pub record Ready (b : List ℕ) (s : Station) : Type 0 where
+  pub size : sizeFrom (s .settings .size) ≡ sizeIn b
   pub statements : Counts statementTable b (s .statements)
   pub tallies : Counts tallyTable b (s .tallies)
   pub log : Counts logTable b (s .logged)
@@ -86,5 +83,5 @@ pub record Ready (b : List ℕ) (s : Station) : Type 0 where
 -- the parts of the definition after the statements
 unfoldable pub tablesGood : Settings → List ℕ → Bool
 tablesGood g b =
-    all (tallyGood g) (tallies b) && distinct sameBlock (tallies b) && all (talliesThere (tallies b)) (statements b)
+    all (tallyGood g) (tallies b) && distinct sameTally (tallies b) && all (talliesThere (tallies b)) (statements b)
     && blamesGood g (blames b) && linked (statements b) 0 0 (names b)

@@ -6,14 +6,11 @@ ghost use Rattle.rules.specs.Lists.{all, within};
 ghost use Rattle.store.specs.Layout.{statementTable};
 ghost use Rattle.store.specs.Decode.{kinds, hasForm};
 ghost use Rattle.formed.specs.Lent.{Lent, Counts, fits};
-use super::LOG;
-use super::NAME_SIZE;
-use super::STATEMENT_SIZE;
-use super::STATEMENTS;
-use super::TALLIES;
-use super::TALLY_SIZE;
-use settings::Settings;
+use store::NAME_SIZE;
+use store::STATEMENT_SIZE;
+use store::STATEMENTS;
 use store::Station;
+use store::TALLY_SIZE;
 
 // Whether a table's count is in range and its unused records are zero.
 fn table_fits(store: &[u8], base: usize, size: usize, room: usize, count: usize) -> bool
@@ -48,27 +45,18 @@ pub fn has_form(store: &[u8], station: Station) -> bool
     requires { ⌜ Lent (now store) station ⌝ }
     ensures { λ r. ⌜ r ≡ hasForm (now (store .entry)) ⌝ }
 {
-    let statements = table_fits(
-        store,
-        STATEMENTS,
-        STATEMENT_SIZE,
-        Settings::MOST_STATEMENTS,
-        station.statements,
-    );
+    let settings = station.settings;
+    let size = settings.size;
+    let most = size.most_statements();
+    let statements = table_fits(store, STATEMENTS, STATEMENT_SIZE, most, station.statements);
     let tallies = table_fits(
         store,
-        TALLIES,
+        store::tallies_in(store),
         TALLY_SIZE,
-        Settings::MOST_TALLIES,
+        size.most_tallies(),
         station.tallies,
     );
-    let log = table_fits(
-        store,
-        LOG,
-        NAME_SIZE,
-        Settings::MOST_STATEMENTS,
-        station.logged,
-    );
+    let log = table_fits(store, store::log_in(store), NAME_SIZE, most, station.logged);
     let tables = statements & tallies & log;
     if !tables {
         return false;

@@ -17,7 +17,8 @@ use store::Station;
 fn settings_good(settings: Settings) -> bool
     ensures { λ r. ⌜ r ≡ goodSettings (settingsOf settings) ⌝ }
 {
-    let made = Settings::new(settings.n, settings.delay, settings.own);
+    let size = settings.size;
+    let made = Settings::new(settings.n, settings.delay, settings.own, size);
     match made {
         Made::Good(_) => true,
         Made::Bad => false,
@@ -63,11 +64,11 @@ fn lock_good(station: Station) -> bool
 
 // Whether the header is well formed.
 pub fn header_good(station: Station) -> bool
-    ensures { λ r. ⌜ r ≡ (goodSettings (alone station .settings) && viewAllowed (alone station .view) && clocksInOrder (alone station) && lockGood (alone station)) ⌝ }
+    ensures { λ r. ⌜ r ≡ (goodSettings (alone station .settings) && viewAllowed (alone station .settings) (alone station .view) && clocksInOrder (alone station) && lockGood (alone station)) ⌝ }
 {
     let settings = station.settings;
     settings_good(settings)
-        & clauses::view_allowed(station.view as u64)
+        & clauses::view_allowed(settings, station.view as u64)
         & clocks_in_order(station)
         & lock_good(station)
 }

@@ -5,7 +5,7 @@ ghost use mathlib.Core.Bool.{_&&_};
 ghost use lib.ListN.{length};
 ghost use Rattle.rules.specs.WellFormed.{wellFormed};
 ghost use Rattle.settings.specs.Made.{settingsOf};
-ghost use Rattle.store.specs.Layout.{storeLength};
+ghost use Rattle.store.specs.Layout.{sizeIn, storeLength};
 ghost use Rattle.store.specs.Decode.{stateOf, hasForm};
 ghost use Rattle.formed.specs.Lent.{Ready, tablesGood};
 use store::Station;
@@ -17,19 +17,6 @@ mod log;
 mod marks;
 mod statements;
 mod tallies;
-
-// Where each table begins, and the size of its records.
-const STATEMENTS: usize = 68;
-
-const STATEMENT_SIZE: usize = 80;
-
-const TALLIES: usize = 10_308;
-
-const TALLY_SIZE: usize = 42;
-
-const LOG: usize = 21_124;
-
-const NAME_SIZE: usize = 32;
 
 // Whether tallies, blame masks and log are well formed, where the statements are.
 fn tables_good(store: &[u8], station: Station) -> bool
@@ -46,7 +33,7 @@ fn tables_good(store: &[u8], station: Station) -> bool
 
 // Whether a store of the exact length is well formed.
 pub fn well_formed(store: &[u8]) -> bool
-    requires { ⌜ length (now store) ≡ storeLength ⌝ }
+    requires { ⌜ length (now store) ≡ storeLength (sizeIn (now store)) ⌝ }
     ensures { λ r. ⌜ r ≡ (hasForm (now (store .entry)) && wellFormed (stateOf (now (store .entry)))) ⌝ }
 {
     let station = Station::load(store);

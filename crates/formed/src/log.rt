@@ -6,14 +6,14 @@ ghost use Rattle.rules.specs.Limits.{mostStatements};
 ghost use Rattle.rules.specs.Lists.{any};
 ghost use Rattle.rules.specs.WellFormed.{linked};
 ghost use Rattle.fields.specs.Names.{nameOf};
-ghost use Rattle.store.specs.Layout.{storeLength, statementTable, logTable};
+ghost use Rattle.store.specs.Layout.{sizeIn, storeLength, statementTable, logTable};
 ghost use Rattle.store.specs.Decode.{rows, statementAt, statements, names};
 ghost use Rattle.formed.specs.Lent.{Counts, Place, isLink};
 use fields::Name;
 
 // Whether statement i is the propose of this height, name and parent.
 fn links(store: &[u8], i: usize, height: u32, name: Name, parent: Name) -> bool
-    requires { ⌜ (length (now store) ≡ storeLength) × (i < mostStatements) ⌝ }
+    requires { ⌜ (length (now store) ≡ storeLength (sizeIn (now store))) × (i < mostStatements (sizeIn (now store))) ⌝ }
     ensures { λ r. ⌜ r ≡ isLink height (nameOf name) (nameOf parent) (statementAt (now (store .entry)) i) ⌝ }
 {
     if height != store::height_at(store, i) {
@@ -25,7 +25,7 @@ fn links(store: &[u8], i: usize, height: u32, name: Name, parent: Name) -> bool
 
 // The place of a propose of this height, name and parent, from one place up to another; that other, if there is none.
 fn seek(store: &[u8], from: usize, end: usize, height: u32, name: Name, parent: Name) -> usize
-    requires { ⌜ (length (now store) ≡ storeLength) × (end ≤ mostStatements) ⌝ }
+    requires { ⌜ (length (now store) ≡ storeLength (sizeIn (now store))) × (end ≤ mostStatements (sizeIn (now store))) ⌝ }
     ensures { λ r. ⌜ Place end (any (isLink height (nameOf name) (nameOf parent)) (rows (statementAt (now (store .entry))) from (end - from))) r ⌝ }
 {
     let mut i = from;

@@ -2,16 +2,17 @@
 ghost use mathlib.Core.Path.{_≡_};
 ghost use Prim.Native.Nat.{_+_, _-_, _<_};
 ghost use lib.ListN.{length};
-ghost use Rattle.rules.specs.Limits.{mostStatements};
+ghost use Rattle.rules.specs.Limits.{small, mostStatements};
 ghost use Rattle.rules.specs.Lists.{all, any, distinct};
 ghost use Rattle.rules.specs.Words.{sameStatement};
 ghost use Rattle.rules.specs.WellFormed.{statementGood};
-ghost use Rattle.store.specs.Layout.{storeLength, statementTable};
+ghost use Rattle.store.specs.Layout.{sizeIn, storeLength, statementTable};
 ghost use Rattle.store.specs.Decode.{rows, voteOf, statementAt, statements};
 ghost use Rattle.formed.specs.Lent.{Counts, Marked, alone, bare, voteInOrder};
-use super::STATEMENT_SIZE;
-use super::STATEMENTS;
 use super::marks;
+use settings::Settings;
+use store::STATEMENT_SIZE;
+use store::STATEMENTS;
 use store::Station;
 use wire::Statement;
 
@@ -27,7 +28,7 @@ fn vote_in_order(vote: u32, clock: u32) -> bool
 
 // Whether statement i is allowed, and was voted for, if ever, not after the clock.
 fn statement_good(store: &[u8], station: Station, i: usize) -> bool
-    requires { ⌜ (length (now store) ≡ storeLength) × (i < mostStatements) ⌝ }
+    requires { ⌜ (length (now store) ≡ storeLength (sizeIn (now store))) × (i < mostStatements (sizeIn (now store))) ⌝ }
     ensures { λ r. ⌜ r ≡ statementGood (alone station) (statementAt (now (store .entry)) i) ⌝ }
 {
     let settings = station.settings;
@@ -67,8 +68,13 @@ fn has_statement(store: &[u8], from: usize, count: usize, statement: Statement) 
 }
 
 // Whether a later statement is the same as statement i: looked for only where its mark is met again.
-fn repeated(store: &[u8], marks: &[u32; 256], i: usize, count: usize) -> bool
-    requires { ⌜ Counts statementTable (now store) count × Marked (now store) (statementTable .base) (statementTable .size) count (now marks) × (i < count) ⌝ }
+fn repeated(
+    store: &[u8],
+    marks: &[u32; Settings::MOST_TALLIES_LARGE],
+    i: usize,
+    count: usize,
+) -> bool
+    requires { ⌜ Counts statementTable (now store) count × Marked (now store) (statementTable .base small) (statementTable .size) count (now marks) × (i < count) ⌝ }
     ensures { λ r. ⌜ r ≡ any (sameStatement (statementAt (now (store .entry)) i)) (rows (statementAt (now (store .entry))) (i + 1) (count - (i + 1))) ⌝ }
 {
     if !marks::again(marks, i, count) {

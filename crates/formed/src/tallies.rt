@@ -4,20 +4,22 @@ ghost use Prim.Native.Nat.{_+_, _-_, _≤_, _<_};
 ghost use lib.ListN.{length};
 ghost use Rattle.rules.specs.Limits.{mostTallies};
 ghost use Rattle.rules.specs.Lists.{all, any, distinct};
-ghost use Rattle.rules.specs.Words.{sameBlock, certificate};
-ghost use Rattle.rules.specs.WellFormed.{tallyGood, talliesThere};
+ghost use Rattle.rules.specs.Words.{ofBlock};
+ghost use Rattle.rules.specs.WellFormed.{tallyGood, sameTally, talliesThere};
 ghost use Rattle.settings.specs.Made.{settingsOf};
-ghost use Rattle.store.specs.Layout.{storeLength, statementTable, tallyTable};
-ghost use Rattle.store.specs.Decode.{rows, tallyAt, statements, tallies};
+ghost use Rattle.words.specs.Meaning.{blockOf, Certifies};
 ghost use Rattle.store.specs.Meaning.{tallyOf};
-ghost use Rattle.formed.specs.Lent.{Counts, Marked, Place, bare, Certifies, AllCertify};
-use super::TALLIES;
-use super::TALLY_SIZE;
+ghost use Rattle.store.specs.Layout.{sizeIn, storeLength, statementTable, tallyTable};
+ghost use Rattle.store.specs.Decode.{rows, tallyAt, statements, tallies};
+ghost use Rattle.formed.specs.Lent.{Counts, Marked, Place, bare, AllCertify};
 use super::marks;
 use allowed::clauses;
 use settings::Settings;
+use store::Found;
+use store::TALLY_SIZE;
 use store::Tally;
 use wire::Statement;
+use words::Certificate;
 
 // Whether a tally is of a view and a block that are allowed, with a mask of these stations.
 fn tally_good(settings: Settings, tally: Tally) -> bool
@@ -25,7 +27,9 @@ fn tally_good(settings: Settings, tally: Tally) -> bool
 {
     let name = tally.name;
     let block = clauses::block_allowed(tally.height as u64, name);
-    clauses::view_allowed(tally.view as u64) & block & clauses::mask_within(settings, tally.mask)
+    clauses::view_allowed(settings, tally.view as u64)
+        & block
+        & clauses::mask_within(settings, tally.mask)
 }
 
 // Whether every tally is good.
@@ -45,26 +49,20 @@ pub fn all_good(store: &[u8], settings: Settings, count: usize) -> bool
 }
 
 // The place of a tally of this block, from one place up to another; that other, if there is none.
-fn seek(store: &[u8], from: usize, end: usize, block: Tally) -> usize
-    requires { ⌜ (length (now store) ≡ storeLength) × (end ≤ mostTallies) ⌝ }
-    ensures { λ r. ⌜ Place end (any (sameBlock (tallyOf block)) (rows (tallyAt (now (store .entry))) from (end - from))) r ⌝ }
+fn seek(store: &[u8], from: usize, end: usize, block: Certificate) -> usize
+    requires { ⌜ (length (now store) ≡ storeLength (sizeIn (now store))) × (end ≤ mostTallies (sizeIn (now store))) ⌝ }
+    ensures { λ r. ⌜ Place end (any (ofBlock (blockOf block)) (rows (tallyAt (now (store .entry))) from (end - from))) r ⌝ }
 {
-    let mut i = from;
-    loop {
-        if end <= i {
-            break end;
-        }
-        if store::is_tally(store, i, block) {
-            break i;
-        }
-        i += 1;
+    match store::seek_tally(store, from, end, block) {
+        Found::At(i) => i,
+        Found::Nothing => end,
     }
 }
 
 // The place of a tally of this block, looked for from a place on and then before it; the count, if there is none.
-fn find(store: &[u8], begin: usize, count: usize, block: Tally) -> usize
+fn find(store: &[u8], begin: usize, count: usize, block: Certificate) -> usize
     requires { ⌜ Counts tallyTable (now store) count × (begin ≤ count) ⌝ }
-    ensures { λ r. ⌜ Place count (any (sameBlock (tallyOf block)) (tallies (now (store .entry)))) r ⌝ }
+    ensures { λ r. ⌜ Place count (any (ofBlock (blockOf block)) (tallies (now (store .entry)))) r ⌝ }
 {
     let later = seek(store, begin, count, block);
     if later < count {
@@ -78,23 +76,28 @@ fn find(store: &[u8], begin: usize, count: usize, block: Tally) -> usize
 }
 
 // Whether a later tally is of the block of tally i: looked for only where its mark is met again.
-fn repeated(store: &[u8], marks: &[u32; 256], i: usize, count: usize) -> bool
-    requires { ⌜ Counts tallyTable (now store) count × Marked (now store) (tallyTable .base) (tallyTable .size) count (now marks) × (i < count) ⌝ }
-    ensures { λ r. ⌜ r ≡ any (sameBlock (tallyAt (now (store .entry)) i)) (rows (tallyAt (now (store .entry))) (i + 1) (count - (i + 1))) ⌝ }
+fn repeated(
+    store: &[u8],
+    marks: &[u32; Settings::MOST_TALLIES_LARGE],
+    i: usize,
+    count: usize,
+) -> bool
+    requires { ⌜ Counts tallyTable (now store) count × Marked (now store) (tallyTable .base (sizeIn (now store))) (tallyTable .size) count (now marks) × (i < count) ⌝ }
+    ensures { λ r. ⌜ r ≡ any (sameTally (tallyAt (now (store .entry)) i)) (rows (tallyAt (now (store .entry))) (i + 1) (count - (i + 1))) ⌝ }
 {
     if !marks::again(marks, i, count) {
         return false;
     }
     let tally = store::tally_at(store, i);
-    seek(store, i + 1, count, tally) < count
+    seek(store, i + 1, count, tally.certificate()) < count
 }
 
 // Whether no two tallies are of one block.
 pub fn distinct(store: &[u8], count: usize) -> bool
     requires { ⌜ Counts tallyTable (now store) count ⌝ }
-    ensures { λ r. ⌜ r ≡ distinct sameBlock (tallies (now (store .entry))) ⌝ }
+    ensures { λ r. ⌜ r ≡ distinct sameTally (tallies (now (store .entry))) ⌝ }
 {
-    let marks = marks::marks_of(store, TALLIES, TALLY_SIZE, count);
+    let marks = marks::marks_of(store, store::tallies_in(store), TALLY_SIZE, count);
     let mut i: usize = 0;
     while i < count {
         if repeated(store, &marks, i, count) {
@@ -105,46 +108,16 @@ pub fn distinct(store: &[u8], count: usize) -> bool
     true
 }
 
-// The block that a statement's mask certifies, with that mask.
-fn certificate(statement: Statement) -> Tally
-    requires { ⌜ Certifies (bare statement) ⌝ }
-    ensures { λ r. ⌜ tallyOf r ≡ certificate (bare statement) ⌝ }
-{
-    let name = statement.name;
-    let link = statement.link;
-    if statement.is_new_view {
-        return Tally {
-            view: link.fourth as u32,
-            height: statement.height,
-            name,
-            mask: statement.mask,
-        };
-    }
-    Tally {
-        view: statement.view,
-        height: statement.height - 1,
-        name: link,
-        mask: statement.mask,
-    }
-}
-
 // The place of the tally of a statement's own block; the count, if that or its certified block has none.
 fn there(store: &[u8], begin: usize, count: usize, statement: Statement) -> usize
     requires { ⌜ Counts tallyTable (now store) count × (begin ≤ count) × Certifies (bare statement) ⌝ }
     ensures { λ r. ⌜ Place count (talliesThere (tallies (now (store .entry))) (bare statement)) r ⌝ }
 {
-    let name = statement.name;
-    let block = Tally {
-        view: statement.view,
-        height: statement.height,
-        name,
-        mask: 0,
-    };
-    let own = find(store, begin, count, block);
+    let own = find(store, begin, count, words::own_block(statement, 0));
     if count <= own {
         return count;
     }
-    let certified = certificate(statement);
+    let certified = words::certificate_of(statement);
     if certified.view == 0 {
         return own;
     }

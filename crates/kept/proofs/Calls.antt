@@ -5,17 +5,18 @@ use native.Mathlib.Omega.{arith}
 use mathlib.Core.Bool.{true}
 use mathlib.Core.List.{List, List·Memᴰ as Mem}
 use mathlib.Core.Option.{some}
-use lib.Dec.{leb, eqb}
+use lib.Dec.{leb}
 use lib.ListN.{length}
 use borrow.Author.Tests.{eqb-false, leb-true}
 use Rattle.rules.specs.Limits.{mostStatements, mostTallies, lastClock, lastHeight}
 use Rattle.rules.specs.Sizes.{Settings}
-use Rattle.rules.specs.Messages.{Message, read, write, allowed, toAll, toOne, committed}
+use Rattle.rules.specs.Messages.{Message, read, write, toAll, toOne, committed}
 use Rattle.rules.specs.Words.{Cause, full, split, clock, State}
-use Rattle.rules.specs.Inputs.{Work, withPhase, handled, offered, ticked}
-use Rattle.rules.specs.Refusals.{Outcome, done, refused, stopping, hasRoom, ifRoom, running, step, offer, tick}
+use Rattle.rules.specs.Inputs.{Work, withPhase, handled}
+use Rattle.rules.specs.Refusals.{Outcome, done, refused, stopping, hasRoom, ifRoom, step, offer, tick}
 use Rattle.rules.specs.WellFormed.{wellFormed}
-use Rattle.rules.proofs.Tests.{by-bool, by-option}
+use Rattle.rules.proofs.Tests.{by-bool}
+use Rattle.rules.proofs.Answers.{by-step, by-offer, by-tick}
 use Rattle.rules.proofs.Bytes.{Bytes}
 use Rattle.rules.proofs.Written.{read-write}
 use Rattle.rules.proofs.Truths.{and-2}
@@ -54,48 +55,28 @@ module _ {s : State} (w : WellFormed s) where
   ifRoom-kept r k =
       by-bool (hasRoom (r .now))
       (λ q.
-      let t = and-2 (leb (length (r .now .statements)) mostStatements) (leb (length (r .now .tallies)) mostTallies) q in
+      let t = and-2 (leb (length (r .now .statements)) (mostStatements (r .now .settings .size))) (leb (length (r .now .tallies)) (mostTallies (r .now .settings .size))) q in
       rw (q, ifRoom)
       (record {
         settings = k .settings;
-        formed = record { formed = k .formed; fewStatements = leb-true _ mostStatements (t .0); fewTallies = leb-true _ mostTallies (t .1) };
+        formed = record { formed = k .formed; fewStatements = leb-true _ (mostStatements (r .now .settings .size)) (t .0); fewTallies = leb-true _ (mostTallies (r .now .settings .size)) (t .1) };
         said = k .said;
       }))
       (λ q. rw (q, ifRoom) (stopping-kept 6 full))
 
   pub step-kept : (bs : List ℕ) → Bytes bs → Kept s (step bs s)
-  unfolding step
-  step-kept bs h =
-      by-bool (running s)
-      (λ r.
-      by-option (read bs) (λ q. rw (r, q, step) (refused-kept 4)) λ m q.
-      by-bool (allowed (s .settings) m)
-      (λ a. rw (r, q, a, step) (ifRoom-kept (handled m s) (handled-keeps (w .formed) m (read-sendable (s .settings) bs m h q a))))
-      (λ a. rw (r, q, a, step) (refused-kept 5)))
-      (λ r. rw (r, step) (refused-kept 3))
+  step-kept bs h = by-step (Kept s) s refused-kept bs (λ m q a. ifRoom-kept (handled m s) (handled-keeps (w .formed) m (read-sendable (s .settings) bs m h q a)))
 
   pub offer-kept : (b : ℕ) → b < 256 ^ 32 → Kept s (offer b s)
-  unfolding offer
-  offer-kept b h =
-      by-bool (running s)
-      (λ r.
-      by-option (offered b s) (λ q. rw (r, q, offer) (refused-kept 9))
-      (λ m q. rw (r, q, offer) (ifRoom-kept (handled m s) (handled-keeps (w .formed) m (offered-sendable (w .formed) b m h q)))))
-      (λ r. rw (r, offer) (refused-kept 3))
+  offer-kept b h = by-offer (Kept s) s refused-kept b (λ m q. ifRoom-kept (handled m s) (handled-keeps (w .formed) m (offered-sendable (w .formed) b m h q)))
 
   pub tick-kept : Kept s (tick s)
-  unfolding tick
   tick-kept =
-      by-bool (running s)
-      (λ r.
-      by-bool (eqb (s .clock) lastClock) (λ c. rw (r, c, tick) (stopping-kept 8 clock))
-      (λ c.
-      by-option (ticked s) (λ q. rw (r, c, q, tick) (stopping-kept 7 split))
-      (λ u q.
+      by-tick (Kept s) s refused-kept (stopping-kept 8 clock) (stopping-kept 7 split)
+      (λ u r c q.
       let k = clocks-parts s (w .formed .clocks) in
       let n = eqb-false (s .clock) lastClock c in
-      rw (r, c, q, tick) (ifRoom-kept u (ticked-keeps (w .formed) (omega arith) q)))))
-      (λ r. rw (r, tick) (refused-kept 3))
+      ifRoom-kept u (ticked-keeps (w .formed) (omega arith) q))
 
 -- ---- the same by the tests
 

@@ -6,7 +6,7 @@ use mathlib.Core.Bool.{false}
 use mathlib.Core.List.{List, [], _∷_, List·Memᴰ as Mem}
 use mathlib.Core.Option.{none, some, Option·some-injective}
 use lib.ListN.{length, getD}
-use Rattle.rules.specs.Limits.{firstView, lastView, lastHeight, mostStations, mostStatements}
+use Rattle.rules.specs.Limits.{firstView, lastView, lastHeight, mostStations, mostStatements, lastViewLarge}
 use Rattle.rules.specs.Lists.{first}
 use Rattle.rules.specs.Words.{Statement, Tally, State}
 use Rattle.rules.specs.Inputs.{isBlock, chainTo, chain}
@@ -15,7 +15,7 @@ use Rattle.rules.proofs.Tests.{by-option, no-some}
 use Rattle.rules.proofs.Allowed.{Sizes, sizes, view-within, height-le, leader-lt, mask-small, certificate-mask}
 use Rattle.kept.specs.Parts.{Formed, WellFormed}
 use Rattle.kept.proofs.Lists.{all-mem}
-use Rattle.kept.proofs.Tallies.{TallyGood, tally-parts, Certificate, lock-parts}
+use Rattle.kept.proofs.Tallies.{TallyGood, tally-parts, CertificateGood, lock-parts}
 use Rattle.kept.proofs.Statements.{Stated, voted-le, stored-stated}
 use Rattle.kept.proofs.Phases.{Clocks, clocks-parts}
 use Rattle.kept.proofs.Blames.{blames-mask, blames-length}
@@ -30,10 +30,10 @@ module _ {s : State} (f : Formed s) where
   pub clocks-of : Clocks s
   clocks-of = clocks-parts s (f .clocks)
 
-  pub view-of : (firstView ≤ s .view) × (s .view ≤ lastView)
-  view-of = view-within (s .view) (f .view)
+  pub view-of : (firstView ≤ s .view) × (s .view ≤ lastView (s .settings .size)) × (s .view ≤ lastViewLarge)
+  view-of = view-within (s .settings) (s .view) (f .view)
 
-  pub lock-of : Certificate (s .settings) (s .view) (s .lock)
+  pub lock-of : CertificateGood (s .settings) (s .view) (s .lock)
   lock-of = lock-parts s (f .lock)
 
   -- ---- a stored statement
@@ -42,12 +42,12 @@ module _ {s : State} (f : Formed s) where
     pub statement-of : Stated (s .settings) x
     statement-of = stored-stated f x m
 
-    pub statement-limits : (firstView ≤ x .view) × (x .view ≤ lastView) × (x .height ≤ lastHeight) × (x .author < s .settings .n) × (x .mask < 2 ^ mostStations)
+    pub statement-limits : (firstView ≤ x .view) × (x .view ≤ lastView (s .settings .size)) × (x .height ≤ lastHeight) × (x .author < s .settings .n) × (x .mask < 2 ^ mostStations) × (x .view ≤ lastViewLarge)
     statement-limits =
         let d = statement-of in
-        let v = view-within (x .view) (d .view) in
+        let v = view-within (s .settings) (x .view) (d .view) in
         let a = leader-lt (x .view) sizes-of in
-        (v .0, v .1, height-le (x .height) (x .name) (d .block), rw (d .author) a, mask-small sizes-of (d .mask))
+        (v .0, v .1, height-le (x .height) (x .name) (d .block), rw (d .author) a, mask-small sizes-of (d .mask), v .2)
 
     pub vote-clock : (c : ℕ) → x .voted ≡ some c → c ≤ s .clock
     vote-clock c v = voted-le s x c (all-mem (statementGood s) (f .tables .statements) m) v
@@ -58,11 +58,11 @@ module _ {s : State} (f : Formed s) where
     pub tally-of : TallyGood (s .settings) t
     tally-of = tally-parts (s .settings) t (all-mem (tallyGood (s .settings)) (f .tables .tallies) m)
 
-    pub tally-limits : (firstView ≤ t .view) × (t .view ≤ lastView) × (t .height ≤ lastHeight) × (t .mask < 2 ^ mostStations)
+    pub tally-limits : (firstView ≤ t .view) × (t .view ≤ lastView (s .settings .size)) × (t .height ≤ lastHeight) × (t .mask < 2 ^ mostStations) × (t .view ≤ lastViewLarge)
     tally-limits =
         let d = tally-of in
-        let v = view-within (t .view) (d .view) in
-        (v .0, v .1, height-le (t .height) (t .name) (d .block), mask-small sizes-of (d .mask))
+        let v = view-within (s .settings) (t .view) (d .view) in
+        (v .0, v .1, height-le (t .height) (t .name) (d .block), mask-small sizes-of (d .mask), v .2)
 
   -- ---- the lock, the blame masks
 
@@ -75,7 +75,7 @@ module _ {s : State} (f : Formed s) where
   pub blame-limits : (v : ℕ) → (getD (s .blames) v 0 < 2 ^ s .settings .n) × (getD (s .blames) v 0 < 2 ^ mostStations)
   blame-limits v = let h = blames-mask (s .settings) (s .blames) v (f .blames) in (h, mask-small sizes-of h)
 
-  pub blame-count : length (s .blames) ≡ suc lastView
+  pub blame-count : length (s .blames) ≡ suc (lastView (s .settings .size))
   blame-count = blames-length (s .settings) (s .blames) (f .blames)
 
 -- ---- the log and chains
@@ -88,7 +88,7 @@ chainTo-length xs (suc h) b above l e =
     (λ x q. let k = chainTo-length xs h (x .link) (b ∷ above) l (rw (q, chainTo) at e) in omega arith)
 
 module _ {s : State} (w : WellFormed s) where
-  pub log-length : length (s .log) ≤ mostStatements
+  pub log-length : length (s .log) ≤ mostStatements (s .settings .size)
   log-length =
       let h = linked-length (s .statements) (s .log) (w .formed .tables .log) in
       let k = proposes-length (s .statements) in
@@ -105,7 +105,7 @@ module _ {s : State} (w : WellFormed s) where
         (omega arith, linked-length (s .statements) l (chain-linked (w .formed) x l m n e))
 
     -- so a block higher than the table is long has none
-    pub chain-none : mostStatements < x .height → chain (s .statements) x ≡ none
+    pub chain-none : (mostStatements (s .settings .size)) < x .height → chain (s .statements) x ≡ none
     chain-none h =
         by-option (chain (s .statements) x) (λ q. q)
         (λ l q.

@@ -8,7 +8,7 @@ use borrow.Author.Tests.{lt-ltb}
 use Rattle.rules.specs.Lists.{first, any}
 use Rattle.rules.specs.Sizes.{only}
 use Rattle.rules.specs.Messages.{Message, newView, propose, vote, blame, blameSet, status, viewAllowed, allowed, Effect, toAll}
-use Rattle.rules.specs.Words.{Statement, message, sameStatement, conflict, Tally, State}
+use Rattle.rules.specs.Words.{Statement, message, sameStatement, conflict, Certificate, Tally, certificateOf, opened, ofBlock, State}
 use Rattle.rules.specs.Inputs.{Work, saying, _▸_, withPhase, withTables, withBlames, isIn, quit, belowLock, votedFor, ballot, voting, certificateJoined, stored, statement, tallied, blamesOf, blamed, blameFull, blaming, handled}
 use Rattle.rules.proofs.Tests.{by-bool, by-option}
 use Rattle.rules.proofs.Truths.{and-2, both}
@@ -85,19 +85,19 @@ module _ {s : State} (f : Formed s) (x : Statement) (m : Sendable (s .settings) 
 -- ---- vote, status, blame, blame set
 
 module _ {s : State} (f : Formed s) where
-  pub tallied-keeps : (t : Tally) → Joinable (s .settings) t → Keeps s (tallied t s)
+  pub tallied-keeps : (t : Certificate) → Joinable (s .settings) t → Keeps s (tallied t s)
   unfolding tallied saying withTables
   tallied-keeps t j = record { settings = refl; formed = tallied-formed f t j; said = tt }
 
   -- the set that is sent is the full mask now held
-  pub full-sendable : (v : ℕ) → viewAllowed v ≡ true → blameFull v s ≡ true → Sendable (s .settings) (blameSet v (blamesOf v s))
+  pub full-sendable : (v : ℕ) → viewAllowed (s .settings) v ≡ true → blameFull v s ≡ true → Sendable (s .settings) (blameSet v (blamesOf v s))
   unfolding allowed blameFull
   full-sendable v a q =
       sendable (blameSet v (blamesOf v s)) (sizes (s .settings) (f .settings))
       (both a (mask-made (s .settings) (blamesOf v s) (blamesOf-mask f v) q)) tt
 
 module _ {s : State} (f : Formed s) where
-  pub blaming-keeps : (v m : ℕ) → viewAllowed v ≡ true → m < 2 ^ s .settings .n → Keeps s (blaming v m s)
+  pub blaming-keeps : (v m : ℕ) → viewAllowed (s .settings) v ≡ true → m < 2 ^ s .settings .n → Keeps s (blaming v m s)
   unfolding blaming saying blamed withBlames
   blaming-keeps v m a h =
       let k = blamed-formed f v m a h in

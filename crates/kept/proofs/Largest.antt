@@ -1,11 +1,11 @@
--- The bound on a tick is reached: a station that waits with 128 proposes of the next view stored, and isn't its leader. Assumes nothing.
+-- The bound on a tick is reached: a station that waits with its table full of proposes of the next view, and isn't its leader. Assumes nothing.
 use mathlib.Core.Path.{_≡_, refl}
 use Prim.Native.Nat.{ℕ, zero, suc}
 use mathlib.Core.Bool.{false, true}
 use mathlib.Core.List.{List, [], _∷_, _++_}
 use mathlib.Core.Option.{none}
 use lib.ListN.{length, replicate}
-use Rattle.rules.specs.Limits.{lastView, mostStatements}
+use Rattle.rules.specs.Limits.{small, lastView, mostStatements}
 use Rattle.rules.specs.Messages.{outgoing}
 use Rattle.rules.specs.Words.{Statement, Tally, genesis, waiting, State}
 use Rattle.rules.specs.Refusals.{tick}
@@ -27,15 +27,15 @@ pub largest : State
 unfolding proposesTo talliesTo
 largest =
     record {
-      settings = record { n = 3; D = 1; own = 0 };
+      settings = record { n = 3; D = 1; own = 0; size = small };
       phase = waiting 5;
       view = 1;
       entry = 0;
       clock = 6;
       lock = genesis;
-      statements = proposesTo mostStatements;
-      tallies = talliesTo mostStatements;
-      blames = replicate (suc lastView) 0;
+      statements = proposesTo (mostStatements small);
+      tallies = talliesTo (mostStatements small);
+      blames = replicate (suc (lastView small)) 0;
       log = [];
     }
 
@@ -43,6 +43,6 @@ pub largest-whole : wellFormed largest ≡ true
 unfolding largest wellFormed
 largest-whole = refl
 
-pub largest-reached : length (outgoing (tick largest .out)) ≡ largestTick
+pub largest-reached : length (outgoing (tick largest .out)) ≡ largestTick small
 unfolding largest tick outgoing
 largest-reached = refl

@@ -3,6 +3,7 @@ pub mod WellFormed
 pub mod Sendable
 pub mod Tallies
 pub mod Statements
+pub mod Recorded
 pub mod Tables
 pub mod Phases
 pub mod Blames

@@ -7,14 +7,14 @@ use lib.Dec.{leb}
 use borrow.Author.Tests.{leb-true, le-leb}
 use Rattle.rules.specs.Limits.{firstView, lastView, lastClock}
 use Rattle.rules.specs.Lists.{within}
-use Rattle.rules.specs.Words.{Cause, Tally, Phase, inView, waiting, stopped, State}
+use Rattle.rules.specs.Words.{Cause, Certificate, Tally, certificateOf, opened, ofBlock, Phase, inView, waiting, stopped, State}
 use Rattle.rules.specs.Inputs.{withPhase, withClock, entering}
 use Rattle.rules.specs.WellFormed.{clocksInOrder, lockGood, statementGood}
 use Rattle.rules.proofs.Truths.{and-3}
 use Rattle.rules.proofs.Allowed.{le-within, within-le, within-view}
 use Rattle.kept.specs.Parts.{Formed}
 use Rattle.kept.proofs.Lists.{all-weaken}
-use Rattle.kept.proofs.Tallies.{Certificate, lock-made}
+use Rattle.kept.proofs.Tallies.{CertificateGood, lock-made}
 use Rattle.kept.proofs.Statements.{later-good}
 
 -- part (3): "entry, then the quit of a waiting station, then the clock, up to its end"
@@ -97,14 +97,14 @@ module _ {s : State} (f : Formed s) where
       }
 
   -- a view is entered with a lock on a certificate of an earlier one
-  pub entering-formed : (v : ℕ) (t : Tally) → firstView ≤ v → v ≤ lastView → Certificate (s .settings) v t → Formed (entering v t s)
+  pub entering-formed : (v : ℕ) (t : Certificate) → firstView ≤ v → v ≤ lastView (s .settings .size) → CertificateGood (s .settings) v t → Formed (entering v t s)
   unfolding entering statementGood
   entering-formed v t l m c =
       let k = clocks-parts s (f .clocks) in
       let u = entering v t s in
       record {
         settings = f .settings;
-        view = within-view v l m;
+        view = within-view (s .settings) v l m;
         clocks = clocks-made u (record { entered = omega arith; last = k .last; waited = λ q e. let z : _≡_ {A = ℕ} 0 1 = cc in absurd (omega arith) });
         lock = lock-made u c;
         tables = f .tables;

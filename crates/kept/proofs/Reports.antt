@@ -7,14 +7,15 @@ use mathlib.Core.List.{List, [], _∷_, List·Memᴰ as Mem}
 use lib.Dec.{eqb}
 use lib.ListN.{drop}
 use Rattle.rules.specs.Words.{State}
-use Rattle.rules.specs.Inputs.{due, isBlock, reports, withLog}
-use Rattle.rules.specs.WellFormed.{clocksInOrder, lockGood, statementGood, linked}
+use Rattle.rules.specs.Inputs.{due, isBlock, reports, withTables, withBlames, withLog}
+use Rattle.rules.specs.WellFormed.{linked}
 use Rattle.rules.proofs.Truths.{and-2}
 use Rattle.rules.proofs.Allowed.{height-le}
 use Rattle.rules.proofs.Commits.{due-facts}
 use Rattle.kept.specs.Parts.{Formed}
 use Rattle.kept.specs.Said.{Each, Sayable}
 use Rattle.kept.proofs.Lists.{mem-each, any-find}
+use Rattle.kept.proofs.Recorded.{recorded}
 use Rattle.kept.proofs.Tables.{isAbove}
 use Rattle.kept.proofs.Statements.{stored-stated}
 use Rattle.kept.proofs.Logs.{block-parts, linked-cons}
@@ -47,21 +48,16 @@ module _ {s : State} (f : Formed s) where
   gained-said k l e = let z : 0 + k ≡ k = omega arith in rw z at (later-said k 0 0 l e)
 
   pub logged-formed : (l : List ℕ) → linked (s .statements) 0 0 l ≡ true → Formed (withLog l s)
-  unfolding withLog clocksInOrder lockGood statementGood
+  unfolding withTables withBlames withLog
   logged-formed l e =
-      record {
-        settings = f .settings;
-        view = f .view;
-        clocks = f .clocks;
-        lock = f .lock;
-        tables =
-            record {
-              statements = f .tables .statements;
-              statementsDiffer = f .tables .statementsDiffer;
-              tallies = f .tables .tallies;
-              talliesDiffer = f .tables .talliesDiffer;
-              opened = f .tables .opened;
-              log = e;
-            };
-        blames = f .blames;
-      }
+      let old = f .tables in
+      recorded f (s .statements) (s .tallies) (s .blames) l
+      (record {
+        statements = old .statements;
+        statementsDiffer = old .statementsDiffer;
+        tallies = old .tallies;
+        talliesDiffer = old .talliesDiffer;
+        opened = old .opened;
+        log = e;
+      })
+      (f .blames)

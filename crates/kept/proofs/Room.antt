@@ -11,7 +11,7 @@ use lib.ListN.{length}
 use Rattle.rules.specs.Lists.{first, any}
 use Rattle.rules.specs.Sizes.{leader, only}
 use Rattle.rules.specs.Messages.{Message, newView, propose, vote, blame, blameSet, status, Effect, toAll, toOne}
-use Rattle.rules.specs.Words.{Statement, message, sameStatement, conflict, Tally, State}
+use Rattle.rules.specs.Words.{Statement, message, sameStatement, conflict, Certificate, Tally, certificateOf, opened, ofBlock, State}
 use Rattle.rules.specs.Inputs.{Work, saying, _▸_, isIn, quit, belowLock, ballot, voting, stored, statement, tallied, blamesOf, blamed, blameFull, blaming, handled, overdue, complain, leadsNow, ownNewView, lead, nextLock, report, entering, entered, current, pair, inOrder, votingAll, arrive, entersNow, enter}
 use Rattle.rules.proofs.Tests.{by-bool, by-option}
 use Rattle.kept.proofs.Lists.{keep-length, sorted-length}
@@ -69,7 +69,7 @@ blaming-bytes v m s =
     by-bool (isIn v (blamed v m s) && blameFull v (blamed v m s))
     (λ q. rw (q, blaming) (let a = set-bytes v (blamesOf v (blamed v m s)) in omega arith)) (λ q. rw (q, blaming) (let a = bytes-none in omega arith))
 
-tallied-bytes : (t : Tally) (s : State) → bytes (tallied t s .out) ≡ 0
+tallied-bytes : (t : Certificate) (s : State) → bytes (tallied t s .out) ≡ 0
 unfolding tallied saying
 tallied-bytes t s = bytes-none
 

@@ -10,7 +10,7 @@ use lib.ListN.{length}
 use Rattle.rules.specs.Lists.{unbe}
 use Rattle.rules.specs.Sizes.{Settings}
 use Rattle.rules.specs.Messages.{Message, newView, propose, vote, blame, blameSet, status, InWidth, Fitting, field, width, rowOf, tagsOf, kind, values, writes, write, read, allowed}
-use Rattle.rules.proofs.Bytes.{Bytes, one, pow-pos}
+use Rattle.rules.proofs.Bytes.{Bytes, one, bytes-split, pow-pos}
 use Rattle.rules.proofs.Written.{write-eq, writes-cons}
 use Rattle.rules.proofs.ReadBack.{write-read}
 use Rattle.rules.proofs.Allowed.{Sizes, leader-lt, mask-small, view-within, height-le, mask-parts, certificate-mask, certificate-view, allowed-rights}
@@ -31,30 +31,30 @@ fitting : {g : Settings} → Sizes g → (m : Message) → allowed g m ≡ true 
 unfolding tagsOf rowOf kind values width
 fitting {g} s (newView v h b c m a) e n =
     let (i, j, k, l, o) = allowed-rights g (newView v h b c m a) e in
-    let w = view-within v i in
+    let w = view-within g v i in
     let x = height-le h b j in
     let y = mask-small s (certificate-mask g m h c l) in
     let z = leader-lt v s in
     (omega arith, (omega arith, (n, (omega arith, (omega arith, (omega arith, tt))))))
 fitting {g} s (propose v h b p m a) e n =
     let (i, j, k, l, o, q) = allowed-rights g (propose v h b p m a) e in
-    let w = view-within v i in
+    let w = view-within g v i in
     let x = height-le h b k in
     let y = mask-small s (mask-parts g m o .0) in
     let z = leader-lt v s in
     (omega arith, (omega arith, (n .0, (n .1, (omega arith, (omega arith, tt))))))
 fitting {g} s (vote v h b a) e n =
     let (i, j, k) = allowed-rights g (vote v h b a) e in
-    let w = view-within v i in
+    let w = view-within g v i in
     let x = height-le h b j in
     (omega arith, (omega arith, (n, (omega arith, tt))))
 fitting {g} s (blame v a) e n =
     let (i, j) = allowed-rights g (blame v a) e in
-    let w = view-within v i in
+    let w = view-within g v i in
     (omega arith, (omega arith, tt))
 fitting {g} s (blameSet v m) e n =
     let (i, j) = allowed-rights g (blameSet v m) e in
-    let w = view-within v i in
+    let w = view-within g v i in
     let y = mask-small s (mask-parts g m j .0) in
     (omega arith, (omega arith, tt))
 fitting {g} s (status h b c m) e n =
@@ -77,10 +77,6 @@ named (blameSet v m) f = tt
 named (status h b c m) f = f .1 .0
 
 -- ---- what was read
-
-bytes-split : (s : List ℕ) {r : List ℕ} → Bytes (s ++ r) → Bytes s × Bytes r
-bytes-split [] h = (Bytes.none, h)
-bytes-split (x ∷ s) (one h hs) = let k = bytes-split s hs in (one h (k .0), k .1)
 
 -- a number whose digits are bytes is below the limit of its width
 unbe-lt : (w v : ℕ) → 1 ≤ w → Bytes (unbe w v) → v < 256 ^ w

@@ -9,7 +9,7 @@ use lib.Dec.{leb}
 use borrow.Author.Tests.{leb-true, le-leb}
 use Rattle.rules.specs.Sizes.{Settings, leader}
 use Rattle.rules.specs.Messages.{newView, propose, allowed, viewAllowed, blockAllowed}
-use Rattle.rules.specs.Words.{Statement, message, sameStatement, Tally, ownBlock, certificate, State}
+use Rattle.rules.specs.Words.{Statement, message, sameStatement, Certificate, Tally, certificateOf, opened, ofBlock, ownBlock, certificate, State}
 use Rattle.rules.specs.Inputs.{noted}
 use Rattle.rules.specs.WellFormed.{isName, statementGood, tallyGood, talliesThere}
 use Rattle.rules.proofs.Tests.{by-bool, by-option, no-bool}
@@ -22,7 +22,7 @@ use Rattle.kept.proofs.Sendable.{named, sendable}
 use Rattle.kept.proofs.Tallies.{Joinable, joinable, tally-made}
 
 pub record Stated (g : Settings) (x : Statement) : Type 0 where
-  pub view : viewAllowed (x .view) ≡ true
+  pub view : viewAllowed g (x .view) ≡ true
   pub block : blockAllowed (x .height) (x .name) ≡ true
   pub name : x .name < 256 ^ 32
   pub link : x .link < 256 ^ 32
@@ -38,12 +38,12 @@ module _ (g : Settings) (x : Statement) (e : Sendable g (message x)) where
   newView-stated k =
       let (v, b, c, d, a) = allowed-rights g (newView (x .view) (x .height) (x .name) (x .link) (x .mask) (x .author)) (rw (k, message) at (e .isAllowed)) in
       let n = named (newView (x .view) (x .height) (x .name) (x .link) (x .mask) (x .author)) (rw (k, message) at (e .fits)) in
-      let w = view-within (x .view) v in
+      let w = view-within g (x .view) v in
       record {
         view = v;
         block = b;
         name = n;
-        link = view-name (omega arith);
+        link = view-name (g .size) (omega arith);
         mask = certificate-mask g (x .mask) (x .height) (x .link) d;
         author = a;
         certified = rw (k, certificate) (joinable g (record { view = x .link; height = x .height; name = x .name; mask = x .mask }) b n d);
@@ -70,7 +70,7 @@ module _ (g : Settings) (x : Statement) (e : Sendable g (message x)) where
   stated = by-bool (x .isNewView) newView-stated propose-stated
 
   -- a vote for it joins the tally of its block
-  pub own-good : (m : ℕ) → m < 2 ^ g .n → tallyGood g (ownBlock x m) ≡ true
+  pub own-good : (m : ℕ) → m < 2 ^ g .n → tallyGood g (opened (ownBlock x m)) ≡ true
   unfolding ownBlock
   own-good m h = let k = stated in tally-made (record { view = k .view; block = k .block; name = k .name; mask = h })
 

@@ -8,9 +8,9 @@ use mathlib.Core.Option.{none}
 use lib.Dec.{eqb}
 use Rattle.rules.specs.Lists.{any, all, alter}
 use Rattle.rules.specs.Sizes.{only}
-use Rattle.rules.specs.Words.{Statement, message, sameStatement, Tally, ownBlock, certificate, sameBlock, join, joinCertificate, State}
-use Rattle.rules.specs.Inputs.{withTables, noted, votedFor, certificateJoined, stored, isBlock}
-use Rattle.rules.specs.WellFormed.{clocksInOrder, lockGood, statementGood, talliesThere, linked}
+use Rattle.rules.specs.Words.{Statement, message, sameStatement, Certificate, Tally, certificateOf, opened, ofBlock, ownBlock, certificate, sameBlock, join, joinCertificate, State}
+use Rattle.rules.specs.Inputs.{withTables, withBlames, withLog, noted, votedFor, certificateJoined, stored, isBlock}
+use Rattle.rules.specs.WellFormed.{statementGood, talliesThere, linked}
 use Rattle.rules.proofs.Tests.{by-bool}
 use Rattle.rules.proofs.Truths.{and-2, both, or-2, or-left, or-right}
 use Rattle.rules.proofs.Searches.{any-alter}
@@ -19,6 +19,7 @@ use Rattle.rules.proofs.Allowed.{sizes, none-lt, only-lt}
 use Rattle.kept.specs.Parts.{Tables, Formed}
 use Rattle.kept.specs.Said.{Sendable}
 use Rattle.kept.proofs.Lists.{all-last, all-weaken, all-alter, any-append, distinct-append, distinct-alter}
+use Rattle.kept.proofs.Recorded.{recorded}
 use Rattle.kept.proofs.Tallies.{Joinable, block-self, join-good, join-any, join-there, join-distinct, certificate-good, certificate-any, certificate-there, certificate-distinct}
 use Rattle.kept.proofs.Statements.{stated, own-good, new-good, noted-good, noted-left, noted-right, noted-there}
 
@@ -40,16 +41,16 @@ unfolding isBlock noted
 noted-above c h b parent x = refl
 
 -- tallies that are there stay there
-there-mono : (ts us : List Tally) → ((t : Tally) → any (sameBlock t) ts ≡ true → any (sameBlock t) us ≡ true) → (x : Statement)
+there-mono : (ts us : List Tally) → ((t : Certificate) → any (ofBlock t) ts ≡ true → any (ofBlock t) us ≡ true) → (x : Statement)
     → talliesThere ts x ≡ true → talliesThere us x ≡ true
 unfolding talliesThere
 there-mono ts us f x e =
     let o = eqb (certificate x .view) 0 in
-    let t = and-2 (any (sameBlock (ownBlock x 0)) ts) (o || any (sameBlock (certificate x)) ts) e in
+    let t = and-2 (any (ofBlock (ownBlock x 0)) ts) (o || any (ofBlock (certificate x)) ts) e in
     both (f (ownBlock x 0) (t .0))
-    (elim (or-2 o (any (sameBlock (certificate x)) ts) (t .1)) [ inl p ↦ or-left (any (sameBlock (certificate x)) us) p | inr p ↦ or-right o (f (certificate x) p) ])
+    (elim (or-2 o (any (ofBlock (certificate x)) ts) (t .1)) [ inl p ↦ or-left (any (ofBlock (certificate x)) us) p | inr p ↦ or-right o (f (certificate x) p) ])
 
-opened-mono : (ts us : List Tally) → ((t : Tally) → any (sameBlock t) ts ≡ true → any (sameBlock t) us ≡ true) → (xs : List Statement)
+opened-mono : (ts us : List Tally) → ((t : Certificate) → any (ofBlock t) ts ≡ true → any (ofBlock t) us ≡ true) → (xs : List Statement)
     → all (talliesThere ts) xs ≡ true → all (talliesThere us) xs ≡ true
 opened-mono ts us f xs h = all-weaken (talliesThere ts) (talliesThere us) (there-mono ts us f) xs h
 
@@ -58,15 +59,15 @@ unfolding talliesThere
 new-there x us =
     let ts = joinCertificate (certificate x) us in
     both (join-there (ownBlock x 0) (ownBlock x 0) ts (block-self (ownBlock x 0)))
-    (by-bool (eqb (certificate x .view) 0) (λ q. or-left (any (sameBlock (certificate x)) (join (ownBlock x 0) ts)) q)
+    (by-bool (eqb (certificate x .view) 0) (λ q. or-left (any (ofBlock (certificate x)) (join (ownBlock x 0) ts)) q)
     (λ q. or-right (eqb (certificate x .view) 0) (join-any (ownBlock x 0) (certificate x) ts (certificate-there (certificate x) us q))))
 
 module _ {s : State} (f : Formed s) where
   tabled : (xs : List Statement) (ts : List Tally) → Tables (statementGood s) (s .settings) xs ts (s .log) → Formed (withTables xs ts s)
-  unfolding withTables clocksInOrder lockGood statementGood
-  tabled xs ts t = record { settings = f .settings; view = f .view; clocks = f .clocks; lock = f .lock; tables = t; blames = f .blames }
+  unfolding withTables withBlames withLog
+  tabled xs ts t = recorded f xs ts (s .blames) (s .log) t (f .blames)
 
-  pub tallied-formed : (t : Tally) → Joinable (s .settings) t → Formed (withTables (s .statements) (joinCertificate t (s .tallies)) s)
+  pub tallied-formed : (t : Certificate) → Joinable (s .settings) t → Formed (withTables (s .statements) (joinCertificate t (s .tallies)) s)
   tallied-formed t j =
       let old = f .tables in
       let ts = joinCertificate t (s .tallies) in

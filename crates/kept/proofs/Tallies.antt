@@ -10,8 +10,8 @@ use borrow.Author.Tests.{not-true, eqb-false, ltb-true, lt-ltb}
 use Rattle.rules.specs.Lists.{any, all, distinct}
 use Rattle.rules.specs.Sizes.{Settings}
 use Rattle.rules.specs.Messages.{viewAllowed, blockAllowed, certificateAllowed}
-use Rattle.rules.specs.Words.{Tally, sameBlock, grown, join, joinCertificate, voters, highest, State}
-use Rattle.rules.specs.WellFormed.{isName, isMask, lockGood, tallyGood}
+use Rattle.rules.specs.Words.{Certificate, Tally, certificateOf, opened, ofBlock, sameBlock, grown, join, joinCertificate, voters, highest, State}
+use Rattle.rules.specs.WellFormed.{isName, isMask, lockGood, tallyGood, sameTally}
 use Rattle.rules.proofs.Tests.{by-bool, no-bool, eqb-self}
 use Rattle.rules.proofs.Masks.{joined-lt}
 use Rattle.rules.proofs.Truths.{and-2, and-4, both, eqb-sym}
@@ -22,7 +22,7 @@ use Rattle.kept.proofs.Lists.{all-mem}
 -- ---- one tally
 
 pub record TallyGood (g : Settings) (t : Tally) : Type 0 where
-  pub view : viewAllowed (t .view) ≡ true
+  pub view : viewAllowed g (t .view) ≡ true
   pub block : blockAllowed (t .height) (t .name) ≡ true
   pub name : t .name < 256 ^ 32
   pub mask : t .mask < 2 ^ g .n
@@ -30,7 +30,7 @@ pub record TallyGood (g : Settings) (t : Tally) : Type 0 where
 pub tally-parts : (g : Settings) (t : Tally) → tallyGood g t ≡ true → TallyGood g t
 unfolding tallyGood
 tally-parts g t e =
-    let h = and-4 (viewAllowed (t .view)) (blockAllowed (t .height) (t .name)) (isName (t .name)) (isMask g (t .mask)) e in
+    let h = and-4 (viewAllowed g (t .view)) (blockAllowed (t .height) (t .name)) (isName (t .name)) (isMask g (t .mask)) e in
     record { view = h .0; block = h .1; name = name-lt (t .name) (h .2); mask = mask-lt g (t .mask) (h .3) }
 
 pub tally-made : {g : Settings} {t : Tally} → TallyGood g t → tallyGood g t ≡ true
@@ -43,94 +43,94 @@ grown-good g t m e h =
     let k = tally-parts g t e in
     tally-made (record { view = k .view; block = k .block; name = k .name; mask = joined-lt (g .n) (t .mask) m (k .mask) h })
 
-pub block-self : (t : Tally) → sameBlock t t ≡ true
+pub block-self : (t : Certificate) → sameBlock t t ≡ true
 unfolding sameBlock
 block-self t = rw (eqb-self (t .view), eqb-self (t .height), eqb-self (t .name))
 
-block-sym : (t u : Tally) → sameBlock t u ≡ sameBlock u t
+block-sym : (t u : Certificate) → sameBlock t u ≡ sameBlock u t
 unfolding sameBlock
 block-sym t u = rw (eqb-sym (t .view) (u .view), eqb-sym (t .height) (u .height), eqb-sym (t .name) (u .name))
 
-block-grown : (t u : Tally) (m : ℕ) → sameBlock t (grown u m) ≡ sameBlock t u
+block-grown : (t : Certificate) (u : Tally) (m : ℕ) → ofBlock t (grown u m) ≡ ofBlock t u
 unfolding sameBlock grown
 block-grown t u m = refl
 
 -- ---- joining
 
-module _ (t : Tally) where
-  pub join-good : (g : Settings) (us : List Tally) → tallyGood g t ≡ true → all (tallyGood g) us ≡ true → all (tallyGood g) (join t us) ≡ true
+module _ (t : Certificate) where
+  pub join-good : (g : Settings) (us : List Tally) → tallyGood g (opened t) ≡ true → all (tallyGood g) us ≡ true → all (tallyGood g) (join t us) ≡ true
   unfolding all join
   join-good g [] k h = both k refl
   join-good g (u ∷ us) k h =
       let p = and-2 (tallyGood g u) (all (tallyGood g) us) h in
-      by-bool (sameBlock t u) (λ q. rw (q, join) (both (grown-good g u (t .mask) (p .0) (tally-parts g t k .mask)) (p .1)))
+      by-bool (ofBlock t u) (λ q. rw (q, join) (both (grown-good g u (t .mask) (p .0) (tally-parts g (opened t) k .mask)) (p .1)))
       (λ q. rw (q, join) (both (p .0) (join-good g us k (p .1))))
 
   -- no block is lost, and the joined one is there
-  pub join-any : (x : Tally) (us : List Tally) → any (sameBlock x) us ≡ true → any (sameBlock x) (join t us) ≡ true
+  pub join-any : (x : Certificate) (us : List Tally) → any (ofBlock x) us ≡ true → any (ofBlock x) (join t us) ≡ true
   unfolding any join
   join-any x [] h = no-bool (sym h)
   join-any x (u ∷ us) h =
-      by-bool (sameBlock t u) (λ q. rw (q, join, any, block-grown x u (t .mask)) h)
-      (λ q. by-bool (sameBlock x u) (λ r. rw (q, join, r, any)) (λ r. rw (q, join, r, any) (join-any x us (rw (r, any) at h))))
+      by-bool (ofBlock t u) (λ q. rw (q, join, any, block-grown x u (t .mask)) h)
+      (λ q. by-bool (ofBlock x u) (λ r. rw (q, join, r, any)) (λ r. rw (q, join, r, any) (join-any x us (rw (r, any) at h))))
 
-  pub join-there : (x : Tally) (us : List Tally) → sameBlock x t ≡ true → any (sameBlock x) (join t us) ≡ true
+  pub join-there : (x : Certificate) (us : List Tally) → sameBlock x t ≡ true → any (ofBlock x) (join t us) ≡ true
   unfolding any join
   join-there x [] k = rw (k, any)
   join-there x (u ∷ us) k =
-      by-bool (sameBlock t u) (λ q. rw (q, join, any, block-grown x u (t .mask), block-cong x t u k, q))
-      (λ q. rw (q, join, block-cong x t u k, q, any) (join-there x us k))
+      by-bool (ofBlock t u) (λ q. rw (q, join, any, block-grown x u (t .mask), block-cong x t (certificateOf u) k, q))
+      (λ q. rw (q, join, block-cong x t (certificateOf u) k, q, any) (join-there x us k))
 
   -- another block than the joined one is not added
-  join-other : (x : Tally) (us : List Tally) → sameBlock x t ≡ false → any (sameBlock x) us ≡ false → any (sameBlock x) (join t us) ≡ false
+  join-other : (x : Certificate) (us : List Tally) → sameBlock x t ≡ false → any (ofBlock x) us ≡ false → any (ofBlock x) (join t us) ≡ false
   unfolding any join
   join-other x [] n h = rw (n, any)
   join-other x (u ∷ us) n h =
-      by-bool (sameBlock t u) (λ q. rw (q, join, any, block-grown x u (t .mask)) h)
-      (λ q. by-bool (sameBlock x u) (λ r. no-bool (rw (r, any) at h)) (λ r. rw (q, join, r, any) (join-other x us n (rw (r, any) at h))))
+      by-bool (ofBlock t u) (λ q. rw (q, join, any, block-grown x u (t .mask)) h)
+      (λ q. by-bool (ofBlock x u) (λ r. no-bool (rw (r, any) at h)) (λ r. rw (q, join, r, any) (join-other x us n (rw (r, any) at h))))
 
-  pub join-distinct : (us : List Tally) → distinct sameBlock us ≡ true → distinct sameBlock (join t us) ≡ true
-  unfolding distinct join
+  pub join-distinct : (us : List Tally) → distinct sameTally us ≡ true → distinct sameTally (join t us) ≡ true
+  unfolding distinct sameTally join
   join-distinct [] h = refl
   join-distinct (u ∷ us) h =
-      by-bool (sameBlock t u) (λ q. rw (q, join) h)
+      by-bool (ofBlock t u) (λ q. rw (q, join) h)
       (λ q.
-      let p = and-2 (not (any (sameBlock u) us)) (distinct sameBlock us) h in
-      let n = join-other u us (block-sym u t ∙ q) (not-true (any (sameBlock u) us) (p .0)) in
+      let p = and-2 (not (any (sameTally u) us)) (distinct sameTally us) h in
+      let n = join-other (certificateOf u) us (block-sym (certificateOf u) t ∙ q) (not-true (any (sameTally u) us) (p .0)) in
       rw (q, join, n) (join-distinct us (p .1)))
 
 -- "genesis .. has no tally" in view 0: a certificate is joined where it is not of view 0
-abbrev pub Joinable : Settings → Tally → Type 0
-Joinable g t = eqb (t .view) 0 ≡ false → tallyGood g t ≡ true
+abbrev pub Joinable : Settings → Certificate → Type 0
+Joinable g t = eqb (t .view) 0 ≡ false → tallyGood g (opened t) ≡ true
 
-pub joinable : (g : Settings) (t : Tally) → blockAllowed (t .height) (t .name) ≡ true → t .name < 256 ^ 32
+pub joinable : (g : Settings) (t : Certificate) → blockAllowed (t .height) (t .name) ≡ true → t .name < 256 ^ 32
     → certificateAllowed g (t .height) (t .view) (t .mask) ≡ true → Joinable g t
 joinable g t b n a q =
     elim (certificate-cases g (t .mask) (t .height) (t .view) a) [
       | inl k ↦ absurd (eqb-false (t .view) 0 q (k .0))
-      | inr k ↦ tally-made (record { view = within-view (t .view) (k .0) (k .1); block = b; name = n; mask = mask-parts g (t .mask) (k .2) .0 })
+      | inr k ↦ tally-made (record { view = within-view g (t .view) (k .0) (k .1); block = b; name = n; mask = mask-parts g (t .mask) (k .2) .0 })
     ]
 
-module _ (t : Tally) (us : List Tally) where
+module _ (t : Certificate) (us : List Tally) where
   pub certificate-good : (g : Settings) → Joinable g t → all (tallyGood g) us ≡ true → all (tallyGood g) (joinCertificate t us) ≡ true
   unfolding joinCertificate
   certificate-good g k h = by-bool (eqb (t .view) 0) (λ q. rw (q, joinCertificate) h) (λ q. rw (q, joinCertificate) (join-good t g us (k q) h))
 
-  pub certificate-any : (x : Tally) → any (sameBlock x) us ≡ true → any (sameBlock x) (joinCertificate t us) ≡ true
+  pub certificate-any : (x : Certificate) → any (ofBlock x) us ≡ true → any (ofBlock x) (joinCertificate t us) ≡ true
   unfolding joinCertificate
   certificate-any x h = by-bool (eqb (t .view) 0) (λ q. rw (q, joinCertificate) h) (λ q. rw (q, joinCertificate) (join-any t x us h))
 
-  pub certificate-there : eqb (t .view) 0 ≡ false → any (sameBlock t) (joinCertificate t us) ≡ true
+  pub certificate-there : eqb (t .view) 0 ≡ false → any (ofBlock t) (joinCertificate t us) ≡ true
   unfolding joinCertificate
   certificate-there q = rw (q, joinCertificate) (join-there t t us (block-self t))
 
-  pub certificate-distinct : distinct sameBlock us ≡ true → distinct sameBlock (joinCertificate t us) ≡ true
+  pub certificate-distinct : distinct sameTally us ≡ true → distinct sameTally (joinCertificate t us) ≡ true
   unfolding joinCertificate
   certificate-distinct h = by-bool (eqb (t .view) 0) (λ q. rw (q, joinCertificate) h) (λ q. rw (q, joinCertificate) (join-distinct t us h))
 
 -- ---- reading the table
 
-pub voters-mask : (g : Settings) (t : Tally) (us : List Tally) → all (tallyGood g) us ≡ true → voters t us < 2 ^ g .n
+pub voters-mask : (g : Settings) (t : Certificate) (us : List Tally) → all (tallyGood g) us ≡ true → voters t us < 2 ^ g .n
 voters-mask g t us h =
     elim (voters-tally t us) [
       | inl e ↦ rw e (none-lt g)
@@ -138,31 +138,30 @@ voters-mask g t us h =
     ]
 
 -- a certificate of a view before v: part (4) of a well-formed state
-pub record Certificate (g : Settings) (v : ℕ) (t : Tally) : Type 0 where
+pub record CertificateGood (g : Settings) (v : ℕ) (t : Certificate) : Type 0 where
   pub earlier : t .view < v
   pub block : blockAllowed (t .height) (t .name) ≡ true
   pub name : t .name < 256 ^ 32
   pub isAllowed : certificateAllowed g (t .height) (t .view) (t .mask) ≡ true
 
-pub lock-parts : (s : State) → lockGood s ≡ true → Certificate (s .settings) (s .view) (s .lock)
+pub lock-parts : (s : State) → lockGood s ≡ true → CertificateGood (s .settings) (s .view) (s .lock)
 unfolding lockGood
 lock-parts s e =
     let t = s .lock in
     let h = and-4 (ltb (t .view) (s .view)) (blockAllowed (t .height) (t .name)) (isName (t .name)) (certificateAllowed (s .settings) (t .height) (t .view) (t .mask)) e in
     record { earlier = ltb-true (t .view) (s .view) (h .0); block = h .1; name = name-lt (t .name) (h .2); isAllowed = h .3 }
 
-pub lock-made : (s : State) → Certificate (s .settings) (s .view) (s .lock) → lockGood s ≡ true
+pub lock-made : (s : State) → CertificateGood (s .settings) (s .view) (s .lock) → lockGood s ≡ true
 unfolding lockGood
 lock-made s k = let t = s .lock in rw (lt-ltb (t .view) (s .view) (k .earlier), k .block, lt-name (t .name) (k .name)) (k .isAllowed)
 
-pub highest-good : (g : Settings) (v : ℕ) (ts : List Tally) → 1 ≤ v → all (tallyGood g) ts ≡ true → Certificate g v (highest g v ts)
+pub highest-good : (g : Settings) (v : ℕ) (ts : List Tally) → 1 ≤ v → all (tallyGood g) ts ≡ true → CertificateGood g v (highest g v ts)
 unfolding blockAllowed certificateAllowed
 highest-good g v ts l h =
     elim (highest-tally g v ts) [
       | inl e ↦ rw e (record { earlier = omega arith; block = refl; name = lit≤ tt; isAllowed = refl })
-      | inr (m, b, q) ↦ (
-          let t = highest g v ts in
+      | inr (t, e, m, b, q) ↦ (
           let k = tally-parts g t (all-mem (tallyGood g) h m) in
-          let (x, y) = view-within (t .view) (k .view) in
-          record { earlier = b; block = k .block; name = k .name; isAllowed = certificate-made g (t .mask) (t .height) (t .view) x y (mask-made g (t .mask) (k .mask) q) })
+          let (x, y, _) = view-within g (t .view) (k .view) in
+          rw (← e) (record { earlier = rw (← e) at b; block = k .block; name = k .name; isAllowed = certificate-made g (t .mask) (t .height) (t .view) x y (mask-made g (t .mask) (k .mask) (rw (← e) at q)) }))
     ]

@@ -9,12 +9,13 @@ use mathlib.Core.Option.{none, some, map-eq-some-iff, Option·some-injective}
 use lib.Dec.{ltb}
 use lib.ListN.{length, drop, length-drop}
 use borrow.Author.Tests.{ne-eqb}
-use Rattle.rules.specs.Limits.{lastView, mostStatements, lastClock}
+use Rattle.rules.specs.Limits.{Size, lastView, mostStatements, lastClock}
 use Rattle.rules.specs.Lists.{first, any, keep, sorted}
 use Rattle.rules.specs.Sizes.{only}
 use Rattle.rules.specs.Words.{Statement, sameStatement, conflict, Phase, inView, waiting, stopped, State}
 use Rattle.rules.specs.Inputs.{Work, saying, _▸_, withPhase, withClock, withTables, withBlames, withLog, isIn, quit, belowLock, votedFor, voting, certificateJoined, stored, statement, blamed, blameFull, blaming, handled, isDue, due, commits, logging, overdue, complain, leads, leadsNow, ownNewView, lead, entersNow, enter, ticked}
 use Rattle.rules.specs.Refusals.{running}
+use Rattle.rules.proofs.Bounds.{statements-some}
 use Rattle.rules.proofs.Tests.{by-bool, by-option, no-bool}
 use Rattle.kept.specs.Parts.{WellFormed}
 use Rattle.kept.proofs.Phases.{clock-formed}
@@ -98,14 +99,14 @@ unfolding enter entersNow
 no-entry s (inl p) = let n : entersNow s ≡ false = rw (p, entersNow) in rw (n, enter)
 no-entry s (inr p) =
     let d = ne-eqb (s .clock) (s .clock + s .settings .D + 1) (λ e. omega arith) in
-    let n : entersNow s ≡ false = rw (p, entersNow, d) (and-false (ltb (s .view) lastView)) in
+    let n : entersNow s ≡ false = rw (p, entersNow, d) (and-false (ltb (s .view) (lastView (s .settings .size)))) in
     rw (n, enter)
 
 -- ---- the whole tick
 
--- entering with 128 statements to vote for: a status of 62 bytes, then for each a propose of 100 and a vote of 60
-abbrev pub largestTick : ℕ
-largestTick = 62 + 160 * mostStatements
+-- entering with a full table of statements to vote for: a status of 62 bytes, then for each a propose of 100 and a vote of 60
+abbrev pub largestTick : Size → ℕ
+largestTick z = 62 + 160 * mostStatements z
 
 module _ (l : List ℕ) (s : State) where
   gained-bytes : bytes (logging l s .out) ≡ 39 * (length l - length (s .log))
@@ -116,7 +117,7 @@ module _ (l : List ℕ) (s : State) where
       omega arith
 
   -- one that was in a view: commits, blame, set and the leader's new-view
-  in-bytes : s .phase ≡ inView → length l ≤ mostStatements → bytes ((logging l s ▸ complain ▸ lead ▸ enter) .out) ≤ 39 * mostStatements + 37 + 200
+  in-bytes : s .phase ≡ inView → length l ≤ mostStatements (s .settings .size) → bytes ((logging l s ▸ complain ▸ lead ▸ enter) .out) ≤ 39 * (mostStatements (s .settings .size)) + 37 + 200
   unfolding logging saying withLog _▸_
   in-bytes p k =
       let w = logging l s in
@@ -130,18 +131,18 @@ module _ (l : List ℕ) (s : State) where
       omega arith
 
   -- one that waited: nothing but the entry
-  waited-bytes : (q : ℕ) → s .phase ≡ waiting q → l ≡ s .log → length (s .statements) ≤ mostStatements
-      → bytes ((logging l s ▸ complain ▸ lead ▸ enter) .out) ≤ largestTick
+  waited-bytes : (q : ℕ) → s .phase ≡ waiting q → l ≡ s .log → length (s .statements) ≤ mostStatements (s .settings .size)
+      → bytes ((logging l s ▸ complain ▸ lead ▸ enter) .out) ≤ largestTick (s .settings .size)
   unfolding logging saying withLog
   waited-bytes q p h k =
       let w = logging l s in
       let a = gained-bytes in
       let b = then-bytes w enter in
-      let c = enter-bytes mostStatements (omega arith) (w .now) k in
+      let c = enter-bytes (mostStatements (s .settings .size)) (omega (arith, statements-some (s .settings .size))) (w .now) k in
       let z = ap length h in
       rw (skip w complain (no-complaint (w .now) q p), skip w lead (no-lead (w .now) q p)) (omega arith)
 
-pub ticked-bytes : {s : State} {w : Work} → WellFormed s → running s ≡ true → s .clock < lastClock → ticked s ≡ some w → bytes (w .out) ≤ largestTick
+pub ticked-bytes : {s : State} {w : Work} → WellFormed s → running s ≡ true → s .clock < lastClock → ticked s ≡ some w → bytes (w .out) ≤ largestTick (s .settings .size)
 unfolding ticked withClock running
 ticked-bytes {s} {w} f r c e =
     let now = withClock (s .clock + 1) s in
@@ -153,9 +154,9 @@ ticked-bytes {s} {w} f r c e =
     rw (← i) (go (s .phase) refl l d (omega arith) m)
   where
     go : (p : Phase) → s .phase ≡ p → (l : List ℕ) → commits (s .statements) (due (withClock (s .clock + 1) s)) (s .log) ≡ some l
-        → length l ≤ mostStatements → length (s .statements) ≤ mostStatements
-        → bytes ((logging l (withClock (s .clock + 1) s) ▸ complain ▸ lead ▸ enter) .out) ≤ largestTick
-    go inView p l d h m = let a = in-bytes l (withClock (s .clock + 1) s) p h in omega arith
+        → length l ≤ mostStatements (s .settings .size) → length (s .statements) ≤ mostStatements (s .settings .size)
+        → bytes ((logging l (withClock (s .clock + 1) s) ▸ complain ▸ lead ▸ enter) .out) ≤ largestTick (s .settings .size)
+    go inView p l d h m = let a = in-bytes l (withClock (s .clock + 1) s) p h in omega (arith, statements-some (s .settings .size))
     go (waiting q) p l d h m =
         let none-due = ap (λ (ds : List Statement). commits (s .statements) ds (s .log)) (sym (nothing-due (withClock (s .clock + 1) s) q p)) in
         waited-bytes l (withClock (s .clock + 1) s) q p (sym (Option·some-injective (s .log) l (none-due ∙ d))) m

@@ -24,7 +24,7 @@ use Rattle.kept.specs.Parts.{Formed}
 use Rattle.kept.specs.Said.{Each, Sendable, Sayable}
 use Rattle.kept.proofs.Lists.{mem-each}
 use Rattle.kept.proofs.Sendable.{sendable}
-use Rattle.kept.proofs.Tallies.{Certificate, highest-good}
+use Rattle.kept.proofs.Tallies.{CertificateGood, highest-good}
 use Rattle.kept.proofs.Statements.{stored-said}
 use Rattle.kept.proofs.Phases.{clock-formed, entering-formed}
 use Rattle.kept.proofs.Logs.{commits-linked}
@@ -70,7 +70,7 @@ module _ {s : State} (f : Formed s) where
   unfolding ownNewView allowed
   ownNewView-sendable e =
       let t = highest (s .settings) (s .view) (s .tallies) in
-      let c = highest-good (s .settings) (s .view) (s .tallies) (view-within (s .view) (f .view) .0) (f .tables .tallies) in
+      let c = highest-good (s .settings) (s .view) (s .tallies) (view-within (s .settings) (s .view) (f .view) .0) (f .tables .tallies) in
       let o = eq-eqb (s .settings .own) (leader (s .settings) (s .view)) (leads-own s e) in
       sendable (newView (s .view) (t .height) (t .name) (t .view) (t .mask) (s .settings .own)) (sizes (s .settings) (f .settings))
       (both (both (both (both (f .view) (c .block)) (lt-ltb (t .view) (s .view) (c .earlier))) (c .isAllowed)) o) (c .name)
@@ -88,7 +88,7 @@ module _ {s : State} (f : Formed s) where
 
 -- only a waiting station below the last view enters
 module _ {s : State} (f : Formed s) where
-  nextLock-good : Certificate (s .settings) (s .view + 1) (nextLock s)
+  nextLock-good : CertificateGood (s .settings) (s .view + 1) (nextLock s)
   unfolding nextLock
   nextLock-good = highest-good (s .settings) (s .view + 1) (s .tallies) (omega arith) (f .tables .tallies)
 

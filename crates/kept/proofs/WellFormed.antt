@@ -6,14 +6,15 @@ use native.Mathlib.Nat.{one-le-pow}
 use mathlib.Core.Bool.{Bool, true, _&&_}
 use mathlib.Core.List.{List, [], _∷_}
 use lib.Dec.{leb}
-use lib.ListN.{length, replicate}
-use borrow.Author.Tests.{lt-ltb, leb-true, le-leb}
+use lib.ListN.{length, replicate, length-replicate}
+use borrow.Author.Tests.{lt-ltb, leb-true, le-leb, eq-eqb}
 use Rattle.rules.specs.Limits.{mostStatements, mostTallies, lastView}
 use Rattle.rules.specs.Lists.{all, distinct}
 use Rattle.rules.specs.Sizes.{Settings, goodSettings}
 use Rattle.rules.specs.Messages.{viewAllowed}
-use Rattle.rules.specs.Words.{sameStatement, sameBlock, State, fresh}
-use Rattle.rules.specs.WellFormed.{isMask, clocksInOrder, lockGood, statementGood, tallyGood, talliesThere, blamesGood, linked, wellFormed}
+use Rattle.rules.specs.Words.{sameStatement, State, fresh}
+use Rattle.rules.specs.WellFormed.{isMask, clocksInOrder, lockGood, statementGood, tallyGood, sameTally, talliesThere, blamesGood, linked, wellFormed}
+use Rattle.rules.proofs.Bounds.{views-some}
 use Rattle.rules.proofs.Truths.{and-2, both}
 use Rattle.kept.specs.Parts.{WellFormed}
 use Rattle.kept.specs.Said.{Each}
@@ -33,9 +34,9 @@ unfolding wellFormed every
 parts s e =
     let h =
     every-each (goodSettings (s .settings))
-    (viewAllowed (s .view) ∷ clocksInOrder s ∷ lockGood s ∷ leb (length (s .statements)) mostStatements
-    ∷ leb (length (s .tallies)) mostTallies ∷ all (statementGood s) (s .statements) ∷ distinct sameStatement (s .statements)
-    ∷ all (tallyGood (s .settings)) (s .tallies) ∷ distinct sameBlock (s .tallies) ∷ all (talliesThere (s .tallies)) (s .statements)
+    (viewAllowed (s .settings) (s .view) ∷ clocksInOrder s ∷ lockGood s ∷ leb (length (s .statements)) (mostStatements (s .settings .size))
+    ∷ leb (length (s .tallies)) (mostTallies (s .settings .size)) ∷ all (statementGood s) (s .statements) ∷ distinct sameStatement (s .statements)
+    ∷ all (tallyGood (s .settings)) (s .tallies) ∷ distinct sameTally (s .tallies) ∷ all (talliesThere (s .tallies)) (s .statements)
     ∷ blamesGood (s .settings) (s .blames) ∷ linked (s .statements) 0 0 (s .log) ∷ []) e in
     let rest = h .1 .1 .1 .1 .1 .1 in
     record {
@@ -65,8 +66,8 @@ unfolding wellFormed
 whole {s} w =
     let f = w .formed in
     let t = f .tables in
-    let n = le-leb (length (s .statements)) mostStatements (w .fewStatements) in
-    let m = le-leb (length (s .tallies)) mostTallies (w .fewTallies) in
+    let n = le-leb (length (s .statements)) (mostStatements (s .settings .size)) (w .fewStatements) in
+    let m = le-leb (length (s .tallies)) (mostTallies (s .settings .size)) (w .fewTallies) in
     simp (f .settings, f .view, f .clocks, f .lock, n, m, t .statements, t .statementsDiffer, t .tallies, t .talliesDiffer, t .opened, f .blames, t .log)
 
 -- ---- a fresh state
@@ -83,12 +84,12 @@ fresh-formed g h =
       formed =
           record {
             settings = h;
-            view = refl;
+            view = le-leb 1 (lastView (g .size)) (views-some (g .size));
             clocks = refl;
             lock = refl;
             tables =
                 record { statements = refl; statementsDiffer = refl; tallies = refl; talliesDiffer = refl; opened = refl; log = refl };
-            blames = zeros g lastView;
+            blames = both (eq-eqb _ (lastView (g .size)) (length-replicate (lastView (g .size)) 0)) (zeros g (lastView (g .size)));
           };
       fewStatements = omega arith;
       fewTallies = omega arith;

@@ -8,8 +8,8 @@ use Rattle.rules.specs.Limits.{mostStatements, mostTallies}
 use Rattle.rules.specs.Lists.{all, distinct}
 use Rattle.rules.specs.Sizes.{Settings, goodSettings}
 use Rattle.rules.specs.Messages.{viewAllowed}
-use Rattle.rules.specs.Words.{Statement, sameStatement, Tally, sameBlock, State}
-use Rattle.rules.specs.WellFormed.{clocksInOrder, lockGood, statementGood, tallyGood, talliesThere, blamesGood, linked}
+use Rattle.rules.specs.Words.{Statement, sameStatement, Tally, State}
+use Rattle.rules.specs.WellFormed.{clocksInOrder, lockGood, statementGood, tallyGood, sameTally, talliesThere, blamesGood, linked}
 
 -- (6) to (9) and (11): the two tables, and the log that rests on them; when a statement is good, the clock and the settings say
 pub record Tables (good : Statement → Bool) (g : Settings) (xs : List Statement) (ts : List Tally) (l : List ℕ) : Type 0 where
@@ -19,7 +19,7 @@ pub record Tables (good : Statement → Bool) (g : Settings) (xs : List Statemen
   pub statementsDiffer : distinct sameStatement xs ≡ true
   -- (8)
   pub tallies : all (tallyGood g) ts ≡ true
-  pub talliesDiffer : distinct sameBlock ts ≡ true
+  pub talliesDiffer : distinct sameTally ts ≡ true
   -- (9)
   pub opened : all (talliesThere ts) xs ≡ true
   -- (11)
@@ -30,7 +30,7 @@ pub record Formed (s : State) : Type 0 where
   -- (1)
   pub settings : goodSettings (s .settings) ≡ true
   -- (2)
-  pub view : viewAllowed (s .view) ≡ true
+  pub view : viewAllowed (s .settings) (s .view) ≡ true
   -- (3)
   pub clocks : clocksInOrder s ≡ true
   -- (4)
@@ -42,5 +42,5 @@ pub record Formed (s : State) : Type 0 where
 pub record WellFormed (s : State) : Type 0 where
   pub formed : Formed s
   -- (5)
-  pub fewStatements : length (s .statements) ≤ mostStatements
-  pub fewTallies : length (s .tallies) ≤ mostTallies
+  pub fewStatements : length (s .statements) ≤ mostStatements (s .settings .size)
+  pub fewTallies : length (s .tallies) ≤ mostTallies (s .settings .size)

@@ -14,6 +14,7 @@ use Rattle.rules.specs.Sizes.{Settings}
 use Rattle.rules.specs.Words.{Statement, Tally, Phase, inView, waiting, stopped, full, split, clock, State}
 use Rattle.rules.specs.Inputs.{isBlock}
 use Rattle.rules.specs.WellFormed.{isMask, blamesGood, linked, wellFormed}
+use Rattle.rules.proofs.Bounds.{statements-most, tallies-most}
 use Rattle.rules.proofs.Tests.{no-bool, and-left}
 use Rattle.rules.proofs.Truths.{and-3}
 use Rattle.rules.proofs.Allowed.{Sizes, mask-lt, mask-small}
@@ -62,6 +63,8 @@ module _ {s : State} (w : WellFormed s) where
       let m = w .fewStatements in
       let n = w .fewTallies in
       let l = log-length w in
+      let ms = statements-most (s .settings .size) in
+      let ts = tallies-most (s .settings .size) in
       (phase-fits (s .phase) refl, (omega arith, (omega arith, (omega arith, (omega arith, (omega arith, (omega arith, (omega arith, (omega arith, (lock-of f .name, (omega arith, (omega arith, (omega arith, (omega arith, tt))))))))))))))
 
   statement-fits : (x : Statement) → Mem x (s .statements) → Fit statementFormat (statementValues x)
@@ -88,21 +91,21 @@ module _ {s : State} (w : WellFormed s) where
 
 -- ---- the blame masks
 
-pub record Masks (ms : List ℕ) : Type 0 where
+pub record Masks (g : Settings) (ms : List ℕ) : Type 0 where
   pub fit : Each (λ m. Fit maskFormat (m ∷ [])) (drop 1 ms)
-  pub views : length (drop 1 ms) ≡ lastView
+  pub views : length (drop 1 ms) ≡ lastView (g .size)
   pub none : 0 ∷ drop 1 ms ≡ ms
 
-masks : (g : Settings) → Sizes g → (ms : List ℕ) → blamesGood g ms ≡ true → Masks ms
+masks : (g : Settings) → Sizes g → (ms : List ℕ) → blamesGood g ms ≡ true → Masks g ms
 unfolding blamesGood
 masks g k [] e = no-bool (sym e)
 masks g k (m ∷ ms) e =
-    let (first, views, fit) = and-3 (eqb m 0) (eqb (length ms) lastView) (all (isMask g) ms) e in
+    let (first, views, fit) = and-3 (eqb m 0) (eqb (length ms) (lastView (g .size))) (all (isMask g) ms) e in
     record {
       fit =
           each-mem (λ n. Fit maskFormat (n ∷ [])) ms
           (λ n i. let l = mask-small {m = n} k (mask-lt g n (all-mem (isMask g) fit i)) in (omega arith, tt));
-      views = eqb-true (length ms) lastView views;
+      views = eqb-true (length ms) (lastView (g .size)) views;
       none = ap (_∷ ms) (sym (eqb-true m 0 first));
     }
 

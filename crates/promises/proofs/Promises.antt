@@ -1,62 +1,115 @@
--- Demand 3 of the calls: whatever bytes the hosts' stores and out buffers hold, the logs in the stores of sound stations agree, and a
--- vote that lasts is in the log. Assumes nothing.
-use Prim.Native.Nat.{ℕ, suc, _+_, _*_, _<_}
-use mathlib.Core.Path.{_≡_, subst, subst₂, sym, ap, _∙_}
+-- Demand 3 of the calls, with every premise and every conclusion about stores and bytes: whatever bytes the stores and out buffers of
+-- sound stations hold at first, the logs in the stores agree, the committed fields written are those logs, and a vote that lasts is in
+-- the log. Assumes nothing.
+use Prim.Native.Nat.{ℕ, zero, suc, _+_, _*_, _≤_, _<_}
+use native.Mathlib.Omega.{arith}
+use mathlib.Core.Path.{_≡_, subst, subst₂, refl, sym, ap, ap₂, _∙_}
 use mathlib.Core.Bool.{true}
 use mathlib.Core.List.{List, IsPrefix}
-use mathlib.Core.Logic.{_⊎_}
+use Rattle.rules.specs.Limits.{Size}
 use Rattle.rules.specs.Sizes.{goodSettings}
-use Rattle.rules.specs.WellFormed.{wellFormed}
-use Rattle.rules.specs.Messages.{outgoing, propose, vote, toAll}
+use Rattle.rules.specs.Messages.{propose, vote, Effect, toAll}
 use Rattle.rules.specs.Words.{State, inView}
-use Rattle.agreement.specs.Schedule.{Event, commonTick, settingsOf, at, clock, out, Says, Sound, Schedule, Linked, lineage}
+use Rattle.rules.specs.Inputs.{reports}
+use Rattle.rules.specs.Refusals.{running}
+use Rattle.agreement.specs.Schedule.{Event, commonTick, settingsOf, clock, Run, at, out, run, Says, Sound, GoodSettings, ProperBuffers, SoundRun, Schedule, Linked, lineage, reportsIn, reported, OneBegins}
 use Rattle.agreement.proofs.Whole.{settings-alike}
-use Rattle.agreement.proofs.Theorems.{logs-agree, one-clerk, vote-commits}
-use Rattle.store.specs.Decode.{names, stateFrom, stateOf, encode}
-use Rattle.oneform.proofs.OneForm.{encoded-left}
-use Rattle.promises.specs.Run.{Lends, storeAt, saidAt}
-use Rattle.promises.proofs.Carried.{whole-at, store-carried, said-carried}
+use Rattle.agreement.proofs.Alike.{says-alike, schedule-alike}
+use Rattle.agreement.proofs.Theorems.{sound-run, logs-agree, one-clerk, vote-commits, clock-held}
+use Rattle.store.specs.Decode.{names, stateFrom, stateOf}
+use Rattle.promises.specs.Heard.{heard}
+use Rattle.promises.specs.Run.{storeAt, saidAt, wroteBy, callsRun, Lends}
+use Rattle.promises.proofs.Carried.{state-carried, heard-carried, reports-carried}
 
--- the log of a state's bytes
-encoded-log : (s : State) → wellFormed s ≡ true → names (encode s) ≡ s .log
+-- a store's log is that of its state
+state-log : (b : List ℕ) → names b ≡ stateOf b .log
 unfolding stateOf stateFrom
-encoded-log s w = ap (λ (x : State). x .log) (encoded-left s w .is)
+state-log b = refl
 
-module _ (n D : ℕ) (event : ℕ → Event) (faulty : ℕ) (heightOf parentOf : ℕ → ℕ) (X : Schedule n D event faulty heightOf parentOf)
-    (room : ℕ → List ℕ) (lent : ℕ → ℕ → List ℕ) (L : Lends n D event room lent) where
-  -- the settings are good for every station of the group
-  good-of : (i : ℕ) → i < n → goodSettings (settingsOf n D i) ≡ true
-  good-of i l = settings-alike n D i (X .premises .settings) l
+module _ (size : Size) (n D : ℕ) (event : ℕ → Event) (room : ℕ → List ℕ) (lent : ℕ → ℕ → List ℕ) (faulty : ℕ) (L : Lends size n D event room lent faulty) where
+  abbrev C : Run
+  C = callsRun size n D event room lent
 
-  -- the log that a station's store holds is the rules'
-  pub log-carried : (i : ℕ) → i < n → (k : ℕ) → names (storeAt n D event room lent i k) ≡ at n D event i k .log
-  log-carried i l k =
-      let s = at n D event i k in
-      ap names (store-carried n D event faulty (X .premises .lent) room lent L i (good-of i l) k)
-      ∙ encoded-log s (whole-at n D event faulty (X .premises .lent) room lent L i (good-of i l) k)
+  abbrev R : Run
+  R = run size n D event
 
-  -- what the call of an event writes is what the rules say
-  pub bytes-carried : (i : ℕ) → i < n → (k : ℕ) → saidAt n D event room lent i k ≡ outgoing (out n D event i k)
-  bytes-carried i l k = said-carried n D event faulty (X .premises .lent) room lent L i (good-of i l) k
+  -- ---- sound stations hold and say what the rules say
 
-  -- Theorem A of the calls: of the logs in the stores of two sound stations, at whatever moments, one begins the other
-  pub stores-agree : (i j : ℕ) → Sound n D event faulty i → Sound n D event faulty j → (k l : ℕ)
-      → IsPrefix (names (storeAt n D event room lent i k)) (names (storeAt n D event room lent j l))
-      ⊎ IsPrefix (names (storeAt n D event room lent j l)) (names (storeAt n D event room lent i k))
-  stores-agree i j hi hj k l =
-      subst₂ (λ (a b : List ℕ). IsPrefix a b ⊎ IsPrefix b a) (sym (log-carried i (hi .0) k)) (sym (log-carried j (hj .0) l))
-      (logs-agree n D event faulty heightOf parentOf X i j hi hj k l)
+  module _ (settings : GoodSettings C) (proper : ProperBuffers C) where
+    good-of : (i : ℕ) → Sound C faulty i → goodSettings (settingsOf size n D i) ≡ true
+    good-of i ok = settings-alike size n D i settings (ok .0)
 
-  -- and each is linked by parent to genesis
-  pub stores-linked : (i : ℕ) → Sound n D event faulty i → (k : ℕ) → Linked parentOf 0 (names (storeAt n D event room lent i k))
-  stores-linked i hi k = subst (Linked parentOf 0) (sym (log-carried i (hi .0) k)) (one-clerk n D event faulty heightOf parentOf X i hi k .0)
+    pub same-states : (i : ℕ) → Sound C faulty i → (k : ℕ) → stateOf (storeAt size n D event room lent i k) ≡ at size n D event i k
+    same-states i ok k = state-carried size n D event proper room lent i (good-of i ok) (L .store i ok) (L .out i ok) k
 
-  -- Theorem B of the calls: a sound station that says a propose and its vote at event j, at clock t, and is in that view as the tick to
-  -- t+2D+1 begins, has that block and all its ancestors in the log of its store after that tick
-  pub store-commits : (r : ℕ) → Sound n D event faulty r → (j v h b p m a : ℕ)
-      → Says n D event r j (toAll (propose v h b p m a)) → Says n D event r j (toAll (vote v h b r))
-      → (k : ℕ) → event k ≡ commonTick → clock n D event r k ≡ clock n D event r (suc j) + 2 * D
-      → at n D event r k .phase ≡ inView → at n D event r k .view ≡ v → IsPrefix (lineage parentOf h b) (names (storeAt n D event room lent r (suc k)))
-  store-commits r hr j v h b p m a s w k e d ph vw =
-      subst (λ (l : List ℕ). IsPrefix (lineage parentOf h b) l) (sym (log-carried r (hr .0) (suc k)))
-      (vote-commits n D event faulty heightOf parentOf X r hr j v h b p m a s w k e d ph vw)
+    pub same-words : (i : ℕ) → Sound C faulty i → (k : ℕ) → heard (saidAt size n D event room lent i k) ≡ out size n D event i k
+    same-words i ok k = heard-carried size n D event proper room lent i (good-of i ok) (L .store i ok) (L .out i ok) k
+
+    pub same-reports : (i : ℕ) → Sound C faulty i → (k : ℕ) → reportsIn (heard (wroteBy size n D event room lent i k)) ≡ reported R i k
+    same-reports i ok k = reports-carried size n D event proper room lent i (good-of i ok) (L .store i ok) (L .out i ok) k
+
+  module _ (heightOf parentOf : ℕ → ℕ) where
+    -- a schedule of the calls is one of the rules, and back
+    pub to-rules : Schedule C faulty heightOf parentOf → Schedule R faulty heightOf parentOf
+    to-rules X =
+        let P = X .premises in
+        schedule-alike C (at size n D event) (out size n D event) faulty heightOf parentOf (same-states (P .settings) (P .lent)) (same-words (P .settings) (P .lent)) X
+
+    pub to-calls : Schedule R faulty heightOf parentOf → Schedule C faulty heightOf parentOf
+    to-calls X =
+        let P = X .premises in
+        schedule-alike R (C .state) (C .said) faulty heightOf parentOf
+        (λ i ok k. sym (same-states (P .settings) (P .lent) i ok k)) (λ i ok k. sym (same-words (P .settings) (P .lent) i ok k)) X
+
+    module _ (X : Schedule C faulty heightOf parentOf) where
+      -- the state that a station's store holds, and the log in it
+      abbrev holds : ℕ → ℕ → State
+      holds i k = stateOf (storeAt size n D event room lent i k)
+
+      abbrev log : ℕ → ℕ → List ℕ
+      log i k = names (storeAt size n D event room lent i k)
+
+      states : (i : ℕ) → Sound C faulty i → (k : ℕ) → holds i k ≡ at size n D event i k
+      states = same-states (X .premises .settings) (X .premises .lent)
+
+      logs : (i : ℕ) → Sound C faulty i → (k : ℕ) → log i k ≡ at size n D event i k .log
+      logs i ok k = state-log (storeAt size n D event room lent i k) ∙ ap (λ (s : State). s .log) (states i ok k)
+
+      spoken : (i k : ℕ) (e : Effect) → Sound C faulty i → Says C i k e → Says R i k e
+      spoken = says-alike C (at size n D event) (out size n D event) faulty heightOf parentOf states (same-words (X .premises .settings) (X .premises .lent))
+
+      clocks : (i : ℕ) → Sound C faulty i → (k : ℕ) → clock event i k ≡ holds i k .clock
+      clocks i ok k = sym (ap (λ (s : State). s .clock) (states i ok k) ∙ clock-held size n D event faulty heightOf parentOf (to-rules X) i ok k)
+
+      -- Theorem C of the calls: the store of a sound station never holds one that is stopped
+      pub stores-run : SoundRun C faulty
+      stores-run i ok k =
+          subst (λ (s : State). running s ≡ true) (sym (states i ok k)) (sound-run size n D event faulty heightOf parentOf (to-rules X) i ok k)
+
+      -- Theorem A of the calls: of the logs in the stores of two sound stations, at whatever moments, one begins the other
+      pub stores-agree : (i j : ℕ) → Sound C faulty i → Sound C faulty j → (k l : ℕ) → OneBegins (log i k) (log j l)
+      stores-agree i j hi hj k l =
+          subst₂ (λ (a b : List ℕ). OneBegins a b) (sym (logs i hi k)) (sym (logs j hj l))
+          (logs-agree size n D event faulty heightOf parentOf (to-rules X) i j hi hj k l)
+
+      -- each is linked by parent to genesis
+      pub stores-linked : (i : ℕ) → Sound C faulty i → (k : ℕ) → Linked parentOf 0 (log i k)
+      stores-linked i ok k = subst (Linked parentOf 0) (sym (logs i ok k)) (one-clerk size n D event faulty heightOf parentOf (to-rules X) i ok k .0)
+
+      -- "reported once", in order: the committed fields in all bytes that a sound station's calls wrote to the out buffers are the log in
+      -- its store, name by name, with heights 1, 2, 3, ..
+      pub stores-reported : (i : ℕ) → Sound C faulty i → (k : ℕ) → reportsIn (heard (wroteBy size n D event room lent i k)) ≡ reports 1 (log i k)
+      stores-reported i ok k =
+          same-reports (X .premises .settings) (X .premises .lent) i ok k
+          ∙ one-clerk size n D event faulty heightOf parentOf (to-rules X) i ok k .1 ∙ ap (reports 1) (sym (logs i ok k))
+
+      -- Theorem B of the calls: a sound station whose call of event j wrote a propose and its vote to all, and whose store at 2D ticks
+      -- later is in that view, has that block and all its ancestors in the log of its store after the next tick
+      pub store-commits : (r : ℕ) → Sound C faulty r → (j v h b p m a : ℕ) → Says C r j (toAll (propose v h b p m a)) → Says C r j (toAll (vote v h b r))
+          → (k : ℕ) → event k ≡ commonTick → holds r k .clock ≡ holds r (suc j) .clock + 2 * D → holds r k .phase ≡ inView → holds r k .view ≡ v
+          → IsPrefix (lineage parentOf h b) (log r (suc k))
+      store-commits r ok j v h b p m a s w k e d ph vw =
+          let here = states r ok k in
+          subst (λ (l : List ℕ). IsPrefix (lineage parentOf h b) l) (sym (logs r ok (suc k)))
+          (vote-commits size n D event faulty heightOf parentOf (to-rules X) r ok j v h b p m a (spoken r j _ ok s) (spoken r j _ ok w) k e
+          (clocks r ok k ∙ d ∙ ap (_+ 2 * D) (sym (clocks r ok (suc j)))) (sym (ap (λ (s : State). s .phase) here) ∙ ph) (sym (ap (λ (s : State). s .view) here) ∙ vw))

@@ -20,7 +20,7 @@ use Rattle.promises.proofs.Carried.{called-encoded, answered-store}
 
 -- one law for the three calls: f keeps what is well formed
 left-formed : (f : State → Outcome) (b o : List ℕ) (s : State) → ((t : State) → wellFormed t ≡ true → wellFormed (f t .next) ≡ true)
-    → places.Bytes b → leastOut ≤ length o → decode b ≡ some s → decode (called f b o .store) ≡ some (f s .next)
+    → places.Bytes b → leastOut (s .settings .size) ≤ length o → decode b ≡ some s → decode (called f b o .store) ≡ some (f s .next)
 left-formed f b o s keeps hb l e =
     let p = decoded-bytes b s hb e in
     let w = keeps s (p .1) in
@@ -28,14 +28,14 @@ left-formed f b o s keeps hb l e =
     ∙ ap (λ c. decode (c .store)) (called-encoded f s o (p .1) l)
     ∙ ap decode (answered-store (f s) o) ∙ encoded (f s .next) w .1
 
-pub step-formed : (bs b o : List ℕ) (s : State) → Bytes bs → places.Bytes b → leastOut ≤ length o → decode b ≡ some s → decode (stepCalled bs b o .store) ≡ some (step bs s .next)
+pub step-formed : (bs b o : List ℕ) (s : State) → Bytes bs → places.Bytes b → leastOut (s .settings .size) ≤ length o → decode b ≡ some s → decode (stepCalled bs b o .store) ≡ some (step bs s .next)
 unfolding stepCalled
 step-formed bs b o s h hb l e = left-formed (step bs) b o s (λ t w. step-whole bs t h w) hb l e
 
-pub tick-formed : (b o : List ℕ) (s : State) → places.Bytes b → leastOut ≤ length o → decode b ≡ some s → decode (tickCalled b o .store) ≡ some (tick s .next)
+pub tick-formed : (b o : List ℕ) (s : State) → places.Bytes b → leastOut (s .settings .size) ≤ length o → decode b ≡ some s → decode (tickCalled b o .store) ≡ some (tick s .next)
 unfolding tickCalled
 tick-formed b o s hb l e = left-formed tick b o s tick-whole hb l e
 
-pub offer-formed : (x : ℕ) (b o : List ℕ) (s : State) → x < 256 ^ 32 → places.Bytes b → leastOut ≤ length o → decode b ≡ some s
+pub offer-formed : (x : ℕ) (b o : List ℕ) (s : State) → x < 256 ^ 32 → places.Bytes b → leastOut (s .settings .size) ≤ length o → decode b ≡ some s
     → decode (called (offer x) b o .store) ≡ some (offer x s .next)
 offer-formed x b o s h hb l e = left-formed (offer x) b o s (λ t w. offer-whole x t h w) hb l e

@@ -2,15 +2,17 @@
 use Prim.Native.Nat.{ℕ, zero, suc, _%_, _≤_, _^_}
 use mathlib.Core.Path.{_≡_}
 use mathlib.Core.Bool.{true, false}
-use mathlib.Core.List.{List, [], _∷_}
+use mathlib.Core.List.{List, [], _++_}
 use lib.ListN.{length, take}
 use lib.Dec.{eqb}
-use Rattle.rules.specs.Limits.{leastOut}
+use Rattle.rules.specs.Limits.{Size, leastOut}
 use Rattle.rules.specs.Lists.{unbe}
-use Rattle.agreement.specs.Schedule.{Event, idle, commonTick, tickOf, given, offeredTo}
+use Rattle.agreement.specs.Schedule.{Event, idle, commonTick, tickOf, given, offeredTo, Run, Sound}
 use Rattle.store.specs.Layout.{storeLength}
+use Rattle.store.specs.Decode.{stateOf}
 use Rattle.store.specs.Fresh.{freshly}
 use Rattle.calls.specs.Calls.{Called, stepCalled, tickCalled, offerCalled}
+use Rattle.promises.specs.Heard.{heard}
 
 -- no call is made
 unfoldable pub untouched : List ℕ → List ℕ → Called
@@ -30,12 +32,7 @@ unfoldable pub written : Called → List ℕ
 written c = take (c .result % 2 ^ 32) (c .out)
 
 -- the bytes that a store is made of, and the out buffer lent to station i for event k
-module _ (n D : ℕ) (event : ℕ → Event) (room : ℕ → List ℕ) (lent : ℕ → ℕ → List ℕ) where
-  -- "hosts lend proper buffers"
-  pub record Lends : Type 0 where
-    pub store : (i : ℕ) → length (room i) ≡ storeLength
-    pub out : (i k : ℕ) → leastOut ≤ length (lent i k)
-
+module _ (size : Size) (n D : ℕ) (event : ℕ → Event) (room : ℕ → List ℕ) (lent : ℕ → ℕ → List ℕ) where
   -- station i's store at moment k: fresh, then as each call leaves it
   unfoldable pub storeAt : ℕ → ℕ → List ℕ
   unfolding freshly calls
@@ -46,3 +43,19 @@ module _ (n D : ℕ) (event : ℕ → Event) (room : ℕ → List ℕ) (lent : �
   unfoldable pub saidAt : ℕ → ℕ → List ℕ
   unfolding written calls storeAt
   saidAt i k = written (calls i (event k) (storeAt i k) (lent i k))
+
+  -- all bytes that the calls before moment k wrote, one after another
+  unfoldable pub wroteBy : ℕ → ℕ → List ℕ
+  unfolding saidAt
+  wroteBy i zero = []
+  wroteBy i (suc k) = wroteBy i k ++ saidAt i k
+
+  -- the run of the calls: a station holds what its store holds, and says what the bytes that its calls wrote say
+  abbrev pub callsRun : Run
+  callsRun =
+      record { size = size; n = n; D = D; event = event; state = λ i k. stateOf (storeAt i k); said = λ i k. heard (saidAt i k) }
+
+  -- "hosts lend proper buffers": sound stations' hosts
+  pub record Lends (faulty : ℕ) : Type 0 where
+    pub store : (i : ℕ) → Sound callsRun faulty i → length (room i) ≡ storeLength size
+    pub out : (i : ℕ) → Sound callsRun faulty i → (k : ℕ) → leastOut size ≤ length (lent i k)

@@ -8,11 +8,12 @@ use mathlib.Core.Bool.{true}
 use lib.Dec.{leb, ltb, eqb, lit≤}
 use lib.Pow.{pow-lt}
 use borrow.Author.Tests.{ltb-true, leb-true, eqb-true, eqb-false, lt-ltb, le-leb, ne-eqb}
-use Rattle.rules.specs.Limits.{leastStations, mostStations, leastDelay, mostDelay, firstView, lastView, lastHeight}
+use Rattle.rules.specs.Limits.{Size, leastStations, mostStations, leastDelay, mostDelay, firstView, lastView, lastHeight, lastViewLarge}
 use Rattle.rules.specs.Lists.{iff, within}
 use Rattle.rules.specs.Sizes.{Settings, goodSettings, leader, only, quorum}
 use Rattle.rules.specs.Messages.{Message, newView, propose, vote, blame, blameSet, status, viewAllowed, blockAllowed, maskAllowed, certificateAllowed, allowed}
 use Rattle.rules.specs.WellFormed.{isName, isMask}
+use Rattle.rules.proofs.Bounds.{views-most}
 use Rattle.rules.proofs.Tests.{by-bool}
 use Rattle.rules.proofs.Truths.{and-2, and-3, and-4, and-5, and-6, both}
 
@@ -69,13 +70,13 @@ only-lt g i h = pow-lt h
 
 -- ---- views, blocks, certificates
 
-pub view-within : (v : ℕ) → viewAllowed v ≡ true → (firstView ≤ v) × (v ≤ lastView)
+pub view-within : (g : Settings) (v : ℕ) → viewAllowed g v ≡ true → (firstView ≤ v) × (v ≤ lastView (g .size)) × (v ≤ lastViewLarge)
 unfolding viewAllowed
-view-within v e = within-le firstView lastView v e
+view-within g v e = let t = within-le firstView (lastView (g .size)) v e in (t .0, t .1, omega (arith, views-most (g .size)))
 
-pub within-view : (v : ℕ) → firstView ≤ v → v ≤ lastView → viewAllowed v ≡ true
+pub within-view : (g : Settings) (v : ℕ) → firstView ≤ v → v ≤ lastView (g .size) → viewAllowed g v ≡ true
 unfolding viewAllowed
-within-view v h k = le-within firstView lastView v h k
+within-view g v h k = le-within firstView (lastView (g .size)) v h k
 
 pub name-lt : (b : ℕ) → isName b ≡ true → b < 256 ^ 32
 unfolding isName
@@ -86,8 +87,8 @@ unfolding isName
 lt-name b h = lt-ltb b (256 ^ 32) h
 
 -- a view's number is below every name's limit
-pub view-name : {v : ℕ} → v ≤ lastView → v < 256 ^ 32
-view-name h = lt-of-lt-of-le {m = suc lastView} (omega arith) (lit≤ tt)
+pub view-name : (z : Size) {v : ℕ} → v ≤ lastView z → v < 256 ^ 32
+view-name z h = lt-of-lt-of-le {m = 257} (omega (arith, views-most z)) (lit≤ tt)
 
 pub height-le : (h b : ℕ) → blockAllowed h b ≡ true → h ≤ lastHeight
 unfolding blockAllowed
@@ -113,46 +114,48 @@ module _ (g : Settings) (m : ℕ) where
 
   -- a certificate is genesis in view 0, or of a view with a quorum
   pub certificate-cases : (h c : ℕ) → certificateAllowed g h c m ≡ true
-      → ((c ≡ 0) × (h ≡ 0) × (m ≡ 0)) ⊎ ((firstView ≤ c) × (c ≤ lastView) × (maskAllowed g m ≡ true))
+      → ((c ≡ 0) × (h ≡ 0) × (m ≡ 0)) ⊎ ((firstView ≤ c) × (c ≤ lastView (g .size)) × (maskAllowed g m ≡ true))
   unfolding certificateAllowed
   certificate-cases h c e =
       by-bool (eqb c 0)
       (λ q. let t = and-2 (eqb h 0) (eqb m 0) (rw (q, certificateAllowed) at e) in inl (eqb-true c 0 q, eqb-true h 0 (t .0), eqb-true m 0 (t .1)))
       (λ q.
-      let t = and-2 (leb c lastView) (maskAllowed g m) (rw (q, certificateAllowed) at e) in
+      let t = and-2 (leb c (lastView (g .size))) (maskAllowed g m) (rw (q, certificateAllowed) at e) in
       let n = eqb-false c 0 q in
-      inr (omega arith, leb-true c lastView (t .0), t .1))
+      inr (omega arith, leb-true c (lastView (g .size)) (t .0), t .1))
 
-  pub certificate-made : (h c : ℕ) → firstView ≤ c → c ≤ lastView → maskAllowed g m ≡ true → certificateAllowed g h c m ≡ true
+  pub certificate-made : (h c : ℕ) → firstView ≤ c → c ≤ lastView (g .size) → maskAllowed g m ≡ true → certificateAllowed g h c m ≡ true
   unfolding certificateAllowed
-  certificate-made h c l k a = rw (ne-eqb c 0 (λ e. omega arith), certificateAllowed, le-leb c lastView k) a
+  certificate-made h c l k a = rw (ne-eqb c 0 (λ e. omega arith), certificateAllowed, le-leb c (lastView (g .size)) k) a
 
   pub certificate-mask : (h c : ℕ) → certificateAllowed g h c m ≡ true → m < 2 ^ g .n
   certificate-mask h c e = elim (certificate-cases h c e) [ inl t ↦ rw (t .2) (none-lt g) | inr t ↦ mask-parts (t .2) .0 ]
 
-  pub certificate-view : (h c : ℕ) → certificateAllowed g h c m ≡ true → c ≤ lastView
-  certificate-view h c e = elim (certificate-cases h c e) [ inl t ↦ omega arith | inr t ↦ t .1 ]
+  pub certificate-view : (h c : ℕ) → certificateAllowed g h c m ≡ true → (c ≤ lastView (g .size)) × (c ≤ lastViewLarge)
+  certificate-view h c e =
+      let w = views-most (g .size) in
+      elim (certificate-cases h c e) [ inl t ↦ (omega arith, omega arith) | inr t ↦ (t .1, omega arith) ]
 
 -- ---- messages
 
 abbrev pub Rights : Settings → Message → Type 0
-Rights g (newView v h b c m a) = (viewAllowed v ≡ true) × (blockAllowed h b ≡ true) × (c < v) × (certificateAllowed g h c m ≡ true) × (a ≡ leader g v)
+Rights g (newView v h b c m a) = (viewAllowed g v ≡ true) × (blockAllowed h b ≡ true) × (c < v) × (certificateAllowed g h c m ≡ true) × (a ≡ leader g v)
 Rights g (propose v h b p m a) =
-    (viewAllowed v ≡ true) × (1 ≤ h) × (blockAllowed h b ≡ true) × (blockAllowed (h - 1) p ≡ true) × (maskAllowed g m ≡ true) × (a ≡ leader g v)
-Rights g (vote v h b a) = (viewAllowed v ≡ true) × (blockAllowed h b ≡ true) × (a < g .n)
-Rights g (blame v a) = (viewAllowed v ≡ true) × (a < g .n)
-Rights g (blameSet v m) = (viewAllowed v ≡ true) × (maskAllowed g m ≡ true)
+    (viewAllowed g v ≡ true) × (1 ≤ h) × (blockAllowed h b ≡ true) × (blockAllowed (h - 1) p ≡ true) × (maskAllowed g m ≡ true) × (a ≡ leader g v)
+Rights g (vote v h b a) = (viewAllowed g v ≡ true) × (blockAllowed h b ≡ true) × (a < g .n)
+Rights g (blame v a) = (viewAllowed g v ≡ true) × (a < g .n)
+Rights g (blameSet v m) = (viewAllowed g v ≡ true) × (maskAllowed g m ≡ true)
 Rights g (status h b c m) = (blockAllowed h b ≡ true) × (certificateAllowed g h c m ≡ true)
 
 pub allowed-rights : (g : Settings) (m : Message) → allowed g m ≡ true → Rights g m
 unfolding allowed
 allowed-rights g (newView v h b c m a) e =
-    let t = and-5 (viewAllowed v) (blockAllowed h b) (ltb c v) (certificateAllowed g h c m) (eqb a (leader g v)) e in
+    let t = and-5 (viewAllowed g v) (blockAllowed h b) (ltb c v) (certificateAllowed g h c m) (eqb a (leader g v)) e in
     (t .0, t .1, ltb-true c v (t .2), t .3, eqb-true a (leader g v) (t .4))
 allowed-rights g (propose v h b p m a) e =
-    let t = and-6 (viewAllowed v) (leb 1 h) (blockAllowed h b) (blockAllowed (h - 1) p) (maskAllowed g m) (eqb a (leader g v)) e in
+    let t = and-6 (viewAllowed g v) (leb 1 h) (blockAllowed h b) (blockAllowed (h - 1) p) (maskAllowed g m) (eqb a (leader g v)) e in
     (t .0, leb-true 1 h (t .1), t .2, t .3, t .4, eqb-true a (leader g v) (t .5))
-allowed-rights g (vote v h b a) e = let t = and-3 (viewAllowed v) (blockAllowed h b) (ltb a (g .n)) e in (t .0, t .1, ltb-true a (g .n) (t .2))
-allowed-rights g (blame v a) e = let t = and-2 (viewAllowed v) (ltb a (g .n)) e in (t .0, ltb-true a (g .n) (t .1))
-allowed-rights g (blameSet v m) e = and-2 (viewAllowed v) (maskAllowed g m) e
+allowed-rights g (vote v h b a) e = let t = and-3 (viewAllowed g v) (blockAllowed h b) (ltb a (g .n)) e in (t .0, t .1, ltb-true a (g .n) (t .2))
+allowed-rights g (blame v a) e = let t = and-2 (viewAllowed g v) (ltb a (g .n)) e in (t .0, ltb-true a (g .n) (t .1))
+allowed-rights g (blameSet v m) e = and-2 (viewAllowed g v) (maskAllowed g m) e
 allowed-rights g (status h b c m) e = and-2 (blockAllowed h b) (certificateAllowed g h c m) e

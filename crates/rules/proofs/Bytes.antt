@@ -13,6 +13,10 @@ pub data Bytes : List ℕ → Type 0 where
   none : Bytes []
   one : {b : ℕ} {bs : List ℕ} → b < 256 → Bytes bs → Bytes (b ∷ bs)
 
+pub bytes-split : (s : List ℕ) {r : List ℕ} → Bytes (s ++ r) → Bytes s × Bytes r
+bytes-split [] h = (none, h)
+bytes-split (x ∷ s) (one h hs) = let k = bytes-split s hs in (one h (k .0), k .1)
+
 pub pow-pos : (w : ℕ) → 0 < 256 ^ w
 pow-pos zero = omega arith
 pow-pos (suc w) = let h = pow-pos w in rw pow-suc (omega arith)

@@ -1,5 +1,5 @@
 -- What a station is handed it holds from then on, in every view and phase, and what it says to all it holds. Assumes nothing.
-use mathlib.Core.Path.{_≡_, subst, refl, sym, _∙_}
+use mathlib.Core.Path.{_≡_, subst, refl, sym, ap, _∙_}
 use Prim.Native.Nat.{ℕ, suc, _+_, _≤_, _<_}
 use native.Mathlib.Omega.{arith}
 use mathlib.Core.Bool.{Bool, true, false}
@@ -12,9 +12,9 @@ use Rattle.rules.specs.Limits.{firstView, lastView}
 use Rattle.rules.specs.Lists.{first, any, keep}
 use Rattle.rules.specs.Sizes.{Settings, leader, only, bit, quorum}
 use Rattle.rules.specs.Messages.{Message, newView, propose, vote, blame, blameSet, status, read, allowed, Effect, toAll, toOne, committed}
-use Rattle.rules.specs.Words.{Statement, message, sameStatement, conflict, Tally, ownBlock, joinCertificate, voters, State}
+use Rattle.rules.specs.Words.{Statement, message, sameStatement, conflict, Certificate, Tally, certificateOf, opened, ownBlock, joinCertificate, voters, State}
 use Rattle.rules.specs.Inputs.{saying, _▸_, withPhase, withTables, withBlames, withLog, entering, isIn, quit, belowLock, votedFor, ballot, voting, certificateJoined, stored, statement, tallied, blamesOf, blamed, blameFull, blaming, handled, reports, report, current, inOrder, votingAll}
-use Rattle.rules.specs.Refusals.{hasRoom, ifRoom, running, step}
+use Rattle.rules.specs.Refusals.{done, refused, stopping, hasRoom, ifRoom, running, step}
 use Rattle.rules.proofs.Tests.{by-bool, by-option, no-bool}
 use Rattle.rules.proofs.Truths.{and-2}
 use Rattle.rules.proofs.Searches.{All, all-append, all-map, to-all, mem-keep, first-mem}
@@ -25,7 +25,7 @@ use Rattle.rules.proofs.Moves.{Outside, arrived, fillsNow, Move, joins,
 use Rattle.rules.proofs.Kept.{blamed-here, quorum-right, moves-fixed, Kept, move-kept, moves-kept, voted-kept, votingAll-kept}
 
 -- a block in a view
-abbrev pub block : ℕ → ℕ → ℕ → Tally
+abbrev pub block : ℕ → ℕ → ℕ → Certificate
 block v h b = record { view = v; height = h; name = b; mask = 0 }
 
 -- a statement as it is read, with its kind
@@ -99,28 +99,42 @@ tallied-held : (v h b a : ℕ) (s : State) → firstView ≤ v
     → bit (voters (block v h b) (tallied (record { view = v; height = h; name = b; mask = only a }) s .now .tallies)) a ≡ 1
 unfolding tallied saying withTables joinCertificate
 tallied-held v h b a s l =
-    let t : Tally = record { view = v; height = h; name = b; mask = only a } in
+    let t : Certificate = record { view = v; height = h; name = b; mask = only a } in
     by-bool (eqb v 0) (λ e. let z = eqb-true v 0 e in absurd (omega arith))
     (λ e. rw (e, joinCertificate) (voters-joined (block v h b) t (s .tallies) a (same-block (block v h b) t refl refl refl) (only-bit a)))
 
-handled-held : (m : Message) (s : State) → allowed (s .settings) m ≡ true → length (s .blames) ≡ suc lastView → Held (s .settings) (handled m s .now) m
+handled-held : (m : Message) (s : State) → allowed (s .settings) m ≡ true → length (s .blames) ≡ suc (lastView (s .settings .size)) → Held (s .settings) (handled m s .now) m
 unfolding handled
 handled-held (newView v h b c m a) s w l = statement-held (read-as true v h b c m a) s
 handled-held (propose v h b p m a) s w l = statement-held (read-as false v h b p m a) s
-handled-held (vote v h b a) s w l = tallied-held v h b a s (view-within v (allowed-rights (s .settings) (vote v h b a) w .0) .0)
+handled-held (vote v h b a) s w l = tallied-held v h b a s (view-within (s .settings) v (allowed-rights (s .settings) (vote v h b a) w .0) .0)
 handled-held (blame v a) s w l = tt
 handled-held (blameSet v m) s w l =
     let r = allowed-rights (s .settings) (blameSet v m) w in
-    let k = view-within v (r .0) .1 in
+    let k = view-within (s .settings) v (r .0) .1 in
     blaming-held (s .settings) v m s (omega arith) (mask-parts (s .settings) m (r .1) .1)
 handled-held (status h b c m) s w l = tt
 
-pub step-held : (bs : List ℕ) (m : Message) (s : State) → running s ≡ true → read bs ≡ some m → allowed (s .settings) m ≡ true
-    → length (s .blames) ≡ suc lastView → running (step bs s .next) ≡ true → Held (s .settings) (step bs s .next) m
-unfolding step ifRoom running
-step-held bs m s r q a l =
-    rw (r, q, a, step)
-    (by-bool (hasRoom (handled m s .now)) (λ k. rw (k, ifRoom) (λ _. handled-held m s a l)) (λ k. rw (k, ifRoom) (λ e. no-bool (sym e))))
+-- who is left running by a message that can be read and is allowed took it: the answer is 0
+pub step-taken : (bs : List ℕ) (m : Message) (s : State) → running s ≡ true → read bs ≡ some m → allowed (s .settings) m ≡ true
+    → running (step bs s .next) ≡ true → step bs s .number ≡ 0
+unfolding step ifRoom running done
+step-taken bs m s r q a =
+    rw (r, q, a, step) (by-bool (hasRoom (handled m s .now)) (λ k. rw (k, ifRoom) (λ _. refl)) (λ k. rw (k, ifRoom) (λ e. no-bool (sym e))))
+
+-- what was taken is held
+pub step-held : (bs : List ℕ) (m : Message) (s : State) → read bs ≡ some m → length (s .blames) ≡ suc (lastView (s .settings .size))
+    → step bs s .number ≡ 0 → Held (s .settings) (step bs s .next) m
+unfolding step ifRoom refused stopping done
+step-held bs m s q l =
+    by-bool (running s)
+    (λ r.
+    by-bool (allowed (s .settings) m)
+    (λ a.
+    by-bool (hasRoom (handled m s .now)) (λ k. rw (r, q, a, step, k, ifRoom) (λ _. handled-held m s a l))
+    (λ k. rw (r, q, a, step, k, ifRoom) (λ e. absurd (omega arith))))
+    (λ a. rw (r, q, a, step) (λ e. absurd (omega arith))))
+    (λ r. rw (r, step) (λ e. absurd (omega arith)))
 
 -- ---- what is said to all is held
 
@@ -165,7 +179,7 @@ reports-all P h (b ∷ bs) f = (f h b, reports-all P (suc h) bs f)
 current-in : (v : ℕ) (xs : List Statement) (x : Statement) → List·Memᴰ x (keep (λ y. eqb (y .view) v) xs) → In xs x
 current-in v xs x m = mem-in xs x (mem-keep (λ (y : Statement). eqb (y .view) v) xs x m .0)
 
-move-said : {R : Outside} (s t : State) (o : List Effect) → Move R s t o → (length (s .blames) ≡ suc lastView) → (s .view ≤ lastView) → All (HeldSaid (s .settings) t) o
+move-said : {R : Outside} (s t : State) (o : List Effect) → Move R s t o → (length (s .blames) ≡ suc (lastView (s .settings .size))) → (s .view ≤ (lastView (s .settings .size))) → All (HeldSaid (s .settings) t) o
 unfolding withTables withPhase withBlames withLog entering stored votedFor ballot blamed blamesOf blameFull current
 move-said s t o (joins m u g c) l w = tt
 move-said s t o (stores x g f) l w = tt
@@ -189,12 +203,13 @@ move-said s t o (enters e c f) l w =
     all-append (HeldSaid (s .settings) t) (report s) _ (report-all (HeldSaid (s .settings) t) s (λ i m. tt))
     (votingAll-said (s .settings) ys a (to-all (In (s .statements)) ys (λ x m. mem-in (s .statements) x (mem-order a x m .0))))
 
-pub moves-said : {R : Outside} (s t : State) (o : List Effect) → Moves R s t o → (length (s .blames) ≡ suc lastView) → (t .view ≤ lastView) → All (HeldSaid (s .settings) t) o
+pub moves-said : {R : Outside} (s t : State) (o : List Effect) → Moves R s t o → (length (s .blames) ≡ suc (lastView (s .settings .size))) → (t .view ≤ (lastView (s .settings .size))) → All (HeldSaid (s .settings) t) o
 moves-said s t o here l w = tt
 moves-said s t o (more {t = u} {o = p} {p = q} a b) l w =
     let k = moves-kept a in
     let m = move-kept u t q b in
     let n = m .view in
+    let e : lastView (u .settings .size) ≡ lastView (s .settings .size) = ap (λ (g : Settings). lastView (g .size)) (moves-fixed a .0) in
     all-append (HeldSaid (s .settings) t) p q
     (all-map (HeldSaid (s .settings) u) (HeldSaid (s .settings) t) (said-kept (s .settings) m) p (moves-said s u p a l (omega arith)))
-    (subst (λ (g : Settings). All (HeldSaid g t) q) (moves-fixed a .0) (move-said u t q b (k .length ∙ l) (omega arith)))
+    (subst (λ (g : Settings). All (HeldSaid g t) q) (moves-fixed a .0) (move-said u t q b (k .length ∙ l ∙ ap suc (sym e)) (omega arith)))

@@ -16,7 +16,7 @@ use Rattle.rules.specs.Limits.{lastView, lastClock}
 use Rattle.rules.specs.Lists.{first}
 use Rattle.rules.specs.Sizes.{Settings, only, bit, joined, quorum}
 use Rattle.rules.specs.Messages.{Effect}
-use Rattle.rules.specs.Words.{Statement, sameStatement, Tally, ownBlock, certificate, join, joinCertificate, voters, Phase, inView, waiting, stopped, State}
+use Rattle.rules.specs.Words.{Statement, sameStatement, Certificate, Tally, certificateOf, opened, ownBlock, certificate, join, joinCertificate, voters, Phase, inView, waiting, stopped, State}
 use Rattle.rules.specs.Inputs.{Work, saying, _▸_, withPhase, withClock, withTables, withBlames, withLog, entering, isIn, quit, belowLock, votedFor, stored, blamesOf, blamed, blameFull, due, commits, logging, complain, lead, entersNow, entered, current, pair, inOrder, votingAll, arrive, enter, ticked}
 use Rattle.rules.specs.Refusals.{hasRoom, ifRoom, running, tick}
 use Rattle.rules.proofs.Tests.{by-bool, by-option, no-bool}
@@ -61,13 +61,13 @@ in-waits {ℓ} : {P : Type ℓ} (v : ℕ) (s : State) (q : ℕ) → isIn v s ≡
 in-waits v s q i p = no-phase (sym p ∙ in-true v s i .0)
 
 -- "enters the next at exactly quit+D+1"
-pub enters-at : (s : State) → entersNow s ≡ true → (q : ℕ) × (s .phase ≡ waiting q) × (s .view < lastView) × (s .clock ≡ q + s .settings .D + 1)
+pub enters-at : (s : State) → entersNow s ≡ true → (q : ℕ) × (s .phase ≡ waiting q) × (s .view < lastView (s .settings .size)) × (s .clock ≡ q + s .settings .D + 1)
 unfolding entersNow
 enters-at s e = go (s .phase) refl
   where
-    go : (p : Phase) → s .phase ≡ p → (q : ℕ) × (s .phase ≡ waiting q) × (s .view < lastView) × (s .clock ≡ q + s .settings .D + 1)
+    go : (p : Phase) → s .phase ≡ p → (q : ℕ) × (s .phase ≡ waiting q) × (s .view < lastView (s .settings .size)) × (s .clock ≡ q + s .settings .D + 1)
     go inView r = no-bool (sym (rw (r, entersNow) at e))
-    go (waiting q) r = let a = and-2 (ltb (s .view) lastView) _ (rw (r, entersNow) at e) in (q, r, ltb-true (s .view) lastView (a .0), eqb-true (s .clock) _ (a .1))
+    go (waiting q) r = let a = and-2 (ltb (s .view) (lastView (s .settings .size))) _ (rw (r, entersNow) at e) in (q, r, ltb-true (s .view) (lastView (s .settings .size)) (a .0), eqb-true (s .clock) _ (a .1))
     go (stopped c) r = no-bool (sym (rw (r, entersNow) at e))
 
 -- ---- blame masks
@@ -138,7 +138,7 @@ pub record Kept (s t : State) : Type 0 where
   pub has : (x : Statement) → In (s .statements) x → In (t .statements) x
   pub full : (g : Settings) (v : ℕ) → quorum g (blamesOf v s) ≡ true → quorum g (blamesOf v t) ≡ true
   pub length : length (t .blames) ≡ length (s .blames)
-  pub bits : (q : Tally) (i : ℕ) → bit (voters q (s .tallies)) i ≡ 1 → bit (voters q (t .tallies)) i ≡ 1
+  pub bits : (q : Certificate) (i : ℕ) → bit (voters q (s .tallies)) i ≡ 1 → bit (voters q (t .tallies)) i ≡ 1
   pub view : s .view ≤ t .view
   pub waits : (q : ℕ) → s .phase ≡ waiting q → t .view ≡ s .view → t .phase ≡ waiting q
 
@@ -157,7 +157,7 @@ kept-trans {s} {t} {u} a b =
       waits = λ q p e. let f : t .view ≡ s .view = omega arith in b .waits q (a .waits q p f) (e ∙ sym f);
     }
 
-stored-bits : (x : Statement) (s : State) (q : Tally) (i : ℕ) → bit (voters q (s .tallies)) i ≡ 1
+stored-bits : (x : Statement) (s : State) (q : Certificate) (i : ℕ) → bit (voters q (s .tallies)) i ≡ 1
     → bit (voters q (join (ownBlock x 0) (joinCertificate (certificate x) (s .tallies)))) i ≡ 1
 stored-bits x s q i h = voters-join q (ownBlock x 0) _ i (voters-certificate q (certificate x) (s .tallies) i h)
 
@@ -328,7 +328,7 @@ tick-settled s =
     rw (r, k, tick, ticked, q) (room-settled s (logging l t ▸ complain ▸ lead)))
     (λ r. rw (r, tick) (λ e. no-bool (sym e ∙ r)))
 
-pub settled-waits : (s : State) (q : ℕ) → entersNow s ≡ false → s .phase ≡ waiting q → s .view < lastView → ¬ (s .clock ≡ q + s .settings .D + 1)
+pub settled-waits : (s : State) (q : ℕ) → entersNow s ≡ false → s .phase ≡ waiting q → s .view < lastView (s .settings .size) → ¬ (s .clock ≡ q + s .settings .D + 1)
 unfolding entersNow
 settled-waits s q e p l c =
-    no-bool (sym (both (lt-ltb (s .view) lastView l) (eq-eqb (s .clock) (q + s .settings .D + 1) c)) ∙ (rw (p, entersNow) at e))
+    no-bool (sym (both (lt-ltb (s .view) (lastView (s .settings .size)) l) (eq-eqb (s .clock) (q + s .settings .D + 1) c)) ∙ (rw (p, entersNow) at e))

@@ -1,4 +1,5 @@
 pub mod Tests
+pub mod Bounds
 pub mod Bytes
 pub mod Masks
 pub mod Written
@@ -9,10 +10,12 @@ pub mod Statements
 pub mod Tallies
 pub mod Allowed
 pub mod Offers
+pub mod Answers
 pub mod Moves
 pub mod Kept
 pub mod Orderly
 pub mod Held
+pub mod Views
 pub mod Votes
 pub mod Locks
 pub mod Proper

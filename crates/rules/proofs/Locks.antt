@@ -7,7 +7,7 @@ use mathlib.Core.Logic.{_⊎_, inl, inr}
 use Rattle.rules.specs.Limits.{maskBits}
 use Rattle.rules.specs.Sizes.{Settings, bit, count}
 use Rattle.rules.specs.Messages.{Effect}
-use Rattle.rules.specs.Words.{Tally, voters, State}
+use Rattle.rules.specs.Words.{Certificate, Tally, certificateOf, opened, voters, State}
 use Rattle.rules.specs.Inputs.{withPhase, withTables, withBlames, withLog, entering, votedFor, stored, blamed, nextLock, current, inOrder}
 use Rattle.rules.proofs.Tallies.{Above, sound-quorum, count-quorum, highest-above}
 use Rattle.rules.proofs.Moves.{Outside, arrived, Move, joins, stores, passes, casts, clashes, accuses, fills, complains, entersFull, entersPair, enters, Moves, here, more}
@@ -31,7 +31,7 @@ move-lock s t o (entersFull e c) = inr (refl, refl)
 move-lock s t o (entersPair p e c f) = inr (refl, refl)
 move-lock s t o (enters e c f) = let k = votingAll-fixed (inOrder (current (arrived s))) (arrived s) in inr (k .3, k .2)
 
-module _ (n faulty : ℕ) (most : n ≤ maskBits) (odd : n % 2 ≡ 1) (few : count faulty ≤ n / 2) (b : Tally) where
+module _ (n faulty : ℕ) (most : n ≤ maskBits) (odd : n % 2 ≡ 1) (few : count faulty ≤ n / 2) (b : Certificate) where
   -- it has the votes of all that are not faulty
   abbrev pub HasAll : State → Type 0
   HasAll s = (s .settings .n ≡ n) × ((i : ℕ) → i < n → bit faulty i ≡ 0 → bit (voters b (s .tallies)) i ≡ 1)

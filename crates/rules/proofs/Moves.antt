@@ -12,10 +12,11 @@ use Rattle.rules.specs.Limits.{lastClock}
 use Rattle.rules.specs.Lists.{first, any}
 use Rattle.rules.specs.Sizes.{only}
 use Rattle.rules.specs.Messages.{Message, newView, propose, vote, blame, blameSet, status, read, allowed, Effect, toAll}
-use Rattle.rules.specs.Words.{Statement, message, sameStatement, conflict, Tally, certificate, joinCertificate, waiting, State}
+use Rattle.rules.specs.Words.{Statement, message, sameStatement, conflict, Certificate, Tally, certificateOf, opened, certificate, joinCertificate, waiting, State}
 use Rattle.rules.specs.Inputs.{Work, saying, _▸_, withPhase, withClock, withTables, withLog, entering, isIn, quit, belowLock, votedFor, ballot, voting, certificateJoined, stored, statement, tallied, blamesOf, blamed, blameFull, blaming, handled, offered, due, commits, reports, logging, overdue, complain, leadsNow, ownNewView, lead, entersNow, nextLock, report, entered, current, pair, inOrder, votingAll, arrive, enter, ticked}
-use Rattle.rules.specs.Refusals.{Outcome, done, hasRoom, ifRoom, running, step, offer, tick}
+use Rattle.rules.specs.Refusals.{Outcome, done, refused, hasRoom, ifRoom, running, step, offer, tick}
 use Rattle.rules.proofs.Tests.{by-bool, by-option, no-some, no-bool}
+use Rattle.rules.proofs.Answers.{by-step, by-offer}
 
 -- what is known of what comes from outside: of a message handed over, of a name offered and the message it makes
 pub record Outside : Type 1 where
@@ -30,7 +31,7 @@ pub data Origin (R : Outside) (s : State) : Message → Type 0 where
   made : {m : Message} (b : ℕ) → R .offers b m → offered b s ≡ some m → Origin R s m
 
 -- the certificate of a statement or a status, or the vote, as a tally
-unfoldable pub carried : Message → Option Tally
+unfoldable pub carried : Message → Option Certificate
 unfolding only
 carried (newView v h b c m a) = some (record { view = c; height = h; name = b; mask = m })
 carried (propose v h b p m a) = some (record { view = v; height = h - 1; name = p; mask = m })
@@ -57,7 +58,7 @@ abbrev pub arrived : State → State
 arrived s = entering (s .view + 1) (nextLock s) s
 
 pub data Move (R : Outside) (s : State) : State → List Effect → Type 0 where
-  joins : (m : Message) (t : Tally) → Origin R s m → carried m ≡ some t
+  joins : (m : Message) (t : Certificate) → Origin R s m → carried m ≡ some t
       → Move R s (withTables (s .statements) (joinCertificate t (s .tallies)) s) []
   stores : (x : Statement) → New R s x → isIn (x .view) s ≡ false → Move R s (stored x s) []
   passes : (x : Statement) → New R s x → isIn (x .view) s ≡ true → first (conflict x) (s .statements) ≡ none → belowLock x s ≡ true
@@ -192,7 +193,7 @@ module _ (R : Outside) where
   blaming-moves v m s a =
       by-bool (fillsNow v m s) (λ q. rw (q, blaming) (one (fills v m a q))) (λ q. rw (q, blaming) (one (accuses v m a q)))
 
-  tallied-moves : (m : Message) (t : Tally) (s : State) → Origin R s m → carried m ≡ some t → Does s (tallied t s)
+  tallied-moves : (m : Message) (t : Certificate) (s : State) → Origin R s m → carried m ≡ some t → Does s (tallied t s)
   unfolding tallied saying
   tallied-moves m t s g c = one (joins m t g c)
 
@@ -245,24 +246,15 @@ module _ (R : Outside) where
   unfolding ifRoom running
   room-moves s t w p = by-bool (hasRoom (w .now)) (λ q. rw (q, ifRoom) (λ _. p)) (λ q. rw (q, ifRoom) (λ e. no-bool (sym e)))
 
+  refused-moves : (s : State) (k : ℕ) → Ran s (refused k s)
+  unfolding refused
+  refused-moves s k _ = here
+
   pub step-moves : (bs : List ℕ) (s : State) → ((m : Message) → read bs ≡ some m → R .given m) → Ran s (step bs s)
-  unfolding step
-  step-moves bs s f =
-      by-bool (running s)
-      (λ r.
-      by-option (read bs) (λ q. rw (r, q, step) (λ _. here)) λ m q.
-      by-bool (allowed (s .settings) m) (λ a. rw (r, q, a, step) (room-moves s s (handled m s) (handled-moves m s (handed (f m q) a))))
-      (λ a. rw (r, q, a, step) (λ _. here)))
-      (λ r. rw (r, step) (λ _. here))
+  step-moves bs s f = by-step (Ran s) s (refused-moves s) bs (λ m q a. room-moves s s (handled m s) (handled-moves m s (handed (f m q) a)))
 
   pub offer-moves : (b : ℕ) (s : State) → ((m : Message) → offered b s ≡ some m → R .offers b m) → Ran s (offer b s)
-  unfolding offer
-  offer-moves b s f =
-      by-bool (running s)
-      (λ r.
-      by-option (offered b s) (λ q. rw (r, q, offer) (λ _. here))
-      (λ m q. rw (r, q, offer) (room-moves s s (handled m s) (handled-moves m s (made b (f m q) q)))))
-      (λ r. rw (r, offer) (λ _. here))
+  offer-moves b s f = by-offer (Ran s) s (refused-moves s) b (λ m q. room-moves s s (handled m s) (handled-moves m s (made b (f m q) q)))
 
   -- a tick first counts and commits, and says what it committed
   pub tick-moves : (s : State) → running (tick s .next) ≡ true

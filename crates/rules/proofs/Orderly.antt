@@ -1,21 +1,23 @@
 -- L2, L3, L5: in a view no two stored statements of it conflict and its blames are no quorum, every stored propose of it is voted
 -- for, from the entry on; who quits tells all why; how the station came into its view. S c e: the station said e at clock c. Assumes nothing.
 use mathlib.Core.Path.{_≡_, subst, refl, sym, ap, _∙_}
-use Prim.Native.Nat.{ℕ, _+_, _≤_, _<_}
+use Prim.Native.Nat.{ℕ, suc, _+_, _≤_, _<_}
 use native.Mathlib.Omega.{arith}
 use native.Mathlib.Decide.{decLt}
 use mathlib.Core.Bool.{true, false}
 use mathlib.Core.List.{List, [], _∷_, _++_}
 use mathlib.Core.Logic.{_⊎_, inl, inr}
 use mathlib.Core.Option.{Option, none, some, Option·map, map-eq-some-iff}
+use lib.ListN.{getD-replicate}
 use lib.Dec.{eqb}
 use borrow.Author.Tests.{eqb-true}
 use Rattle.rules.specs.Limits.{firstView, lastView}
 use Rattle.rules.specs.Lists.{first, any, keep, alter}
 use Rattle.rules.specs.Sizes.{Settings, joined, quorum}
 use Rattle.rules.specs.Messages.{vote, blameSet, Effect, toAll}
-use Rattle.rules.specs.Words.{Statement, message, sameStatement, conflict, Tally, inView, waiting, State, fresh}
+use Rattle.rules.specs.Words.{Statement, message, sameStatement, conflict, Certificate, Tally, certificateOf, opened, inView, waiting, State, fresh}
 use Rattle.rules.specs.Inputs.{Work, saying, _▸_, withPhase, withClock, withTables, withBlames, withLog, entering, isIn, belowLock, noted, votedFor, ballot, voting, stored, blamesOf, blamed, blameFull, entersNow, report, current, pair, inOrder, votingAll}
+use Rattle.rules.proofs.Bounds.{views-some}
 use Rattle.rules.proofs.Tests.{by-bool, no-some, no-bool}
 use Rattle.rules.proofs.Truths.{and-2, and-rest}
 use Rattle.rules.proofs.Searches.{first-any, first-append, All, all-split, mem-keep}
@@ -137,7 +139,7 @@ module _ (S : ℕ → Effect → Type 0) where
   -- how it came into view v at clock e: it quit the view before, told all, and waited D ticks
   pub data Past (g : Settings) : ℕ → ℕ → Type 0 where
     start : Past g firstView 0
-    onward : {v e q : ℕ} → Past g v e → e ≤ q → v < lastView → Told g q v → Past g (v + 1) (q + g .D + 1)
+    onward : {v e q : ℕ} → Past g v e → e ≤ q → v < lastView (g .size) → Told g q v → Past g (v + 1) (q + g .D + 1)
 
   -- the vote for the stored z, which is the same as x, at a clock from the entry to now
   abbrev pub VotedIn : State → Statement → Statement → Type 0
@@ -155,7 +157,7 @@ module _ (S : ℕ → Effect → Type 0) where
   pub fresh-orderly : (g : Settings) → Orderly (fresh g)
   unfolding fresh any first blameFull blamesOf
   fresh-orderly g =
-      record { clean = λ p x y a b v. no-bool (sym a); calm = λ p. no-quorum g; votes = λ p x z f k v. no-some f; quits = λ q e. no-phase (sym e); past = start; order = omega arith }
+      record { clean = λ p x y a b v. no-bool (sym a); calm = λ p. rw (getD-replicate {A = ℕ} (suc (lastView (g .size))) 1 0 0 (omega (arith, views-some (g .size)))) (no-quorum g); votes = λ p x z f k v. no-some f; quits = λ q e. no-phase (sym e); past = start; order = omega arith }
 
   pub clock-orderly : (s : State) → Orderly s → Orderly (withClock (s .clock + 1) s)
   unfolding withClock blameFull blamesOf
@@ -317,8 +319,8 @@ module _ (S : ℕ → Effect → Type 0) where
 
   -- ---- the way through the views
 
-  pub past-range : {g : Settings} {v e : ℕ} → Past g v e → (firstView ≤ v) × (v ≤ lastView)
-  past-range start = (omega arith, omega arith)
+  pub past-range : {g : Settings} {v e : ℕ} → Past g v e → (firstView ≤ v) × (v ≤ lastView (g .size))
+  past-range {g} start = (omega arith, views-some (g .size))
   past-range (onward p l k t) = (omega arith, omega arith)
 
   -- who is past view v quit it D+1 ticks or more before its last entry

@@ -12,7 +12,7 @@ use mathlib.Core.Option.{some, Option·some-injective}
 use lib.Dec.{eqb}
 use Rattle.rules.specs.Sizes.{Settings, only, bit, joined}
 use Rattle.rules.specs.Messages.{Message, newView, propose, vote, blame, blameSet, status, allowed, Effect, toAll, toOne, committed}
-use Rattle.rules.specs.Words.{Statement, message, sameStatement, Tally, ownBlock, certificate, sameBlock, grown, join, joinCertificate, voters, highest, State, fresh}
+use Rattle.rules.specs.Words.{Statement, message, sameStatement, Certificate, Tally, certificateOf, opened, ownBlock, certificate, sameBlock, grown, join, joinCertificate, voters, highest, State, fresh}
 use Rattle.rules.specs.Inputs.{saying, _▸_, withPhase, withTables, withBlames, entering, belowLock, noted, votedFor, ballot, stored, blamed, above, ownNewView, report, current, inOrder, votingAll}
 use Rattle.rules.proofs.Tests.{by-bool}
 use Rattle.rules.proofs.Searches.{All, all-append, all-split, all-map, all-of, all-alter}
@@ -36,12 +36,15 @@ Parented parentOf (status h b c m) = Unit {0}
 
 module _ (P : ℕ → ℕ → ℕ → ℕ → Type 0) (parentOf : ℕ → ℕ) where
   -- every voter of a mask is known to have voted
-  abbrev pub Backed : Tally → Type 0
+  abbrev pub Backed : Certificate → Type 0
   Backed t = (i : ℕ) → bit (t .mask) i ≡ 1 → P (t .view) (t .height) (t .name) i
+
+  abbrev pub Holding : Tally → Type 0
+  Holding t = Backed (certificateOf t)
 
   -- a message whose voters are known, and whose parent is the name's
   pub record Right (m : Message) : Type 0 where
-    pub backed : (t : Tally) → carried m ≡ some t → Backed t
+    pub backed : (t : Certificate) → carried m ≡ some t → Backed t
     pub parent : Parented parentOf m
 
   abbrev Stated : Statement → Type 0
@@ -49,20 +52,20 @@ module _ (P : ℕ → ℕ → ℕ → ℕ → Type 0) (parentOf : ℕ → ℕ) w
 
   -- ---- tallies
 
-  join-backed : (t : Tally) (us : List Tally) → Backed t → All Backed us → All Backed (join t us)
+  join-backed : (t : Certificate) (us : List Tally) → Backed t → All Holding us → All Holding (join t us)
   unfolding join grown
   join-backed t [] h a = (h, tt)
   join-backed t (u ∷ us) h a =
-      by-bool (sameBlock t u)
+      by-bool (sameBlock t (certificateOf u))
       (λ e.
-      let (p, q, r) = block-eq t u e in
+      let (p, q, r) = block-eq t (certificateOf u) e in
       rw (e, join) (λ i k. either (u .view) (u .height) (u .name) (u .mask) (t .mask) i (a .0 i) (λ z. subst₃ (λ (x y w : ℕ). P x y w i) p q r (h i z)) k, a .1))
       (λ e. rw (e, join) (a .0, join-backed t us h (a .1)))
     where
       either : (v h b m k i : ℕ) → (bit m i ≡ 1 → P v h b i) → (bit k i ≡ 1 → P v h b i) → bit (joined m k) i ≡ 1 → P v h b i
       either v h b m k i f q e = elim (ℕ-discrete (bit m i) 1) [ yes p ↦ f p | no p ↦ (let w = joined-bit m k i in q (omega arith)) ]
 
-  certificate-backed : (t : Tally) (us : List Tally) → Backed t → All Backed us → All Backed (joinCertificate t us)
+  certificate-backed : (t : Certificate) (us : List Tally) → Backed t → All Holding us → All Holding (joinCertificate t us)
   unfolding joinCertificate
   certificate-backed t us h a = by-bool (eqb (t .view) 0) (λ e. rw (e, joinCertificate) a) (λ e. rw (e, joinCertificate) (join-backed t us h a))
 
@@ -70,27 +73,27 @@ module _ (P : ℕ → ℕ → ℕ → ℕ → Type 0) (parentOf : ℕ → ℕ) w
   unfolding ownBlock
   own-backed x me h i e = subst (P (x .view) (x .height) (x .name)) (sym (bit-only me i e)) h
 
-  highest-backed : (g : Settings) (v : ℕ) (ts : List Tally) → All Backed ts → Backed (highest g v ts)
+  highest-backed : (g : Settings) (v : ℕ) (ts : List Tally) → All Holding ts → Backed (highest g v ts)
   highest-backed g v ts a =
       elim (highest-tally g v ts) [
         | inl e ↦ subst Backed (sym e) (λ i k. no-bit i k)
-        | inr (m, _, _) ↦ all-of Backed ts a (highest g v ts) m
+        | inr (t, e, m, _, _) ↦ subst Backed e (all-of Holding ts a t m)
       ]
 
-  voters-backed : (x : Statement) (us : List Tally) → All Backed us → (i : ℕ) → bit (voters (ownBlock x 0) us) i ≡ 1 → P (x .view) (x .height) (x .name) i
+  voters-backed : (x : Statement) (us : List Tally) → All Holding us → (i : ℕ) → bit (voters (ownBlock x 0) us) i ≡ 1 → P (x .view) (x .height) (x .name) i
   unfolding ownBlock
   voters-backed x us a i y =
       elim (voters-tally (ownBlock x 0) us) [
         | inl e ↦ no-bit i (rw e at y)
         | inr (u, m, e, f) ↦ (
-            let (p, q, r) = block-eq (ownBlock x 0) u e in
-            subst₃ (λ (a b c : ℕ). P a b c i) (sym p) (sym q) (sym r) (all-of Backed us a u m i (rw f at y)))
+            let (p, q, r) = block-eq (ownBlock x 0) (certificateOf u) e in
+            subst₃ (λ (a b c : ℕ). P a b c i) (sym p) (sym q) (sym r) (all-of Holding us a u m i (rw f at y)))
       ]
 
   module _ (g : Settings) where
     pub record Proper (s : State) : Type 0 where
       pub settings : s .settings ≡ g
-      pub tallies : All Backed (s .tallies)
+      pub tallies : All Holding (s .tallies)
       pub statements : All Stated (s .statements)
 
     -- the own votes among what is said are known
@@ -110,7 +113,7 @@ module _ (P : ℕ → ℕ → ℕ → ℕ → Type 0) (parentOf : ℕ → ℕ) w
     -- the state with another phase, view, entry, lock, blames or log
     pub same-proper : {s : State} (t : State) → t .settings ≡ s .settings → t .tallies ≡ s .tallies → t .statements ≡ s .statements → Proper s → Proper t
     same-proper t a b c i =
-        record { settings = a ∙ i .settings; tallies = subst (All Backed) (sym b) (i .tallies); statements = subst (All Stated) (sym c) (i .statements) }
+        record { settings = a ∙ i .settings; tallies = subst (All Holding) (sym b) (i .tallies); statements = subst (All Stated) (sym c) (i .statements) }
 
     pub fresh-proper : Proper (fresh g)
     unfolding fresh
@@ -195,6 +198,6 @@ module _ (P Q : ℕ → ℕ → ℕ → ℕ → Type 0) (parentOf : ℕ → ℕ)
   proper-map g s i =
       record {
         settings = i .settings;
-        tallies = all-map (Backed P parentOf) (Backed Q parentOf) (λ t h j k. f _ _ _ j (h j k)) (s .tallies) (i .tallies);
+        tallies = all-map (Holding P parentOf) (Holding Q parentOf) (λ t h j k. f _ _ _ j (h j k)) (s .tallies) (i .tallies);
         statements = all-map (λ x. Right P parentOf (message x)) (λ x. Right Q parentOf (message x)) (λ x r. right-map (message x) r) (s .statements) (i .statements);
       }

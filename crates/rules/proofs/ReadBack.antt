@@ -12,7 +12,7 @@ use borrow.Author.Tests.{eqb-true, leb-true}
 use Rattle.rules.specs.Lists.{be, unbe}
 use Rattle.rules.specs.Messages.{Message, newView, propose, vote, blame, blameSet, status, field, width, Row, rowOf, tagsOf, kind, values, writes, write, after, readField, reads, body, read}
 use Rattle.rules.proofs.Tests.{by-bool, by-option, no-some}
-use Rattle.rules.proofs.Bytes.{Bytes, none as no-bytes, one, length-unbe, unbe-be}
+use Rattle.rules.proofs.Bytes.{Bytes, bytes-split, length-unbe, unbe-be}
 use Rattle.rules.proofs.Written.{reads-cons, writes-cons, write-eq, read-eq}
 
 after-inv : (ps bs r : List ℕ) → after ps bs ≡ some r → bs ≡ ps ++ r
@@ -24,10 +24,6 @@ after-inv (p ∷ ps) (b ∷ bs) r e =
     (λ q. ap₂ (λ (x : ℕ) (l : List ℕ). x ∷ l) (sym (eqb-true p b q)) (after-inv ps bs r (rw (q, after) at e)))
     (λ q. no-some (rw (q, after) at e))
 
-bytes-tail : (s : List ℕ) {r : List ℕ} → Bytes (s ++ r) → Bytes s × Bytes r
-bytes-tail [] h = (no-bytes, h)
-bytes-tail (x ∷ s) (one h hs) = let k = bytes-tail s hs in (one h (k .0), k .1)
-
 -- a value of a tag's width is the bytes that a number writes
 value-inv : (t : ℕ) (r : List ℕ) → width t ≤ length r → Bytes r → (t ∷ unbe 2 (width t)) ++ r ≡ field t (unbe (width t) (be (take (width t) r))) ++ drop (width t) r
 unfolding field
@@ -35,7 +31,7 @@ value-inv t r h hb =
     let w = width t in
     let hd = take w r in
     let l = length-take-le w r h in
-    let bh : Bytes hd = bytes-tail hd {r = drop w r} (rw take-append-drop hb) .0 in
+    let bh : Bytes hd = bytes-split hd {r = drop w r} (rw take-append-drop hb) .0 in
     let u : unbe w (be hd) ≡ hd = rw l at (unbe-be bh) in
     rw (u, l, take-append-drop)
 
@@ -49,10 +45,10 @@ readField-inv t bs go x hb e =
     (λ k.
     let w = width t in
     let b = after-inv (t ∷ unbe 2 w) bs r q in
-    let br = bytes-tail (t ∷ unbe 2 w) (rw b at hb) .1 in (
+    let br = bytes-split (t ∷ unbe 2 w) (rw b at hb) .1 in (
       be (take w r),
       drop w r,
-      bytes-tail (take w r) {r = drop w r} (rw take-append-drop br) .1,
+      bytes-split (take w r) {r = drop w r} (rw take-append-drop br) .1,
       b ∙ value-inv t r (leb-true w (length r) k) br,
       rw (q, readField, k) at e,
     ))

@@ -10,8 +10,9 @@ use Rattle.rules.specs.Limits.{lastClock}
 use Rattle.rules.specs.Messages.{read, allowed, Effect}
 use Rattle.rules.specs.Words.{full, split, clock, stopped, State}
 use Rattle.rules.specs.Inputs.{Work, saying, _▸_, withPhase, withClock, withTables, withBlames, withLog, entering, votedFor, stored, blamed, handled, offered, due, commits, logging, complain, lead, enter, current, inOrder}
-use Rattle.rules.specs.Refusals.{done, hasRoom, ifRoom, running, step, offer, tick}
+use Rattle.rules.specs.Refusals.{done, refused, hasRoom, ifRoom, running, step, offer, tick}
 use Rattle.rules.proofs.Tests.{by-bool, by-option, no-bool}
+use Rattle.rules.proofs.Answers.{by-step, by-offer}
 use Rattle.rules.proofs.Moves.{Outside, handed, made, arrived, counted, Move, joins, stores, passes, casts, clashes, accuses, fills, complains, entersFull, entersPair, enters, Moves, here, more, ticked-some, handled-moves, then-moves, complain-moves, lead-moves, enter-moves}
 use Rattle.rules.proofs.Kept.{votingAll-fixed}
 
@@ -56,19 +57,21 @@ room-split s w r =
     by-bool (hasRoom (w .now)) (λ q. rw (q, ifRoom) (λ e. unfold done in (running-split (w .now) r e)))
     (λ q. rw (q, ifRoom) (λ e. full-split e))
 
+refused-split : (s : State) → running s ≡ true → (k : ℕ) → Split (refused k s .next) → ⊥
+unfolding refused
+refused-split s r k e = running-split s r e
+
 pub step-split : (bs : List ℕ) (s : State) → running s ≡ true → Split (step bs s .next) → ⊥
-unfolding step anything
+unfolding anything
 step-split bs s r =
-    by-option (read bs) (λ q. rw (r, q, step) (λ e. running-split s r e)) λ m q.
-    by-bool (allowed (s .settings) m)
-    (λ a. rw (r, q, a, step) (room-split s (handled m s) (moves-running s (handled m s .now) (handled m s .out) (handled-moves anything m s (handed tt a)) r)))
-    (λ a. rw (r, q, a, step) (λ e. running-split s r e))
+    by-step (λ o. Split (o .next) → ⊥) s (refused-split s r) bs
+    (λ m q a. room-split s (handled m s) (moves-running s (handled m s .now) (handled m s .out) (handled-moves anything m s (handed tt a)) r))
 
 pub offer-split : (b : ℕ) (s : State) → running s ≡ true → Split (offer b s .next) → ⊥
-unfolding offer anything
+unfolding anything
 offer-split b s r =
-    by-option (offered b s) (λ q. rw (r, q, offer) (λ e. running-split s r e))
-    (λ m q. rw (r, q, offer) (room-split s (handled m s) (moves-running s (handled m s .now) (handled m s .out) (handled-moves anything m s (made b tt q)) r)))
+    by-offer (λ o. Split (o .next) → ⊥) s (refused-split s r) b
+    (λ m q. room-split s (handled m s) (moves-running s (handled m s .now) (handled m s .out) (handled-moves anything m s (made b tt q)) r))
 
 -- the commits that a tick is to make
 abbrev pub dueCommits : State → Option (List ℕ)

@@ -13,7 +13,7 @@ use lib.Count.{onesIn}
 use borrow.Author.Tests.{eqb-true, eq-eqb, lt-ltb, ltb-true, not-true}
 use Rattle.rules.specs.Limits.{maskBits}
 use Rattle.rules.specs.Sizes.{Settings, faults, only, bit, joined, count, quorum}
-use Rattle.rules.specs.Words.{Tally, sameBlock, grown, join, joinCertificate, voters, certified, below, higher, genesis, highest}
+use Rattle.rules.specs.Words.{Certificate, Tally, certificateOf, opened, sameBlock, grown, join, joinCertificate, voters, certified, below, higher, genesis, highest}
 use Rattle.rules.proofs.Tests.{by-bool, no-bool}
 use Rattle.rules.proofs.Truths.{and-2, both, or-2, or-right, or-not}
 use Rattle.rules.proofs.Masks.{joined-bit, joined-left, joined-right, count-joined, count-more, count-none, bit-below, quorum-count}
@@ -92,57 +92,57 @@ no-quorum g = by-bool (quorum g 0) (λ q. let h = quorum-count g 0 q in let z = 
 
 -- ---- the voters of a block
 
-pub block-eq : (q t : Tally) → sameBlock q t ≡ true → (q .view ≡ t .view) × (q .height ≡ t .height) × (q .name ≡ t .name)
+pub block-eq : (q t : Certificate) → sameBlock q t ≡ true → (q .view ≡ t .view) × (q .height ≡ t .height) × (q .name ≡ t .name)
 unfolding sameBlock
 block-eq q t e =
     let a = and-2 (eqb (q .view) (t .view) && eqb (q .height) (t .height)) _ e in
     let b = and-2 (eqb (q .view) (t .view)) _ (a .0) in
     (eqb-true _ _ (b .0), eqb-true _ _ (b .1), eqb-true _ _ (a .1))
 
-pub same-block : (q t : Tally) → q .view ≡ t .view → q .height ≡ t .height → q .name ≡ t .name → sameBlock q t ≡ true
+pub same-block : (q t : Certificate) → q .view ≡ t .view → q .height ≡ t .height → q .name ≡ t .name → sameBlock q t ≡ true
 unfolding sameBlock
 same-block q t a b c = rw (eq-eqb (q .view) (t .view) a, eq-eqb (q .height) (t .height) b, eq-eqb (q .name) (t .name) c)
 
-pub block-cong : (q t u : Tally) → sameBlock q t ≡ true → sameBlock q u ≡ sameBlock t u
+pub block-cong : (q t u : Certificate) → sameBlock q t ≡ true → sameBlock q u ≡ sameBlock t u
 unfolding sameBlock
 block-cong q t u e = let (a, b, c) = block-eq q t e in rw (a, b, c)
 
 -- joining loses no voter of any block
-pub voters-join : (q t : Tally) (us : List Tally) (i : ℕ) → bit (voters q us) i ≡ 1 → bit (voters q (join t us)) i ≡ 1
+pub voters-join : (q t : Certificate) (us : List Tally) (i : ℕ) → bit (voters q us) i ≡ 1 → bit (voters q (join t us)) i ≡ 1
 unfolding voters join grown
 voters-join q t [] i h = no-bit i h
 voters-join q t (u ∷ us) i h =
-    by-bool (sameBlock t u)
+    by-bool (sameBlock t (certificateOf u))
     (λ e.
-    by-bool (sameBlock q u) (λ f. rw (e, join) (rw (f, voters) (joined-left (u .mask) (t .mask) i (rw (f, voters) at h))))
+    by-bool (sameBlock q (certificateOf u)) (λ f. rw (e, join) (rw (f, voters) (joined-left (u .mask) (t .mask) i (rw (f, voters) at h))))
     (λ f. rw (e, join) (rw (f, voters) (rw (f, voters) at h))))
     (λ e.
-    by-bool (sameBlock q u) (λ f. rw (e, join) (rw (f, voters) (rw (f, voters) at h)))
+    by-bool (sameBlock q (certificateOf u)) (λ f. rw (e, join) (rw (f, voters) (rw (f, voters) at h)))
     (λ f. rw (e, join) (rw (f, voters) (voters-join q t us i (rw (f, voters) at h)))))
 
-pub voters-certificate : (q t : Tally) (us : List Tally) (i : ℕ) → bit (voters q us) i ≡ 1 → bit (voters q (joinCertificate t us)) i ≡ 1
+pub voters-certificate : (q t : Certificate) (us : List Tally) (i : ℕ) → bit (voters q us) i ≡ 1 → bit (voters q (joinCertificate t us)) i ≡ 1
 unfolding joinCertificate
 voters-certificate q t us i h =
     by-bool (eqb (t .view) 0) (λ e. rw (e, joinCertificate) h) (λ e. rw (e, joinCertificate) (voters-join q t us i h))
 
 -- who joins is there
-pub voters-joined : (q t : Tally) (us : List Tally) (i : ℕ) → sameBlock q t ≡ true → bit (t .mask) i ≡ 1 → bit (voters q (join t us)) i ≡ 1
+pub voters-joined : (q t : Certificate) (us : List Tally) (i : ℕ) → sameBlock q t ≡ true → bit (t .mask) i ≡ 1 → bit (voters q (join t us)) i ≡ 1
 unfolding voters join grown
 voters-joined q t [] i e h = rw (e, voters) h
 voters-joined q t (u ∷ us) i e h =
-    by-bool (sameBlock t u)
-    (λ f. rw (f, join) (rw (block-cong q t u e ∙ f, voters) (joined-right (u .mask) (t .mask) i h)))
-    (λ f. rw (f, join) (rw (block-cong q t u e ∙ f, voters) (voters-joined q t us i e h)))
+    by-bool (sameBlock t (certificateOf u))
+    (λ f. rw (f, join) (rw (block-cong q t (certificateOf u) e ∙ f, voters) (joined-right (u .mask) (t .mask) i h)))
+    (λ f. rw (f, join) (rw (block-cong q t (certificateOf u) e ∙ f, voters) (voters-joined q t us i e h)))
 
 -- voters are those of a tally of the block, if there are any
-pub voters-tally : (q : Tally) (us : List Tally) → (voters q us ≡ 0) ⊎ ((u : Tally) × List·Memᴰ u us × (sameBlock q u ≡ true) × (voters q us ≡ u .mask))
+pub voters-tally : (q : Certificate) (us : List Tally) → (voters q us ≡ 0) ⊎ ((u : Tally) × List·Memᴰ u us × (sameBlock q (certificateOf u) ≡ true) × (voters q us ≡ u .mask))
 unfolding voters
 voters-tally q [] = inl refl
 voters-tally q (u ∷ us) =
-    by-bool (sameBlock q u) (λ e. rw (e, voters) (inr (u, List·Memᴰ·head refl, e, refl))) (λ e. rw (e, voters) (go (voters-tally q us)))
+    by-bool (sameBlock q (certificateOf u)) (λ e. rw (e, voters) (inr (u, List·Memᴰ·head refl, e, refl))) (λ e. rw (e, voters) (go (voters-tally q us)))
   where
-    go : (voters q us ≡ 0) ⊎ ((t : Tally) × List·Memᴰ t us × (sameBlock q t ≡ true) × (voters q us ≡ t .mask))
-        → (voters q us ≡ 0) ⊎ ((t : Tally) × List·Memᴰ t (u ∷ us) × (sameBlock q t ≡ true) × (voters q us ≡ t .mask))
+    go : (voters q us ≡ 0) ⊎ ((t : Tally) × List·Memᴰ t us × (sameBlock q (certificateOf t) ≡ true) × (voters q us ≡ t .mask))
+        → (voters q us ≡ 0) ⊎ ((t : Tally) × List·Memᴰ t (u ∷ us) × (sameBlock q (certificateOf t) ≡ true) × (voters q us ≡ t .mask))
     go (inl e) = inl e
     go (inr (t, m, e, f)) = inr (t, List·Memᴰ·tail m, e, f)
 
@@ -168,10 +168,10 @@ at-least-either a b c d =
       ]
     ]
 
-abbrev pub Above : Tally → Tally → Type 0
+abbrev pub Above : Certificate → Certificate → Type 0
 Above t u = AtLeast (t .view) (t .height) (u .view) (u .height)
 
-pub not-below : (t u : Tally) → below t u ≡ false → Above t u
+pub not-below : (t u : Certificate) → below t u ≡ false → Above t u
 unfolding below
 not-below t u e =
     elim (decLt (u .view) (t .view)) [
@@ -187,7 +187,7 @@ not-below t u e =
       ]
     ]
 
-below-true : (t u : Tally) → below t u ≡ true → Above u t
+below-true : (t u : Certificate) → below t u ≡ true → Above u t
 unfolding below
 below-true t u e = go (or-2 (ltb (t .view) (u .view)) _ e)
   where
@@ -199,7 +199,7 @@ below-true t u e = go (or-2 (ltb (t .view) (u .view)) _ e)
         let h = ltb-true (t .height) (u .height) (a .1) in
         inr (sym v, omega arith)
 
-higher-true : (t b : Tally) → higher t b ≡ true → Above t b
+higher-true : (t b : Certificate) → higher t b ≡ true → Above t b
 unfolding higher
 higher-true t b e = go (or-2 (below b t) _ e)
   where
@@ -207,39 +207,39 @@ higher-true t b e = go (or-2 (below b t) _ e)
     go (inl p) = below-true b t p
     go (inr p) = not-below t b (not-true (below t b) (and-2 (not (below t b)) _ p .0))
 
-higher-false : (t b : Tally) → higher t b ≡ false → Above b t
+higher-false : (t b : Certificate) → higher t b ≡ false → Above b t
 unfolding higher
 higher-false t b e = not-below b t (or-not (below b t) _ e)
 
 -- ---- the highest certificate
 
 abbrev takes : Settings → ℕ → Tally → List Tally → Bool
-takes g v t ts = ltb (t .view) v && certified g t && higher t (highest g v ts)
+takes g v t ts = ltb (t .view) v && certified g t && higher (certificateOf t) (highest g v ts)
 
 -- it ranks at or above each
-pub highest-above : (g : Settings) (v : ℕ) (q : Tally) (ts : List Tally) → q .view < v → quorum g (voters q ts) ≡ true → Above (highest g v ts) q
+pub highest-above : (g : Settings) (v : ℕ) (q : Certificate) (ts : List Tally) → q .view < v → quorum g (voters q ts) ≡ true → Above (highest g v ts) q
 unfolding highest voters certified
 highest-above g v q [] l c = no-bool (sym c ∙ no-quorum g)
 highest-above g v q (t ∷ ts) l c =
     let b = highest g v ts in
-    by-bool (sameBlock q t)
+    by-bool (sameBlock q (certificateOf t))
     (λ e.
-    let (x, y, z) = block-eq q t e in
-    let tq : Above t q = inr (sym x, omega arith) in
+    let (x, y, z) = block-eq q (certificateOf t) e in
+    let tq : Above (certificateOf t) q = inr (sym x, omega arith) in
     by-bool (takes g v t ts) (λ k. rw (k, highest) tq) λ k.
     rw (k, highest)
-    (by-bool (higher t b)
+    (by-bool (higher (certificateOf t) b)
     (λ h. no-bool (sym (rw (h, lt-ltb (t .view) v (omega arith), rw (e, voters) at c) refl) ∙ k))
-    (λ h. at-least-trans _ _ _ _ _ _ (higher-false t b h) tq)))
+    (λ h. at-least-trans _ _ _ _ _ _ (higher-false (certificateOf t) b h) tq)))
     (λ e.
     let ih = highest-above g v q ts l (rw (e, voters) at c) in
     by-bool (takes g v t ts)
-    (λ k. rw (k, highest) (at-least-trans _ _ _ _ _ _ (higher-true t b (and-2 (ltb (t .view) v && certified g t) _ k .1)) ih))
+    (λ k. rw (k, highest) (at-least-trans _ _ _ _ _ _ (higher-true (certificateOf t) b (and-2 (ltb (t .view) v && certified g t) _ k .1)) ih))
     (λ k. rw (k, highest) ih))
 
 -- it is genesis in view 0, or a certified tally of an earlier view
 pub highest-tally : (g : Settings) (v : ℕ) (ts : List Tally)
-    → (highest g v ts ≡ genesis) ⊎ (List·Memᴰ (highest g v ts) ts × (highest g v ts .view < v) × (quorum g (highest g v ts .mask) ≡ true))
+    → (highest g v ts ≡ genesis) ⊎ ((u : Tally) × (certificateOf u ≡ highest g v ts) × List·Memᴰ u ts × (highest g v ts .view < v) × (quorum g (highest g v ts .mask) ≡ true))
 unfolding highest certified
 highest-tally g v [] = inl refl
 highest-tally g v (t ∷ ts) =
@@ -247,10 +247,10 @@ highest-tally g v (t ∷ ts) =
     (λ k.
     let a = and-2 (ltb (t .view) v && certified g t) _ k in
     let b = and-2 (ltb (t .view) v) _ (a .0) in
-    rw (k, highest) (inr (List·Memᴰ·head refl, ltb-true (t .view) v (b .0), b .1)))
+    rw (k, highest) (inr (t, refl, List·Memᴰ·head refl, ltb-true (t .view) v (b .0), b .1)))
     (λ k. rw (k, highest) (go (highest-tally g v ts)))
   where
-    go : (highest g v ts ≡ genesis) ⊎ (List·Memᴰ (highest g v ts) ts × (highest g v ts .view < v) × (quorum g (highest g v ts .mask) ≡ true))
-        → (highest g v ts ≡ genesis) ⊎ (List·Memᴰ (highest g v ts) (t ∷ ts) × (highest g v ts .view < v) × (quorum g (highest g v ts .mask) ≡ true))
+    go : (highest g v ts ≡ genesis) ⊎ ((u : Tally) × (certificateOf u ≡ highest g v ts) × List·Memᴰ u ts × (highest g v ts .view < v) × (quorum g (highest g v ts .mask) ≡ true))
+        → (highest g v ts ≡ genesis) ⊎ ((u : Tally) × (certificateOf u ≡ highest g v ts) × List·Memᴰ u (t ∷ ts) × (highest g v ts .view < v) × (quorum g (highest g v ts .mask) ≡ true))
     go (inl e) = inl e
-    go (inr (m, l, c)) = inr (List·Memᴰ·tail m, l, c)
+    go (inr (u, e, m, l, c)) = inr (u, e, List·Memᴰ·tail m, l, c)

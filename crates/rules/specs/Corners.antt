@@ -5,11 +5,11 @@ use mathlib.Core.List.{List, [], _∷_, _++_}
 use mathlib.Core.Option.{Option, none, some}
 use lib.ListN.{length, replicate}
 use lib.Dec.{eqb}
-use Rattle.rules.specs.Limits.{lastClock, mostStatements, mostTallies}
+use Rattle.rules.specs.Limits.{lastClock, small, large, mostStatements, mostTallies}
 use Rattle.rules.specs.Lists.{unbe, all}
 use Rattle.rules.specs.Sizes.{Settings}
 use Rattle.rules.specs.Messages.{Message, newView, propose, vote, blame, blameSet, status, write, read, allowed, Effect, toAll, toOne, committed, effect}
-use Rattle.rules.specs.Words.{Statement, conflict, Tally, genesis, voters, Phase, inView, waiting, stopped, full, State, fresh}
+use Rattle.rules.specs.Words.{Statement, conflict, Tally, certificateOf, genesis, voters, Phase, inView, waiting, stopped, full, State, fresh}
 use Rattle.rules.specs.Inputs.{withPhase, withClock, withTables, withBlames, withLog, entering}
 use Rattle.rules.specs.Refusals.{Outcome, step, tick, result}
 use Rattle.rules.specs.WellFormed.{wellFormed}
@@ -26,7 +26,7 @@ sizes =
     ∷ []
   where
     five : List Line → Bool
-    five ls = goes (fresh (record { n = 5; D = 1; own = 0 })) ls
+    five ls = goes (fresh (record { n = 5; D = 1; own = 0; size = small })) ls
 
 -- ---- messages on the wire
 
@@ -224,13 +224,15 @@ refusals : List Bool
 unfolding goes fresh group withClock withTables withPhase tallied many result step tick write block
 refusals =
     -- "the 129th new statement: 6. A repeat of the first at 128: 0"
-    goes (fresh (group 0)) (many mostStatements ++ hears (propose 2 128 128 127 3 2) ⇒ bytes 0
-    ∷ holds (λ s. eqb (length (s .statements)) mostStatements && eqb (length (s .tallies)) 129)
+    goes (fresh (group 0)) (many (mostStatements small) ++ hears (propose 2 128 128 127 3 2) ⇒ bytes 0
+    ∷ holds (λ s. eqb (length (s .statements)) (mostStatements small) && eqb (length (s .tallies)) 129)
     ∷ hears (propose 2 129 129 128 3 2) ⇒ refuses 6 ∷ hears (propose 2 129 129 128 3 2) ⇒ refuses 3 ∷ [])
+    -- with the large limits: views 256 and 257
+    ∷ goes (fresh (record { n = 3; D = 2; own = 0; size = large })) (hears (vote 257 1 77 0) ⇒ refuses 5 ∷ hears (vote 256 1 77 0) ⇒ bytes 0 ∷ [])
     -- the last free tally, and none
-    ∷ goes (withTables [] (tallied 255) (fresh (group 0))) (hears (vote 1 2 9 0) ⇒ bytes 0 ∷ hears (vote 1 2 9 1) ⇒ bytes 0 ∷ hears (vote 1 3 8 0) ⇒ refuses 6 ∷ ticks ⇒ refuses 3 ∷ [])
+    ∷ goes (withTables [] (tallied (mostTallies small - 1)) (fresh (group 0))) (hears (vote 1 2 9 0) ⇒ bytes 0 ∷ hears (vote 1 2 9 1) ⇒ bytes 0 ∷ hears (vote 1 3 8 0) ⇒ refuses 6 ∷ ticks ⇒ refuses 3 ∷ [])
     -- a statement that would make the station quit needs its records all the same
-    ∷ goes (withTables [] (tallied 254) (fresh (group 2))) (hears (newView 1 0 0 0 0 1) ⇒ bytes 132 ∷ hears (propose 1 1 777 0 3 1) ⇒ bytes 160 ∷ hears (propose 1 1 778 0 3 1) ⇒ refuses 6 ∷ [])
+    ∷ goes (withTables [] (tallied (mostTallies small - 2)) (fresh (group 2))) (hears (newView 1 0 0 0 0 1) ⇒ bytes 132 ∷ hears (propose 1 1 777 0 3 1) ⇒ bytes 160 ∷ hears (propose 1 1 778 0 3 1) ⇒ refuses 6 ∷ [])
     -- the clock's end
     ∷ goes (withClock (lastClock - 1) (fresh (group 2))) (ticks ⇒ bytes 18 ∷ ticks ⇒ refuses 8 ∷ holds (λ s. eqb (s .clock) lastClock) ∷ ticks ⇒ refuses 3 ∷ [])
     -- the host's number
@@ -258,7 +260,7 @@ counted = tally 1 0 0 3 ∷ tally 1 1 77 3 ∷ tally 2 1 77 0 ∷ []
 
 held : Settings → Phase → ℕ → Tally → List Statement → List Tally → List ℕ → List ℕ → State
 held g p v t xs ts ms l =
-    record { settings = g; phase = p; view = v; entry = 3; clock = 9; lock = t; statements = xs; tallies = ts; blames = ms; log = l }
+    record { settings = g; phase = p; view = v; entry = 3; clock = 9; lock = certificateOf t; statements = xs; tallies = ts; blames = ms; log = l }
 
 tables : List Statement → List Tally → List ℕ → Bool
 unfolding wellFormed held group tally
@@ -280,7 +282,7 @@ unfolding wellFormed held group tally said lower upper counted tables withClock 
 formed =
     wellFormed (fresh (group 0)) ∷ tables (lower ∷ upper ∷ []) counted (77 ∷ [])
     -- (1), (2), (3)
-    ∷ not (wellFormed (held (record { n = 4; D = 2; own = 2 }) inView 2 (tally 1 1 77 3) [] [] (replicate 33 0) []))
+    ∷ not (wellFormed (held (record { n = 4; D = 2; own = 2; size = small }) inView 2 (tally 1 1 77 3) [] [] (replicate 33 0) []))
     ∷ header inView 32 ∷ not (header inView 33) ∷ not (header inView 0)
     ∷ header (waiting 3) 2 ∷ header (waiting 9) 2 ∷ not (header (waiting 2) 2) ∷ not (header (waiting 10) 2) ∷ header (stopped full) 2
     ∷ wellFormed (withClock lastClock rich) ∷ not (wellFormed (withClock (lastClock + 1) rich)) ∷ not (wellFormed (withClock 2 rich))
@@ -288,8 +290,8 @@ formed =
     ∷ locked (tally 0 0 0 0) ∷ locked (tally 1 0 0 3) ∷ not (locked (tally 2 1 77 3)) ∷ not (locked (tally 1 1 77 1)) ∷ not (locked (tally 1 1 0 3)) ∷ not (locked (tally 0 1 77 0))
     ∷ not (locked (tally 1 1 (2 ^ 256) 3))
     -- (5)
-    ∷ tables [] (tallied mostTallies) [] ∷ not (tables [] (tallied (suc mostTallies)) [])
-    ∷ tables (chained mostStatements) (chainTallies mostStatements) [] ∷ not (tables (chained (suc mostStatements)) (chainTallies (suc mostStatements)) [])
+    ∷ tables [] (tallied (mostTallies small)) [] ∷ not (tables [] (tallied (suc (mostTallies small))) [])
+    ∷ tables (chained (mostStatements small)) (chainTallies (mostStatements small)) [] ∷ not (tables (chained (suc (mostStatements small))) (chainTallies (suc (mostStatements small))) [])
     -- (6), (7)
     ∷ not (tables (said false 1 1 77 0 2 none ∷ []) counted []) ∷ tables (said false 1 1 77 0 1 (some 9) ∷ []) counted [] ∷ not (tables (said false 1 1 77 0 1 (some 10) ∷ []) counted [])
     ∷ not (tables (said false 1 1 (2 ^ 256) 0 1 none ∷ []) (tally 1 1 (2 ^ 256) 0 ∷ counted) []) ∷ not (tables (lower ∷ lower ∷ []) counted [])

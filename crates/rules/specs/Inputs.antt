@@ -9,7 +9,7 @@ use Rattle.rules.specs.Limits.{lastView, lastHeight}
 use Rattle.rules.specs.Lists.{first, any, keep, alter, sorted}
 use Rattle.rules.specs.Sizes.{Settings, leader, only, holds, joined, quorum}
 use Rattle.rules.specs.Messages.{Message, newView, propose, vote, blame, blameSet, status, Effect, toAll, toOne, committed}
-use Rattle.rules.specs.Words.{Statement, message, sameStatement, conflict, Tally, ownBlock, certificate, sameBlock, join, joinCertificate, voters, below, highest, Phase, inView, waiting, stopped, State}
+use Rattle.rules.specs.Words.{Statement, message, sameStatement, conflict, Certificate, Tally, ownBlock, certificate, sameBlock, join, joinCertificate, voters, below, highest, Phase, inView, waiting, stopped, State}
 
 -- a state on the way, and what was said so far
 pub record Work : Type 0 where
@@ -46,7 +46,7 @@ unfoldable pub withLog : List ℕ → State → State
 withLog l s =
     record { settings = s .settings; phase = s .phase; view = s .view; entry = s .entry; clock = s .clock; lock = s .lock; statements = s .statements; tallies = s .tallies; blames = s .blames; log = l }
 
-unfoldable pub entering : ℕ → Tally → State → State
+unfoldable pub entering : ℕ → Certificate → State → State
 entering v t s =
     record { settings = s .settings; phase = inView; view = v; entry = s .clock; clock = s .clock; lock = t; statements = s .statements; tallies = s .tallies; blames = s .blames; log = s .log }
 
@@ -117,7 +117,7 @@ statement x s =
 -- ---- vote, status, blame, blame set
 
 -- "vote, status join their tally, opened if missing (a status for genesis in view 0 changes nothing)"
-unfoldable pub tallied : Tally → State → Work
+unfoldable pub tallied : Certificate → State → Work
 unfolding saying withTables joinCertificate
 tallied t s = saying (withTables (s .statements) (joinCertificate t (s .tallies)) s) []
 
@@ -294,11 +294,12 @@ lead s = elim (leadsNow s) [ true ↦ handled (ownNewView s) s | false ↦ sayin
 
 -- "a waiting station below view 32 enters the next at exactly quit+D+1"
 unfoldable pub entersNow : State → Bool
+unfolding lastView
 entersNow s =
-    elim (s .phase) [ inView ↦ false | waiting q ↦ ltb (s .view) lastView && eqb (s .clock) (q + s .settings .D + 1) | stopped c ↦ false ]
+    elim (s .phase) [ inView ↦ false | waiting q ↦ ltb (s .view) (lastView (s .settings .size)) && eqb (s .clock) (q + s .settings .D + 1) | stopped c ↦ false ]
 
 -- "locks on the highest certificate of an earlier view"
-unfoldable pub nextLock : State → Tally
+unfoldable pub nextLock : State → Certificate
 unfolding highest
 nextLock s = highest (s .settings) (s .view + 1) (s .tallies)
 

@@ -125,9 +125,9 @@ read bs = readField 1 bs body
 -- ---- allowed
 
 -- "numbers within the limits; view at least 1"
-unfoldable pub viewAllowed : ℕ → Bool
-unfolding within
-viewAllowed v = within firstView lastView v
+unfoldable pub viewAllowed : Settings → ℕ → Bool
+unfolding within lastView
+viewAllowed g v = within firstView (lastView (g .size)) v
 
 -- "numbers within the limits"; "height 0 exactly when the name is all zero (genesis)"
 unfoldable pub blockAllowed : ℕ → ℕ → Bool
@@ -141,19 +141,19 @@ maskAllowed g m = ltb m (2 ^ g .n) && quorum g m
 
 -- "certificate view 0 goes with height 0 and mask 0 only"; else a quorum
 unfoldable pub certificateAllowed : Settings → ℕ → ℕ → ℕ → Bool
-unfolding maskAllowed
-certificateAllowed g h c m = elim (eqb c 0) [ true ↦ eqb h 0 && eqb m 0 | false ↦ leb c lastView && maskAllowed g m ]
+unfolding maskAllowed lastView
+certificateAllowed g h c m = elim (eqb c 0) [ true ↦ eqb h 0 && eqb m 0 | false ↦ leb c (lastView (g .size)) && maskAllowed g m ]
 
 -- "author below n"; "the leader of the view for kinds 1 and 2"; "a propose has height at least 1", and its
 -- "parent is all zero exactly at height 1"; "a new-view has certificate view below its view"
 unfoldable pub allowed : Settings → Message → Bool
 unfolding viewAllowed blockAllowed maskAllowed certificateAllowed leader
-allowed g (newView v h b c m a) = viewAllowed v && blockAllowed h b && ltb c v && certificateAllowed g h c m && eqb a (leader g v)
+allowed g (newView v h b c m a) = viewAllowed g v && blockAllowed h b && ltb c v && certificateAllowed g h c m && eqb a (leader g v)
 allowed g (propose v h b p m a) =
-    viewAllowed v && leb 1 h && blockAllowed h b && blockAllowed (h - 1) p && maskAllowed g m && eqb a (leader g v)
-allowed g (vote v h b a) = viewAllowed v && blockAllowed h b && ltb a (g .n)
-allowed g (blame v a) = viewAllowed v && ltb a (g .n)
-allowed g (blameSet v m) = viewAllowed v && maskAllowed g m
+    viewAllowed g v && leb 1 h && blockAllowed h b && blockAllowed (h - 1) p && maskAllowed g m && eqb a (leader g v)
+allowed g (vote v h b a) = viewAllowed g v && blockAllowed h b && ltb a (g .n)
+allowed g (blame v a) = viewAllowed g v && ltb a (g .n)
+allowed g (blameSet v m) = viewAllowed g v && maskAllowed g m
 allowed g (status h b c m) = blockAllowed h b && certificateAllowed g h c m
 
 -- ---- outgoing

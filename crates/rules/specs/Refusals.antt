@@ -30,7 +30,8 @@ stopping k why s = refused k (withPhase (stopped why) s)
 
 -- the tables have room for what was added
 unfoldable pub hasRoom : State → Bool
-hasRoom s = leb (length (s .statements)) mostStatements && leb (length (s .tallies)) mostTallies
+unfolding mostStatements mostTallies
+hasRoom s = leb (length (s .statements)) (mostStatements (s .settings .size)) && leb (length (s .tallies)) (mostTallies (s .settings .size))
 
 -- 6, "no record free for what this input must add"
 unfoldable pub ifRoom : State → Work → Outcome

@@ -4,6 +4,7 @@ use mathlib.Core.Bool.{Bool, true, false, _&&_}
 use mathlib.Core.List.{List, [], _∷_}
 use lib.ListN.{length}
 use lib.Dec.{eqb}
+use Rattle.rules.specs.Limits.{small}
 use Rattle.rules.specs.Sizes.{Settings, goodSettings}
 use Rattle.rules.specs.Messages.{Message, propose, write, Effect, outgoing}
 use Rattle.rules.specs.Words.{State, fresh}
@@ -62,10 +63,10 @@ goes s (holds p ∷ ls) = p s && goes s ls
 
 unfoldable pub good : ℕ → ℕ → ℕ → Bool
 unfolding goodSettings
-good n D i = goodSettings (record { n = n; D = D; own = i })
+good n D i = goodSettings (record { n = n; D = D; own = i; size = small })
 
 unfoldable pub group : ℕ → Settings
-group i = record { n = 3; D = 2; own = i }
+group i = record { n = 3; D = 2; own = i; size = small }
 
 unfoldable pub station : ℕ → List Line → Bool
 unfolding goes fresh group

@@ -4,7 +4,7 @@ use mathlib.Core.Bool.{Bool, _&&_}
 use lib.Dec.{leb, ltb, eqb}
 use lib.Bits.{bitOr}
 use lib.Count.{onesIn}
-use Rattle.rules.specs.Limits.{leastStations, mostStations, leastDelay, mostDelay, maskBits}
+use Rattle.rules.specs.Limits.{Size, leastStations, mostStations, leastDelay, mostDelay, maskBits}
 use Rattle.rules.specs.Lists.{within}
 
 pub record Settings : Type 0 where
@@ -14,6 +14,8 @@ pub record Settings : Type 0 where
   pub D : ℕ
   -- "own number"
   pub own : ℕ
+  -- which limits the group goes by
+  pub size : Size
 
 -- "odd, 3 to 15"; "1 to 10,000"; "0 to n-1"
 unfoldable pub goodSettings : Settings → Bool

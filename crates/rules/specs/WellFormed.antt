@@ -9,7 +9,7 @@ use Rattle.rules.specs.Limits.{lastView, mostStatements, mostTallies, la
 use Rattle.rules.specs.Lists.{any, all, distinct, within}
 use Rattle.rules.specs.Sizes.{Settings, goodSettings}
 use Rattle.rules.specs.Messages.{viewAllowed, blockAllowed, certificateAllowed, allowed}
-use Rattle.rules.specs.Words.{Statement, message, sameStatement, Tally, ownBlock, certificate, sameBlock, Phase, inView, waiting, stopped, State}
+use Rattle.rules.specs.Words.{Statement, message, sameStatement, Tally, certificateOf, ownBlock, certificate, sameBlock, Phase, inView, waiting, stopped, State}
 use Rattle.rules.specs.Inputs.{isBlock}
 
 -- a name is 32 bytes; a mask has no bit at n or above
@@ -44,19 +44,24 @@ statementGood s x =
 -- (8) a tally is of a view and a block that are allowed, with a mask of these stations
 unfoldable pub tallyGood : Settings → Tally → Bool
 unfolding viewAllowed blockAllowed isName isMask
-tallyGood g t = viewAllowed (t .view) && blockAllowed (t .height) (t .name) && isName (t .name) && isMask g (t .mask)
+tallyGood g t = viewAllowed g (t .view) && blockAllowed (t .height) (t .name) && isName (t .name) && isMask g (t .mask)
+
+-- two tallies of one block
+unfoldable pub sameTally : Tally → Tally → Bool
+unfolding sameBlock
+sameTally t u = sameBlock (certificateOf t) (certificateOf u)
 
 -- (9) "tallies exist from now on for its certified block and its own block in its view"; genesis "has no tally" in view 0
 unfoldable pub talliesThere : List Tally → Statement → Bool
 unfolding any sameBlock ownBlock certificate
 talliesThere ts x =
-    any (sameBlock (ownBlock x 0)) ts && (eqb (certificate x .view) 0 || any (sameBlock (certificate x)) ts)
+    any (λ t. sameBlock (ownBlock x 0) (certificateOf t)) ts && (eqb (certificate x .view) 0 || any (λ t. sameBlock (certificate x) (certificateOf t)) ts)
 
 -- (10) one blame mask a view, of these stations; nobody blames view 0
 unfoldable pub blamesGood : Settings → List ℕ → Bool
-unfolding all isMask
+unfolding all isMask lastView
 blamesGood g [] = false
-blamesGood g (m ∷ ms) = eqb m 0 && eqb (length ms) lastView && all (isMask g) ms
+blamesGood g (m ∷ ms) = eqb m 0 && eqb (length ms) (lastView (g .size)) && all (isMask g) ms
 
 -- (11) "log linked by parent to genesis": each logged name, above the one before, is that of a stored propose
 unfoldable pub linked : List Statement → ℕ → ℕ → List ℕ → Bool
@@ -65,23 +70,23 @@ linked xs h parent [] = true
 linked xs h parent (b ∷ l) = any (λ x. isBlock (suc h) b x && eqb parent (x .link)) xs && linked xs (suc h) b l
 
 unfoldable pub wellFormed : State → Bool
-unfolding goodSettings viewAllowed clocksInOrder lockGood all statementGood distinct sameStatement tallyGood sameBlock talliesThere blamesGood linked
+unfolding goodSettings viewAllowed clocksInOrder lockGood all statementGood distinct sameStatement tallyGood sameTally talliesThere blamesGood linked mostStatements mostTallies
 wellFormed s =
     -- (1) settings in range
     goodSettings (s .settings)
     -- (2) the view in range
-    && viewAllowed (s .view)
+    && viewAllowed (s .settings) (s .view)
     && clocksInOrder s
     && lockGood s
     -- (5) counts in range
-    && leb (length (s .statements)) mostStatements
-    && leb (length (s .tallies)) mostTallies
+    && leb (length (s .statements)) (mostStatements (s .settings .size))
+    && leb (length (s .tallies)) (mostTallies (s .settings .size))
     -- (6), (7) statements allowed and distinct
     && all (statementGood s) (s .statements)
     && distinct sameStatement (s .statements)
     -- (8) tallies allowed and distinct
     && all (tallyGood (s .settings)) (s .tallies)
-    && distinct sameBlock (s .tallies)
+    && distinct sameTally (s .tallies)
     && all (talliesThere (s .tallies)) (s .statements)
     && blamesGood (s .settings) (s .blames)
     && linked (s .statements) 0 0 (s .log)

@@ -50,27 +50,45 @@ conflict x y =
           [ true ↦ leb (x .height) (y .height) | false ↦ eqb (x .height) (y .height) && not (eqb (x .name) (y .name)) ]
     ]
 
--- "a tally is (view, height, name) with a mask"; a certificate has the same parts
+-- a block of a view, with voters: what a statement, a vote or a status carries, and the lock
+pub record Certificate : Type 0 where
+  pub view : ℕ
+  pub height : ℕ
+  pub name : ℕ
+  pub mask : ℕ
+
+-- "a tally is (view, height, name) with a mask": a record of the table
 pub record Tally : Type 0 where
   pub view : ℕ
   pub height : ℕ
   pub name : ℕ
   pub mask : ℕ
 
+-- what a tally certifies, and a tally that is opened for a certificate
+abbrev pub certificateOf : Tally → Certificate
+certificateOf t = record { view = t .view; height = t .height; name = t .name; mask = t .mask }
+
+abbrev pub opened : Certificate → Tally
+opened c = record { view = c .view; height = c .height; name = c .name; mask = c .mask }
+
 -- the statement's "own block in its view", with a mask
-unfoldable pub ownBlock : Statement → ℕ → Tally
+unfoldable pub ownBlock : Statement → ℕ → Certificate
 ownBlock x m = record { view = x .view; height = x .height; name = x .name; mask = m }
 
 -- the statement's certificate: of "its certified block". A propose's "mask certifies (view, height-1, parent)"
-unfoldable pub certificate : Statement → Tally
+unfoldable pub certificate : Statement → Certificate
 certificate x =
     elim (x .isNewView) [
       | true ↦ record { view = x .link; height = x .height; name = x .name; mask = x .mask }
       | false ↦ record { view = x .view; height = x .height - 1; name = x .link; mask = x .mask }
     ]
 
-unfoldable pub sameBlock : Tally → Tally → Bool
+unfoldable pub sameBlock : Certificate → Certificate → Bool
 sameBlock t u = eqb (t .view) (u .view) && eqb (t .height) (u .height) && eqb (t .name) (u .name)
+
+-- a tally is of this block
+abbrev pub ofBlock : Certificate → Tally → Bool
+ofBlock t u = sameBlock t (certificateOf u)
 
 -- "adding a voter to a tally gives back the grown tally"
 unfoldable pub grown : Tally → ℕ → Tally
@@ -78,21 +96,21 @@ unfolding joined
 grown t m = record { view = t .view; height = t .height; name = t .name; mask = joined (t .mask) m }
 
 -- a mask joins its tally, "opened if missing"; to open a tally is to join no voters
-unfoldable pub join : Tally → List Tally → List Tally
+unfoldable pub join : Certificate → List Tally → List Tally
 unfolding sameBlock grown
-join t [] = t ∷ []
-join t (u ∷ us) = elim (sameBlock t u) [ true ↦ grown u (t .mask) ∷ us | false ↦ u ∷ join t us ]
+join t [] = opened t ∷ []
+join t (u ∷ us) = elim (sameBlock t (certificateOf u)) [ true ↦ grown u (t .mask) ∷ us | false ↦ u ∷ join t us ]
 
 -- "genesis is certified in view 0 and has no tally there"
-unfoldable pub joinCertificate : Tally → List Tally → List Tally
+unfoldable pub joinCertificate : Certificate → List Tally → List Tally
 unfolding join
 joinCertificate t us = elim (eqb (t .view) 0) [ true ↦ us | false ↦ join t us ]
 
 -- the voters that a block's tally has
-unfoldable pub voters : Tally → List Tally → ℕ
+unfoldable pub voters : Certificate → List Tally → ℕ
 unfolding sameBlock
 voters t [] = 0
-voters t (u ∷ us) = elim (sameBlock t u) [ true ↦ u .mask | false ↦ voters t us ]
+voters t (u ∷ us) = elim (sameBlock t (certificateOf u)) [ true ↦ u .mask | false ↦ voters t us ]
 
 -- "it is certified at f+1 bits"
 unfoldable pub certified : Settings → Tally → Bool
@@ -100,24 +118,24 @@ unfolding quorum
 certified g t = quorum g (t .mask)
 
 -- "rank is view, then height"
-unfoldable pub below : Tally → Tally → Bool
+unfoldable pub below : Certificate → Certificate → Bool
 below t u = ltb (t .view) (u .view) || eqb (t .view) (u .view) && ltb (t .height) (u .height)
 
 -- "'highest' breaks ties by the smaller name in byte order"
-unfoldable pub higher : Tally → Tally → Bool
+unfoldable pub higher : Certificate → Certificate → Bool
 unfolding below
 higher t u = below u t || not (below t u) && ltb (t .name) (u .name)
 
-abbrev pub genesis : Tally
+abbrev pub genesis : Certificate
 genesis = record { view = 0; height = 0; name = 0; mask = 0 }
 
 -- the "highest certificate of an earlier view"
-unfoldable pub highest : Settings → ℕ → List Tally → Tally
+unfoldable pub highest : Settings → ℕ → List Tally → Certificate
 unfolding certified higher
 highest g v [] = genesis
 highest g v (t ∷ ts) =
     let best = highest g v ts in
-    elim (ltb (t .view) v && certified g t && higher t best) [ true ↦ t | false ↦ best ]
+    elim (ltb (t .view) v && certified g t && higher (certificateOf t) best) [ true ↦ certificateOf t | false ↦ best ]
 
 -- "a station is in a view, waiting after a quit, or stopped with a cause"
 pub data Cause : Type 0 where
@@ -136,7 +154,7 @@ pub record State : Type 0 where
   pub view : ℕ
   pub entry : ℕ
   pub clock : ℕ
-  pub lock : Tally
+  pub lock : Certificate
   pub statements : List Statement
   pub tallies : List Tally
   pub blames : List ℕ
@@ -144,6 +162,7 @@ pub record State : Type 0 where
 
 -- "it starts in view 1, clock 0, lock on genesis"
 unfoldable pub fresh : Settings → State
+unfolding lastView
 fresh g =
     record {
       settings = g;
@@ -154,6 +173,6 @@ fresh g =
       lock = genesis;
       statements = [];
       tallies = [];
-      blames = replicate (suc lastView) 0;
+      blames = replicate (suc (lastView (g .size))) 0;
       log = [];
     }

@@ -1,6 +1,7 @@
 // What is printed of each line: what it was, and the answer or what is wrong with it.
 ghost use mathlib.Core.Path.{_≡_};
 ghost use lib.ListN.{length};
+ghost use Rattle.rules.specs.Limits.{leastOutSmall};
 use crate::sent;
 use crate::words;
 use lines::Flaw;
@@ -12,7 +13,7 @@ pub type Out = [u8; Settings::LEAST_OUT];
 
 // An out buffer. The contract gives only the length, which lending it as a slice needs.
 pub fn out_buffer() -> Out
-    ensures { λ r. ⌜ 32768 ≡ length r ⌝ }
+    ensures { λ r. ⌜ leastOutSmall ≡ length r ⌝ }
 {
     [0; Settings::LEAST_OUT]
 }
@@ -47,7 +48,8 @@ pub fn reason(page: &mut Page, at: usize, refusal: u64) -> usize {
         ),
         8 => page::say(page, at, b" tick at clock 4,000,000,000\n"),
         9 => page::say(page, at, b" offer not to be taken\n"),
-        _ => page::say(page, at, b" bad settings for a fresh store\n"),
+        10 => page::say(page, at, b" bad settings for a fresh store\n"),
+        _ => page::say(page, at, b"\n"),
     }
 }
 

@@ -3,10 +3,10 @@ ghost use mathlib.Core.Path.{_≡_};
 ghost use lib.ListN.{length};
 ghost use Prim.Native.Nat.{_^_, _<_};
 ghost use Rattle.rules.specs.Limits.{mostStatements};
+ghost use Rattle.store.specs.Layout.{smallLength, sizeIn};
 use crate::show;
 use crate::words;
 use page::Page;
-use settings::Settings;
 use store::Cause;
 use store::Phase;
 use store::Station;
@@ -17,9 +17,14 @@ pub type Store = [u8; store::LENGTH];
 
 // A store of zeros, which is none that is well formed. The contract gives only the length.
 pub fn no_store() -> Store
-    ensures { λ r. ⌜ 25220 ≡ length r ⌝ }
+    ensures { λ r. ⌜ smallLength ≡ length r ⌝ }
 {
     [0; store::LENGTH]
+}
+
+// Whether a store is well formed.
+fn is_good(store: &Store) -> bool {
+    formed::well_formed(store)
 }
 
 // A clock as a word, with its bound.
@@ -47,7 +52,7 @@ pub fn log(line: u64, store: &Store) {
 
 // The log of a store that is well formed.
 fn logged(page: &mut Page, at: usize, store: &Store) -> usize {
-    if !formed::well_formed(store) {
+    if !is_good(store) {
         return show::refused(page, at, 2);
     }
     let station = Station::load(store);
@@ -62,7 +67,7 @@ fn entries(page: &mut Page, at: usize, store: &Store, count: usize) -> usize {
     let mut end = at;
     let mut i: usize = 0;
     while i < count {
-        if Settings::MOST_STATEMENTS <= i {
+        if store::most_statements_in(store) <= i {
             break;
         }
         end = entry(page, end, store, i);
@@ -73,7 +78,7 @@ fn entries(page: &mut Page, at: usize, store: &Store, count: usize) -> usize {
 
 // The entry at height i + 1.
 fn entry(page: &mut Page, at: usize, store: &Store, i: usize) -> usize
-    requires { ⌜ i < mostStatements ⌝ }
+    requires { ⌜ i < mostStatements (sizeIn (now store)) ⌝ }
 {
     let indented = page::say(page, at, b"  ");
     let name = store::name_at(store, i);
@@ -91,7 +96,7 @@ pub fn state(line: u64, store: &Store) {
 
 // The state of a store that is well formed.
 fn standing(page: &mut Page, at: usize, store: &Store) -> usize {
-    if !formed::well_formed(store) {
+    if !is_good(store) {
         return show::refused(page, at, 2);
     }
     let station = Station::load(store);

@@ -1,5 +1,4 @@
 pub mod Statements
-pub mod Ranks
 pub mod Counts
 pub mod Searches
 pub mod Tops

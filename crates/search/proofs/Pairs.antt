@@ -8,9 +8,10 @@ use native.Mathlib.Omega.{arith}
 use lib.Dec.{eqb}
 use borrow.Author.Tests.{eq-eqb, ne-eqb, eqb-true, eqb-false}
 use Rattle.rules.specs.Lists.{first, keep}
-use Rattle.rules.specs.Words.{Statement, conflict, Tally, sameBlock, voters}
+use Rattle.rules.specs.Words.{Statement, conflict, Certificate, Tally, ofBlock, voters}
 use Rattle.rules.specs.Inputs.{pair}
 use Rattle.rules.proofs.Tests.{by-bool}
+use Rattle.words.proofs.Statements.{other-view}
 use Rattle.store.specs.Decode.{rows}
 use Rattle.store.specs.Changes.{firstFrom}
 use Rattle.store.specs.declared.Found.{Found}
@@ -18,7 +19,6 @@ use Rattle.store.specs.declared.Found.the-variants.{At, Nothing}
 use Rattle.store.proofs.Rows.{rows-from}
 use Rattle.search.specs.Lookups.{ofView, rivalIn}
 use Rattle.search.specs.Finds.{foundIn, Inside, Finds}
-use Rattle.search.proofs.Statements.{other-view}
 use Rattle.search.proofs.Searches.{rows-end, found-first}
 
 -- ---- what was found, taken apart
@@ -117,7 +117,7 @@ abbrev pub maskOf : Option Tally → ℕ
 maskOf none = 0
 maskOf (some t) = t .mask
 
-pub voters-first : (t : Tally) (us : List Tally) → voters t us ≡ maskOf (first (sameBlock t) us)
+pub voters-first : (t : Certificate) (us : List Tally) → voters t us ≡ maskOf (first (ofBlock t) us)
 unfolding voters first
 voters-first t [] = refl
-voters-first t (u ∷ us) = by-bool (sameBlock t u) (λ q. rw (q, voters, first)) (λ q. rw (q, voters, first) (voters-first t us))
+voters-first t (u ∷ us) = by-bool (ofBlock t u) (λ q. rw (q, voters, first)) (λ q. rw (q, voters, first) (voters-first t us))

@@ -8,13 +8,13 @@ use native.Mathlib.Omega.{arith}
 use lib.Dec.{ltb}
 use borrow.Author.Tests.{eq-eqb, ne-eqb, lt-ltb, le-ltb}
 use Rattle.rules.specs.Sizes.{Settings, quorum}
-use Rattle.rules.specs.Words.{Statement, Tally, genesis, certified, higher, highest}
+use Rattle.rules.specs.Words.{Statement, Certificate, Tally, certificateOf, genesis, certified, higher, highest}
 use Rattle.rules.proofs.Tests.{by-bool}
 use Rattle.rules.specs.Inputs.{top}
 use Rattle.fields.specs.Names.{nameOf}
 use Rattle.fields.specs.declared.Name.{Name}
+use Rattle.words.specs.Meaning.{blockOf}
 use Rattle.store.specs.Decode.{rows}
-use Rattle.store.specs.Meaning.{tallyOf}
 use Rattle.store.specs.declared.Found.{Found}
 use Rattle.store.specs.declared.Found.the-variants.{At, Nothing}
 use Rattle.search.specs.Lookups.{chosen}
@@ -94,45 +94,37 @@ module _ (f : ℕ → Statement) (v n : ℕ) where
 
 -- ---- the highest certificate
 
-abbrev chosenIf : Bool → Tally → Tally → Tally
+abbrev chosenIf : Bool → Certificate → Certificate → Certificate
 chosenIf a t best = elim a [ true ↦ t | false ↦ best ]
 
-module _ (g : Settings) (v : ℕ) (t best : Tally) where
-  by-tests : chosen g v t best ≡ chosenIf (ltb (t .view) v && certified g t && higher t best) t best
+module _ (g : Settings) (v : ℕ) (t best : Certificate) where
+  by-tests : chosen g v t best ≡ chosenIf (ltb (t .view) v && quorum g (t .mask) && higher t best) t best
   unfolding chosen
   by-tests = refl
-
-  by-quorum : certified g t ≡ quorum g (t .mask)
-  unfolding certified
-  by-quorum = refl
 
   pub chosen-late : v ≤ t .view → best ≡ chosen g v t best
   chosen-late h = rw (by-tests, le-ltb _ _ h)
 
   pub chosen-few : quorum g (t .mask) ≡ false → best ≡ chosen g v t best
-  chosen-few h = by-bool (ltb (t .view) v) (λ q. rw (by-tests, q, by-quorum, h)) (λ q. rw (by-tests, q))
+  chosen-few h = by-bool (ltb (t .view) v) (λ q. rw (by-tests, q, h)) (λ q. rw (by-tests, q))
 
   pub chosen-lower : higher t best ≡ false → best ≡ chosen g v t best
-  chosen-lower h = by-bool (ltb (t .view) v && certified g t) (λ q. rw (by-tests, q, h)) (λ q. rw (by-tests, q))
+  chosen-lower h = by-bool (ltb (t .view) v && quorum g (t .mask)) (λ q. rw (by-tests, q, h)) (λ q. rw (by-tests, q))
 
   pub chosen-here : t .view < v → quorum g (t .mask) ≡ true → higher t best ≡ true → t ≡ chosen g v t best
-  chosen-here l q h = rw (by-tests, lt-ltb _ _ l, by-quorum, q, h)
+  chosen-here l q h = rw (by-tests, lt-ltb _ _ l, q, h)
 
 module _ (g : Settings) (v : ℕ) where
-  highest-cons : (t : Tally) (ts : List Tally) → highest g v (t ∷ ts) ≡ chosen g v t (highest g v ts)
-  unfolding highest chosen
+  highest-cons : (t : Tally) (ts : List Tally) → highest g v (t ∷ ts) ≡ chosen g v (certificateOf t) (highest g v ts)
+  unfolding highest certified chosen
   highest-cons t ts = refl
-
-  pub from-genesis : (name : Name) → nameOf name ≡ 0 → tallyOf (record { view = 0; height = 0; name = name; mask = 0 }) ≡ genesis
-  unfolding tallyOf
-  from-genesis name e = rw e
 
   module _ (f : ℕ → Tally) (n : ℕ) where
     pub highest-none : (i : ℕ) → n ≤ i → genesis ≡ highest g v (rows f i (n - i))
     unfolding highest
     highest-none i h = rw (rows-end f n i h)
 
-    pub highest-step : (i : ℕ) → 0 < i → i ≤ n → (g′ : Settings) (t best new : Tally) → g′ ≡ g → t ≡ f (i - 1) → best ≡ highest g v (rows f i (n - i)) → new ≡ chosen g′ v t best
+    pub highest-step : (i : ℕ) → 0 < i → i ≤ n → (g′ : Settings) (t best new : Certificate) → g′ ≡ g → t ≡ certificateOf (f (i - 1)) → best ≡ highest g v (rows f i (n - i)) → new ≡ chosen g′ v t best
         → new ≡ highest g v (rows f (i - 1) (n - (i - 1)))
     highest-step i l m g′ t best new p q r e =
         e ∙ (λ k. chosen (p k) v (q k) (r k)) ∙ sym (ap (highest g v) (rows-back f n i l m) ∙ highest-cons (f (i - 1)) (rows f i (n - i)))

@@ -6,23 +6,13 @@ use mathlib.Core.List.{List}
 use mathlib.Core.Option.{Option, none}
 use lib.Dec.{ltb, eqb}
 use Rattle.rules.specs.Lists.{first, keep}
-use Rattle.rules.specs.Sizes.{Settings}
-use Rattle.rules.specs.Words.{Statement, conflict, Tally, certificate, certified, below, higher}
-
--- a new-view's link is a view, and a propose is above genesis, so that the certificate's numbers fit their words
-pub record Certifies (x : Statement) : Type 0 where
-  pub view : x .isNewView ≡ true → x .link < 2 ^ 32
-  pub above : x .isNewView ≡ false → 0 < x .height
-
--- rules' `belowLock`, with the lock alone
-unfoldable pub ranksBelow : Statement → Tally → Bool
-unfolding below certificate
-ranksBelow x lock = x .isNewView && below (certificate x) lock
+use Rattle.rules.specs.Sizes.{Settings, quorum}
+use Rattle.rules.specs.Words.{Statement, conflict, Certificate, Tally, certificateOf, certificate, certified, below, higher}
 
 -- one step of rules' `highest`
-unfoldable pub chosen : Settings → ℕ → Tally → Tally → Tally
-unfolding certified higher
-chosen g v t best = elim (ltb (t .view) v && certified g t && higher t best) [ true ↦ t | false ↦ best ]
+unfoldable pub chosen : Settings → ℕ → Certificate → Certificate → Certificate
+unfolding quorum higher
+chosen g v t best = elim (ltb (t .view) v && quorum g (t .mask) && higher t best) [ true ↦ t | false ↦ best ]
 
 -- rules' `isOpened`, of a view
 abbrev pub opens : ℕ → Statement → Bool

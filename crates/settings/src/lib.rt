@@ -1,34 +1,26 @@
 // The settings of a station: the limits of 01, which code reads here and nowhere else, and what follows from n and the own number.
 ghost use mathlib.Core.Path.{_≡_};
 ghost use Prim.Native.Nat.{_<_, _^_};
-ghost use Rattle.rules.specs.Limits.{maskBits};
+ghost use Rattle.rules.specs.Limits.{maskBits, lastView, mostStatements, mostTallies, leastOut};
 ghost use Rattle.rules.specs.Sizes.{leader, quorum, only};
-ghost use Rattle.settings.specs.Made.{made, settingsOf, tied};
+ghost use Rattle.settings.specs.Made.{made, sizeFrom, settingsOf};
+
+// Which limits a group goes by.
+pub enum Size {
+    Small,
+    Large,
+}
 
 pub struct Settings {
     pub n: u64,
     pub delay: u64,
     pub own: u64,
+    pub size: Size,
 }
 
 pub enum Made {
     Good(Settings),
     Bad,
-}
-
-// Every limit, as the definitions have them.
-pub struct Limits {
-    pub least_stations: u64,
-    pub most_stations: u64,
-    pub least_delay: u64,
-    pub most_delay: u64,
-    pub first_view: u64,
-    pub last_view: u64,
-    pub last_height: u64,
-    pub most_statements: usize,
-    pub most_tallies: usize,
-    pub last_clock: u64,
-    pub least_out: usize,
 }
 
 impl Settings {
@@ -44,19 +36,27 @@ impl Settings {
 
     pub const LAST_VIEW: u64 = 32;
 
+    pub const LAST_VIEW_LARGE: u64 = 256;
+
     pub const LAST_HEIGHT: u64 = 65_535;
 
     pub const MOST_STATEMENTS: usize = 128;
 
+    pub const MOST_STATEMENTS_LARGE: usize = 512;
+
     pub const MOST_TALLIES: usize = 256;
+
+    pub const MOST_TALLIES_LARGE: usize = 1_024;
 
     pub const LAST_CLOCK: u64 = 4_000_000_000;
 
     pub const LEAST_OUT: usize = 32_768;
 
+    pub const LEAST_OUT_LARGE: usize = 131_072;
+
     // The settings, or that they are bad.
-    pub fn new(n: u64, delay: u64, own: u64) -> Made
-        ensures { λ r. ⌜ r ≡ made n delay own ⌝ }
+    pub fn new(n: u64, delay: u64, own: u64, size: Size) -> Made
+        ensures { λ r. ⌜ r ≡ made n delay own size ⌝ }
     {
         if n % 2 != 1 {
             return Made::Bad;
@@ -76,26 +76,20 @@ impl Settings {
         if n <= own {
             return Made::Bad;
         }
-        Made::Good(Settings { n, delay, own })
+        Made::Good(Settings {
+            n,
+            delay,
+            own,
+            size,
+        })
     }
 
-    // The limits that code reads are those of the definitions.
-    pub fn limits() -> Limits
-        ensures { λ r. ⌜ r ≡ tied ⌝ }
+    // The last view of the group.
+    pub fn last_view(self) -> u64
+        ensures { λ r. ⌜ r ≡ lastView (settingsOf self .size) ⌝ }
     {
-        Limits {
-            least_stations: Settings::LEAST_STATIONS,
-            most_stations: Settings::MOST_STATIONS,
-            least_delay: Settings::LEAST_DELAY,
-            most_delay: Settings::MOST_DELAY,
-            first_view: Settings::FIRST_VIEW,
-            last_view: Settings::LAST_VIEW,
-            last_height: Settings::LAST_HEIGHT,
-            most_statements: Settings::MOST_STATEMENTS,
-            most_tallies: Settings::MOST_TALLIES,
-            last_clock: Settings::LAST_CLOCK,
-            least_out: Settings::LEAST_OUT,
-        }
+        let size = self.size;
+        size.last_view()
     }
 
     // The leader of a view.
@@ -112,6 +106,48 @@ impl Settings {
         ensures { λ r. ⌜ r ≡ quorum (settingsOf self) mask ⌝ }
     {
         self.n / 2 < widened(u64::count_ones(mask))
+    }
+}
+
+impl Size {
+    // The last view.
+    pub fn last_view(self) -> u64
+        ensures { λ r. ⌜ r ≡ lastView (sizeFrom self) ⌝ }
+    {
+        match self {
+            Size::Small => Settings::LAST_VIEW,
+            Size::Large => Settings::LAST_VIEW_LARGE,
+        }
+    }
+
+    // How many statements are stored at most.
+    pub fn most_statements(self) -> usize
+        ensures { λ r. ⌜ r ≡ mostStatements (sizeFrom self) ⌝ }
+    {
+        match self {
+            Size::Small => Settings::MOST_STATEMENTS,
+            Size::Large => Settings::MOST_STATEMENTS_LARGE,
+        }
+    }
+
+    // How many tallies are stored at most.
+    pub fn most_tallies(self) -> usize
+        ensures { λ r. ⌜ r ≡ mostTallies (sizeFrom self) ⌝ }
+    {
+        match self {
+            Size::Small => Settings::MOST_TALLIES,
+            Size::Large => Settings::MOST_TALLIES_LARGE,
+        }
+    }
+
+    // How long the out buffer is at least.
+    pub fn least_out(self) -> usize
+        ensures { λ r. ⌜ r ≡ leastOut (sizeFrom self) ⌝ }
+    {
+        match self {
+            Size::Small => Settings::LEAST_OUT,
+            Size::Large => Settings::LEAST_OUT_LARGE,
+        }
     }
 }
 

@@ -13,11 +13,11 @@ use Rattle.rules.specs.Lists.{any, be}
 use Rattle.rules.specs.Sizes as sizes
 use Rattle.rules.specs.Sizes.{leader, quorum}
 use Rattle.rules.specs.Messages as messages
-use Rattle.rules.specs.Words.{Statement, message, Tally, ownBlock, voters, State}
+use Rattle.rules.specs.Words.{Statement, message, Certificate, ownBlock, voters, State}
 use Rattle.rules.specs.Inputs.{isIn, leads, isOpened, isUsed, top, extendable, above, offered, statement, handled}
 use Rattle.rules.specs.Refusals.{refused, ifRoom, running, offer}
+use Rattle.rules.proofs.Bounds.{out-least}
 use Rattle.fields.specs.Places.{Bytes, number}
-use Rattle.fields.specs.Records.{fields}
 use Rattle.fields.specs.Names.{nameOf}
 use Rattle.fields.specs.declared.Name.{Name}
 use Rattle.settings.specs.Made.{settingsOf}
@@ -30,9 +30,9 @@ use Rattle.wire.specs.declared.Statement as code
 use Rattle.wire.specs.declared.Message.the-variants.{Stated}
 use Rattle.wire.proofs.Statements.{propose-said}
 use Rattle.wire.proofs.Reading.{be-number}
-use Rattle.store.specs.Layout.{headerFormat, statementTable, countOf}
+use Rattle.store.specs.Layout.{statementTable, sizeIn, countOf}
 use Rattle.store.specs.Decode.{statementAt, statements, tallies, stateFrom, stateOf}
-use Rattle.store.specs.Meaning.{headerOf}
+use Rattle.store.specs.Meaning.{Loads}
 use Rattle.store.specs.declared.Found.{Found}
 use Rattle.store.specs.declared.Found.the-variants.{At, Nothing}
 use Rattle.store.specs.declared.Station.{Station}
@@ -80,7 +80,7 @@ grouped : (a p q : Bool) → (a && (p && q)) ≡ (a && p && q)
 grouped true p q = refl
 grouped false p q = refl
 
-module _ (s : Station) (b : List ℕ) (e : headerOf s ≡ fields b 0 headerFormat) (n : ℕ) where
+module _ (s : Station) (b : List ℕ) (e : Loads s b) (n : ℕ) where
   abbrev asked : sizes.Settings → ℕ → Bool
   asked g v = isIn v (stateOf b) && eqb (leader g v) (g .own) && any (opens v) (statements b) && not (eqb n 0) && not (isUsed n (stateOf b))
 
@@ -96,7 +96,7 @@ module _ (s : Station) (b : List ℕ) (e : headerOf s ≡ fields b 0 headerForma
 
 -- ---- what it makes
 
-module _ (s : Station) (b : List ℕ) (e : headerOf s ≡ fields b 0 headerFormat) (n : Name) where
+module _ (s : Station) (b : List ℕ) (e : Loads s b) (n : Name) where
   top-of : {o : _} → o ≡ top (s .view) (statements b) → top (stateOf b .view) (stateOf b .statements) ≡ o
   unfolding stateOf stateFrom
   top-of p = sym (p ∙ ap (λ (v : ℕ). top v (statements b)) (loaded-view s b e))
@@ -112,7 +112,7 @@ module _ (s : Station) (b : List ℕ) (e : headerOf s ≡ fields b 0 headerForma
     pub top-within : j < countOf statementTable b
     top-within = rw q at (f .inside)
 
-    module _ (x : code.Statement) (is : statementOf x (statementAt b j .voted) ≡ statementAt b j) {u : Tally} (c : u ≡ ownBlock (statementOf x none) 0) {m : ℕ}
+    module _ (x : code.Statement) (is : statementOf x (statementAt b j .voted) ≡ statementAt b j) {u : Certificate} (c : u ≡ ownBlock (statementOf x none) 0) {m : ℕ}
         (v : m ≡ voters u (tallies b)) where
       abbrev X : Statement
       X = statementAt b j
@@ -126,7 +126,7 @@ module _ (s : Station) (b : List ℕ) (e : headerOf s ≡ fields b 0 headerForma
 
       voters-is : m ≡ voters (ownBlock X 0) (stateOf b .tallies)
       unfolding stateOf stateFrom
-      voters-is = v ∙ ap (λ (t : Tally). voters t (tallies b)) (c ∙ own-same)
+      voters-is = v ∙ ap (λ (t : Certificate). voters t (tallies b)) (c ∙ own-same)
 
       height-is : x .height ≡ X .height
       unfolding statementOf
@@ -167,7 +167,7 @@ module _ (s : Station) (b : List ℕ) (e : headerOf s ≡ fields b 0 headerForma
           rw (top-is, extension, a) (ap some above-is)
 
 -- there are stations
-pub some-stations : {b : List ℕ} → Formed b → (s : Station) → headerOf s ≡ fields b 0 headerFormat → 0 < s .settings .n
+pub some-stations : {b : List ℕ} → Formed b → (s : Station) → Loads s b → 0 < s .settings .n
 some-stations {b} k s e = omega (arith, ap (λ (g : sizes.Settings). g .n) (loaded-settings s b e), sizes-of (formed-parts k .formed) .least)
 
 -- ---- the call
@@ -195,7 +195,7 @@ module _ (name b o : List ℕ) where
         offer-formed = opened-formed b o opening h
 
         pub offer-out : 200 ≤ length o
-        offer-out = omega (arith, opening .room)
+        offer-out = omega (arith, opening .room, out-least (sizeIn b))
 
         offer-gives : {b′ o′ : List ℕ} {r : ℕ} → Answers (offer (be name) (stateOf b)) o b′ o′ r → Gives (offerCalled name b o) r b′ o′
         offer-gives a = named (opened-gives b o opening (offer (be name)) (offer-room (stateOf b) (be name)) a)

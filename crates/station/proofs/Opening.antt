@@ -7,7 +7,7 @@ use mathlib.Core.Option.{none, some}
 use native.Mathlib.Omega.{arith}
 use lib.ListN.{length}
 use lib.Dec.{leb, eqb, lit<}
-use borrow.Author.Tests.{eq-eqb, ne-eqb, le-leb, lt-leb, eqb-true, leb-true}
+use borrow.Author.Tests.{eq-eqb, le-leb, lt-leb, eqb-true, leb-true, not-true, not-false}
 use Rattle.rules.specs.Limits.{leastOut}
 use Rattle.rules.specs.Messages.{outgoing}
 use Rattle.rules.specs.Words as words
@@ -17,10 +17,9 @@ use Rattle.rules.specs.WellFormed.{wellFormed}
 use Rattle.rules.proofs.Tests.{by-bool, and-left}
 use Rattle.rules.proofs.Truths.{and-2, both}
 use Rattle.fields.specs.Places.{Bytes}
-use Rattle.fields.specs.Records.{fields}
-use Rattle.store.specs.Layout.{headerFormat, storeLength}
+use Rattle.store.specs.Layout.{storeLength, sizeIn}
 use Rattle.store.specs.Decode.{stateOf, hasForm, Form}
-use Rattle.store.specs.Meaning.{courseOf, headerOf}
+use Rattle.store.specs.Meaning.{courseOf, Loads}
 use Rattle.store.specs.declared.Station.{Station}
 use Rattle.store.specs.declared.Phase.{Phase}
 use Rattle.store.specs.declared.Phase.the-variants.{InView, Waiting, Stopped}
@@ -28,6 +27,7 @@ use Rattle.store.proofs.Loaded.{loaded-phase}
 use Rattle.formed.proofs.Whole.{formed-decoded, unformed-decoded}
 use Rattle.calls.specs.Calls.{Called, refusal, answered, called, Gives}
 use Rattle.acts.specs.Works.{Formed}
+use Rattle.acts.proofs.Works.{state-size}
 use Rattle.station.specs.Answers.{barred, Answers}
 use Rattle.station.proofs.Answers.{answers-is, answers-gives, refused-short, refused-answers}
 
@@ -36,7 +36,7 @@ use Rattle.station.proofs.Answers.{answers-is, answers-gives, refused-s
 unfoldable runs : words.Phase → Bool
 runs p = elim p [ words.inView ↦ true | words.waiting q ↦ true | words.stopped c ↦ false ]
 
-module _ (s : Station) (b : List ℕ) (e : headerOf s ≡ fields b 0 headerFormat) where
+module _ (s : Station) (b : List ℕ) (e : Loads s b) where
   loaded-runs : running (stateOf b) ≡ runs (courseOf (s .phase))
   unfolding running runs
   loaded-runs = ap runs (sym (loaded-phase s b e))
@@ -58,7 +58,7 @@ module _ (s : Station) (b : List ℕ) (e : headerOf s ≡ fields b 0 headerForma
 
 module _ (b o : List ℕ) where
   abbrev lengths : Bool
-  lengths = eqb (length b) storeLength && leb leastOut (length o)
+  lengths = eqb (length b) (storeLength (sizeIn b)) && leb (leastOut (sizeIn b)) (length o)
 
   abbrev good : Bool
   good = hasForm b && wellFormed (stateOf b)
@@ -67,15 +67,18 @@ module _ (b o : List ℕ) where
   unfolding barred
   barred-lengths p = rw (p, barred)
 
-  pub barred-store : (length b ≡ storeLength → ⊥) → 1 ≡ barred b o
-  barred-store n = barred-lengths (rw (ne-eqb (length b) storeLength n))
+  pub barred-store : {y : Bool} → y ≡ eqb (length b) (storeLength (sizeIn b)) → not y ≡ true → 1 ≡ barred b o
+  barred-store {y} e n = barred-lengths (rw (sym e ∙ not-true y n))
 
-  pub barred-out : length o < leastOut → 1 ≡ barred b o
-  barred-out h = barred-lengths (ap (eqb (length b) storeLength &&_) (lt-leb leastOut (length o) h) ∙ and-false (eqb (length b) storeLength))
+  pub barred-out : length o < leastOut (sizeIn b) → 1 ≡ barred b o
+  barred-out h = barred-lengths (ap (eqb (length b) (storeLength (sizeIn b)) &&_) (lt-leb (leastOut (sizeIn b)) (length o) h) ∙ and-false (eqb (length b) (storeLength (sizeIn b))))
 
-  module _ (l : length b ≡ storeLength) (m : leastOut ≤ length o) where
+  pub lent-long : {y : Bool} → y ≡ eqb (length b) (storeLength (sizeIn b)) → not y ≡ false → length b ≡ storeLength (sizeIn b)
+  lent-long {y} e n = eqb-true (length b) (storeLength (sizeIn b)) (sym e ∙ not-false y n)
+
+  module _ {y : Bool} (e : y ≡ eqb (length b) (storeLength (sizeIn b))) (n : not y ≡ false) (m : leastOut (sizeIn b) ≤ length o) where
     proper : lengths ≡ true
-    proper = rw (eq-eqb (length b) storeLength l, le-leb leastOut (length o) m)
+    proper = rw (sym e ∙ not-false y n, le-leb (leastOut (sizeIn b)) (length o) m)
 
     pub barred-formless : good ≡ false → 2 ≡ barred b o
     unfolding barred
@@ -101,14 +104,14 @@ module _ (b o : List ℕ) where
 
 -- nothing bars it
 pub record Opened (b o : List ℕ) : Type 0 where
-  pub long : length b ≡ storeLength
-  pub room : leastOut ≤ length o
+  pub long : length b ≡ storeLength (sizeIn b)
+  pub room : leastOut (sizeIn b) ≤ length o
   pub formed : (hasForm b && wellFormed (stateOf b)) ≡ true
   pub runs : running (stateOf b) ≡ true
 
 module _ (b o : List ℕ) where
   abbrev fits : Bool
-  fits = eqb (length b) storeLength && leb leastOut (length o)
+  fits = eqb (length b) (storeLength (sizeIn b)) && leb (leastOut (sizeIn b)) (length o)
 
   abbrev whole : Bool
   whole = hasForm b && wellFormed (stateOf b)
@@ -122,8 +125,8 @@ module _ (b o : List ℕ) where
       (λ g.
       by-bool (running (stateOf b))
       (λ r.
-      let t = and-2 (eqb (length b) storeLength) (leb leastOut (length o)) p in
-      record { long = eqb-true (length b) storeLength (t .0); room = leb-true leastOut (length o) (t .1); formed = g; runs = r })
+      let t = and-2 (eqb (length b) (storeLength (sizeIn b))) (leb (leastOut (sizeIn b)) (length o)) p in
+      record { long = eqb-true (length b) (storeLength (sizeIn b)) (t .0); room = leb-true (leastOut (sizeIn b)) (length o) (t .1); formed = g; runs = r })
       (λ r. absurd (let n : 3 ≡ 0 = rw (p, barred, g, r) at z in omega arith)))
       (λ g. absurd (let n : 2 ≡ 0 = rw (p, barred, g) at z in omega arith)))
       (λ p. absurd (let n : 1 ≡ 0 = rw (p, barred) at z in omega arith))
@@ -141,10 +144,10 @@ module _ (b o : List ℕ) where
     pub opened-formed : Bytes b → Formed b
     opened-formed h = let t = and-2 (hasForm b) (wellFormed (stateOf b)) (k .formed) in record { form = record { bytes = h; form = t .0 }; good = t .1 }
 
-    pub opened-gives : {b′ o′ : List ℕ} {r : ℕ} (f : State → Outcome) → length (outgoing (f (stateOf b) .out)) ≤ leastOut → Answers (f (stateOf b)) o b′ o′ r
+    pub opened-gives : {b′ o′ : List ℕ} {r : ℕ} (f : State → Outcome) → length (outgoing (f (stateOf b) .out)) ≤ leastOut (stateOf b .settings .size) → Answers (f (stateOf b)) o b′ o′ r
         → Gives (called f b o) r b′ o′
     opened-gives f l a =
-        answers-called f (both (eq-eqb (length b) storeLength (k .long)) (le-leb leastOut (length o) (k .room))) (k .formed) (omega (arith, k .room)) a
+        answers-called f (both (eq-eqb (length b) (storeLength (sizeIn b)) (k .long)) (le-leb (leastOut (sizeIn b)) (length o) (k .room))) (k .formed) (omega (arith, k .room, ap leastOut (state-size b))) a
 
   -- something bars it: nothing changes
   module _ (f : State → Outcome) (stops : (s : State) → running s ≡ false → f s ≡ refused 3 s) (h : Bytes b) {r : ℕ} (e : r ≡ barred b o * 2 ^ 32) where

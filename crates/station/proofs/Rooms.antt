@@ -5,7 +5,7 @@ use mathlib.Core.Bool.{Bool, true, false, _&&_}
 use mathlib.Core.List.{List}
 use borrow.Author.Tests.{le-leb}
 use Rattle.rules.specs.Limits.{mostStatements, mostTallies}
-use Rattle.rules.specs.Words.{State, full, Tally}
+use Rattle.rules.specs.Words.{State, full, Certificate}
 use Rattle.rules.specs.Inputs.{Work, saying, withPhase, withBlames, isIn, quit, blamed, blameFull, blaming, tallied}
 use Rattle.rules.specs.Refusals.{done, stopping, hasRoom, ifRoom, result}
 use Rattle.rules.proofs.Tests.{by-bool}
@@ -27,7 +27,7 @@ module _ (s : State) (w : Work) where
   full-answers q k o = rw (q, ifRoom) (k o)
 
 -- a vote or a status found room, or the station stops
-module _ (t : Tally) (s : State) {b′ : List ℕ} {f : Bool} (k : Tried (tallied t s .now) s b′ f) where
+module _ (t : Certificate) (s : State) {b′ : List ℕ} {f : Bool} (k : Tried (tallied t s .now) s b′ f) where
   pub tallied-answers : f ≡ true → Mutely (ifRoom s (tallied t s)) b′ 0
   unfolding fitting tallied saying
   tallied-answers q o =
@@ -49,7 +49,10 @@ blaming-room v m s h = by-bool (isIn v (blamed v m s) && blameFull v (blamed v m
 
 formed-room : {b : List ℕ} → Formed b → hasRoom (stateOf b) ≡ true
 unfolding hasRoom
-formed-room k = let w = formed-parts k in both (le-leb _ mostStatements (w .fewStatements)) (le-leb _ mostTallies (w .fewTallies))
+formed-room {b} k =
+    let w = formed-parts k in
+    let z = stateOf b .settings .size in
+    both (le-leb _ (mostStatements z) (w .fewStatements)) (le-leb _ (mostTallies z) (w .fewTallies))
 
 pub blaming-answers : {b o b′ o′ : List ℕ} {r : ℕ} (v m : ℕ) → Formed b → Works (blaming v m (stateOf b)) o 0 b′ o′ r
     → Answers (ifRoom (stateOf b) (blaming v m (stateOf b))) o b′ o′ r

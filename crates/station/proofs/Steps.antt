@@ -17,9 +17,9 @@ use Rattle.rules.specs.Words.{State}
 use Rattle.rules.specs.Inputs.{statement, tallied, blaming, handled}
 use Rattle.rules.specs.Refusals.{refused, ifRoom, running, step}
 use Rattle.rules.proofs.Bytes as rules
+use Rattle.rules.proofs.Bounds.{out-least}
 use Rattle.rules.proofs.Allowed.{only-lt, mask-parts, allowed-rights}
 use Rattle.fields.specs.Places.{Bytes}
-use Rattle.fields.specs.Records.{fields}
 use Rattle.fields.specs.Names.{nameOf}
 use Rattle.fields.specs.declared.Name.{Name}
 use Rattle.settings.specs.Made.{settingsOf}
@@ -33,10 +33,11 @@ use Rattle.wire.specs.declared.Message.{Message}
 use Rattle.wire.specs.declared.Message.the-variants.{Stated, Vote, Blame, BlameSet, Status}
 use Rattle.wire.specs.declared.Read.{Read}
 use Rattle.wire.specs.declared.Read.the-variants.{Readable, Unreadable}
-use Rattle.store.specs.Layout.{headerFormat, storeLength}
+use Rattle.words.specs.Meaning.{blockOf}
+use Rattle.store.specs.Changes.{withVoters}
+use Rattle.store.specs.Layout.{sizeIn}
 use Rattle.store.specs.Decode.{stateOf}
-use Rattle.store.specs.Meaning.{tallyOf, headerOf}
-use Rattle.store.specs.declared.Tally.{Tally}
+use Rattle.store.specs.Meaning.{Loads}
 use Rattle.store.specs.declared.Station.{Station}
 use Rattle.store.proofs.Loaded.{loaded-settings}
 use Rattle.calls.specs.Calls.{stepCalled, Gives}
@@ -85,14 +86,14 @@ module _ (s : State) {m : Message} where
       ap (λ (f : State → _). ifRoom s (f s)) (sym (handled-stated x)) ∙ ap (λ (y : Message). ifRoom s (handled (messageOf y) s)) (sym e)
 
   module _ {v h : ℕ} {b : Name} where
-    pub vote-handled : {a k : ℕ} → m ≡ Vote v h b a → k ≡ only a
-        → ifRoom s (tallied (tallyOf (record { view = v; height = h; name = b; mask = k })) s) ≡ ifRoom s (handled (messageOf m) s)
-    unfolding handled messageOf tallyOf
-    vote-handled e q = rw (e, q)
+    pub vote-handled : {a : ℕ} → m ≡ Vote v h b a
+        → ifRoom s (tallied (withVoters (only a) (blockOf (record { view = v; height = h; name = b; mask = 0 }))) s) ≡ ifRoom s (handled (messageOf m) s)
+    unfolding handled messageOf blockOf
+    vote-handled e = rw e
 
     pub status-handled : {k : ℕ} → m ≡ Status h b v k
-        → ifRoom s (tallied (tallyOf (record { view = v; height = h; name = b; mask = k })) s) ≡ ifRoom s (handled (messageOf m) s)
-    unfolding handled messageOf tallyOf
+        → ifRoom s (tallied (withVoters k (blockOf (record { view = v; height = h; name = b; mask = k }))) s) ≡ ifRoom s (handled (messageOf m) s)
+    unfolding handled messageOf blockOf
     status-handled e = rw e
 
   pub blame-handled : {v a k : ℕ} → m ≡ Blame v a → k ≡ only a → ifRoom s (blaming v k s) ≡ ifRoom s (handled (messageOf m) s)
@@ -114,13 +115,13 @@ module _ {b : List ℕ} (f : Formed b) {m : Message} (d : Sendable (stateOf b .s
   unfolding messageOf
   vote-author {v} {h} {a} {n} e = omega (arith, allowed-rights (stateOf b .settings) (messages.vote v h (nameOf n) a) (allowed-as e) .2, sizes-of (formed-parts f .formed) .most)
 
-  pub blame-author : {v a : ℕ} → m ≡ Blame v a → (viewAllowed v ≡ true) × (a < mostStations) × (only a < 2 ^ stateOf b .settings .n)
+  pub blame-author : {v a : ℕ} → m ≡ Blame v a → (viewAllowed (stateOf b .settings) v ≡ true) × (a < mostStations) × (only a < 2 ^ stateOf b .settings .n)
   unfolding messageOf
   blame-author {v} {a} e =
       let t = allowed-rights (stateOf b .settings) (messages.blame v a) (allowed-as e) in
       (t .0, omega (arith, t .1, sizes-of (formed-parts f .formed) .most), only-lt (stateOf b .settings) a (t .1))
 
-  pub set-mask : {v k : ℕ} → m ≡ BlameSet v k → (viewAllowed v ≡ true) × (k < 2 ^ stateOf b .settings .n)
+  pub set-mask : {v k : ℕ} → m ≡ BlameSet v k → (viewAllowed (stateOf b .settings) v ≡ true) × (k < 2 ^ stateOf b .settings .n)
   unfolding messageOf
   set-mask {v} {k} e = let t = allowed-rights (stateOf b .settings) (messages.blameSet v k) (allowed-as e) in (t .0, mask-parts (stateOf b .settings) k (t .1) .0)
 
@@ -138,11 +139,11 @@ module _ (bs b o : List ℕ) (h : Bytes b) {n : ℕ} (e : n ≡ barred b o) wher
     pub step-formed : Formed b
     step-formed = opened-formed b o opening h
 
-    pub step-long : length b ≡ storeLength
-    step-long = opening .long
+    pub step-long : 68 ≤ length b
+    step-long = omega (arith, opening .long)
 
     pub step-out : 200 ≤ length o
-    step-out = omega (arith, opening .room)
+    step-out = omega (arith, opening .room, out-least (sizeIn b))
 
     step-gives : {b′ o′ : List ℕ} {r : ℕ} → Answers (step bs (stateOf b)) o b′ o′ r → Gives (stepCalled bs b o) r b′ o′
     unfolding stepCalled
@@ -154,7 +155,7 @@ module _ (bs b o : List ℕ) (h : Bytes b) {n : ℕ} (e : n ≡ barred b o) wher
       unreadable-step i t =
           step-gives (answers-is (step-unreadable bs (stateOf b) (opening .runs) (sym p ∙ ap readOf i)) (refused-answers 4 (step-formed .form) t o))
 
-      module _ {m : Message} (i : q ≡ Readable m) (s : Station) (l : headerOf s ≡ fields b 0 headerFormat) {y : Bool} (a : y ≡ allowed (settingsOf (s .settings)) (messageOf m)) where
+      module _ {m : Message} (i : q ≡ Readable m) (s : Station) (l : Loads s b) {y : Bool} (a : y ≡ allowed (settingsOf (s .settings)) (messageOf m)) where
         was-read : read bs ≡ some (messageOf m)
         unfolding readOf
         was-read = sym p ∙ ap readOf i

@@ -6,24 +6,24 @@ use mathlib.Core.Bool.{Bool, true, false, not}
 use mathlib.Core.List.{List, append-assoc}
 use mathlib.Core.Option.{none, some, Option·map, Option·some-injective}
 use native.Mathlib.Omega.{arith}
-use lib.Dec.{eqb, lit<}
+use lib.Dec.{eqb, lit<, lit≤}
 use lib.ListN.{length, drop, length-drop}
 use borrow.Author.Tests.{eq-eqb, ne-eqb, not-true, not-false}
-use Rattle.rules.specs.Limits.{mostStatements, lastClock, leastOut}
+use Rattle.rules.specs.Limits.{Size, small, large, mostStatements, lastClock, leastOut, mostStatementsLarge}
 use Rattle.rules.specs.Lists.{any}
+use Rattle.rules.specs.Sizes.{Settings}
 use Rattle.rules.specs.Words as words
 use Rattle.rules.specs.Words.{Statement, sameStatement, message, State, stopped, clock, split}
-use Rattle.rules.specs.Inputs.{Work, saying, _▸_, withPhase, withClock, withTables, isIn, certificateJoined, stored, statement, leads, due, commits, logging, complain, leadsNow, ownNewView, lead, enter, ticked}
+use Rattle.rules.specs.Inputs.{Work, saying, _▸_, withPhase, withClock, withTables, withLog, isIn, certificateJoined, stored, statement, leads, due, commits, logging, complain, leadsNow, ownNewView, lead, enter, ticked}
 use Rattle.rules.specs.Refusals.{refused, stopping, hasRoom, ifRoom, running, tick}
 use Rattle.rules.specs.WellFormed.{linked}
 use Rattle.rules.proofs.Tests.{by-bool}
 use Rattle.fields.specs.Places.{Bytes}
-use Rattle.fields.specs.Records.{fields}
 use Rattle.wire.specs.Meaning.{statementOf}
 use Rattle.wire.specs.declared.Statement as code
-use Rattle.store.specs.Layout.{headerFormat}
-use Rattle.store.specs.Decode.{phaseNumber, stateOf, Left}
-use Rattle.store.specs.Meaning.{courseOf, headerOf}
+use Rattle.store.specs.Layout.{sizeIn}
+use Rattle.store.specs.Decode.{phaseNumber, stateFrom, stateOf, Left}
+use Rattle.store.specs.Meaning.{courseOf, Loads}
 use Rattle.store.specs.declared.Station.{Station}
 use Rattle.store.specs.declared.Cause.{Cause}
 use Rattle.store.specs.declared.Cause.the-variants.{Full, Split, Clock}
@@ -45,18 +45,24 @@ use Rattle.calls.specs.Calls.{tickCalled, Gives}
 use Rattle.acts.specs.Works.{Formed, Works}
 use Rattle.acts.proofs.Answers.{new-room}
 use Rattle.acts.proofs.Rooms.{room-made}
-use Rattle.acts.proofs.Works.{formed-parts, works-is, works-end, works-length, works-formed}
+use Rattle.acts.proofs.Works.{formed-parts, state-size, works-is, works-end, works-length, works-formed}
 use Rattle.turns.specs.Gains.{grownLog, Enough}
 use Rattle.turns.proofs.Leading.{now-leads, lead-never, now-fits}
 use Rattle.turns.proofs.Moments.{leads-never, leads-at}
-use Rattle.turns.proofs.Names.{gained-log, gained-enough}
-use Rattle.turns.proofs.Parts.{works-then}
+use Rattle.turns.proofs.Names.{grown-length, gained-log, gained-enough}
+use Rattle.turns.proofs.Parts.{left-size, works-then}
 use Rattle.turns.proofs.Room.{lead-complained, lead-logged, tick-room}
 use Rattle.station.specs.Answers.{barred, Answers, Mutely}
 use Rattle.station.specs.Turns.{later, moving, turning}
 use Rattle.station.proofs.Answers.{answers-is, refused-mutely}
 use Rattle.station.proofs.Opening.{Opened, opened, opened-formed, opened-gives, barred-gives}
 use Rattle.station.proofs.Rooms.{room-answers, full-answers}
+
+-- what a tick says at most, part by part, fits the out buffer in both columns
+tick-enough : (z : Size) → 299 + 199 * mostStatements z ≤ leastOut z
+unfolding mostStatements leastOut
+tick-enough small = lit≤ tt
+tick-enough large = lit≤ tt
 
 -- ---- a station stops
 
@@ -114,7 +120,7 @@ statement-later x s =
     (λ q. new-room x s q ∙ stored-later s x ∙ sym (new-room x (later s) (e ∙ q)))
 
 module _ {b : List ℕ} (k : Formed b) where
-  pub loaded-next : (s : Station) → headerOf s ≡ fields b 0 headerFormat → leads (stateOf b) ≡ true
+  pub loaded-next : (s : Station) → Loads s b → leads (stateOf b) ≡ true
       → eqb (s .clock + 1) (s .entry + 2 * s .settings .delay + 1) ≡ leadsNow (later (stateOf b))
   loaded-next s e h =
       (λ i. eqb (loaded-clock s b e i + 1) (loaded-entry s b e i + 2 * loaded-settings s b e i .D + 1)) ∙ later-at (stateOf b) h
@@ -147,6 +153,13 @@ module _ {b b₁ o o₁ : List ℕ} {at r₁ : ℕ} (k : Formed b) (w : Works (c
 
     pub led-end : (r₂ ≤ at + 237) × (length o₂ ≡ length o)
     led-end = (omega (arith, works-end v 200 (lead-bytes (stateOf b₁)), complained-end .0), works-length v ∙ complained-end .1)
+
+    -- the limits are the same
+    pub led-size : sizeIn b₂ ≡ sizeIn b
+    led-size =
+        let size : Settings → Size = λ y. y .size in
+        left-size (v .left) ∙ ap size (lead-keeps (formed-parts complained-formed .formed) .settings)
+        ∙ state-size b₁ ∙ left-size (w .left) ∙ ap size (complain-keeps (formed-parts k .formed) .settings) ∙ state-size b
 
     pub moved : {b₃ o₃ : List ℕ} {r₃ : ℕ} → Works (enter (stateOf b₂)) o₂ r₂ b₃ o₃ r₃ → Works (moving (stateOf b)) o at b₃ o₃ r₃
     unfolding moving
@@ -190,17 +203,24 @@ module _ {b t : List ℕ} {n : ℕ} (k : Formed b) (h : stateOf b .clock < lastC
   unfolding ticked turning later tickLog
   turning-ticked = let now = withClock (S .clock + 1) S in ap (Option·map (λ l. logging l now ▸ complain ▸ lead ▸ enter)) (g .is)
 
-  log-short : bytes (logging L (later S) .out) ≤ 4_992
+  log-few : length L ≤ mostStatements (sizeIn b)
+  unfolding later withClock
+  log-few =
+      omega (arith, linked-length (S .statements) L log-linked, proposes-length (S .statements), formed-parts k .fewStatements, ap mostStatements (state-size b))
+
+  gained-few : n ≤ mostStatements (sizeIn b)
+  gained-few = omega (arith, log-few, grown-length b t n (g .more))
+
+  log-short : bytes (logging L (later S) .out) ≤ 39 * mostStatements (sizeIn b)
   unfolding logging saying later withClock
   log-short =
       let old = length (S .log) in
       let a = reports-bytes (suc old) (drop old L) in
-      let c = linked-length (S .statements) L log-linked in
-      omega (arith, length-drop old L, proposes-length (S .statements), formed-parts k .fewStatements)
+      omega (arith, length-drop old L, log-few)
 
   module _ {c : ℕ} {b₁ : List ℕ} (e : c ≡ S .clock + 1) (l : Left b₁ (withClock c S)) where
-    pub enough-now : {room : ℕ} → length t ≡ mostStatements → leastOut ≤ room → Enough b₁ t n 0 room
-    enough-now m p = gained-enough b b₁ t n c g l m (omega (arith, g .fits))
+    pub enough-now : {room : ℕ} → length t ≡ mostStatementsLarge → leastOut (sizeIn b) ≤ room → Enough b₁ t n 0 room
+    enough-now m p = gained-enough b b₁ t n c g l m gained-few (omega (arith, gained-few, tick-enough (sizeIn b)))
 
     now-later : stateOf b₁ ≡ later S
     unfolding later
@@ -219,8 +239,13 @@ module _ {b t : List ℕ} {n : ℕ} (k : Formed b) (h : stateOf b .clock < lastC
       pub logged-room : hasRoom (lead (later S) .now) ≡ true → hasRoom (lead (stateOf b₂) .now) ≡ true
       logged-room q = ap (λ (s : State). hasRoom (lead s .now)) (logged .left .is) ∙ lead-logged L (later S) ∙ q
 
-      pub logged-space : leastOut ≤ length o → r + 20_779 ≤ length o₂
-      logged-space p = omega (arith, works-end logged 4_992 log-short, works-length logged)
+      logged-size : sizeIn b₂ ≡ sizeIn b
+      unfolding logging saying later withClock withLog stateOf stateFrom
+      logged-size = left-size (logged .left)
+
+      pub logged-space : leastOut (sizeIn b) ≤ length o → r + 299 + 160 * mostStatements (sizeIn b₂) ≤ length o₂
+      logged-space p =
+          omega (arith, works-end logged (39 * mostStatements (sizeIn b)) log-short, works-length logged, tick-enough (sizeIn b), ap mostStatements logged-size)
 
       pub turned : {b₃ o₃ : List ℕ} {end : ℕ} → Works (moving (stateOf b₂)) o₂ r b₃ o₃ end → Works (turning L S) o 0 b₃ o₃ end
       turned u = works-is (then-moving L S) (works-then moving logged u)
@@ -255,7 +280,7 @@ ticked-none : (b : List ℕ) → tickLog b ≡ none → ticked (stateOf b) ≡ n
 unfolding ticked tickLog
 ticked-none b e = let now = withClock (stateOf b .clock + 1) (stateOf b) in ap (Option·map (λ l. logging l now ▸ complain ▸ lead ▸ enter)) e
 
-module _ {b : List ℕ} (k : Formed b) (y : running (stateOf b) ≡ true) (s : Station) (e : headerOf s ≡ fields b 0 headerFormat) where
+module _ {b : List ℕ} (k : Formed b) (y : running (stateOf b) ≡ true) (s : Station) (e : Loads s b) where
   pub ends-tick : s .clock ≡ lastClock → {b′ : List ℕ} {r : ℕ} → Mutely (stopping 8 clock (stateOf b)) b′ r → Mutely (tick (stateOf b)) b′ r
   ends-tick q a o = answers-is (tick-end (stateOf b) y (sym (loaded-clock s b e) ∙ q)) (a o)
 
@@ -297,7 +322,7 @@ module _ (b o : List ℕ) (h : Bytes b) {n : ℕ} (e : n ≡ barred b o) where
     opening : Opened b o
     opening = opened b o (sym e ∙ z)
 
-    pub tick-may : Formed b × (running (stateOf b) ≡ true) × (leastOut ≤ length o)
+    pub tick-may : Formed b × (running (stateOf b) ≡ true) × (leastOut (sizeIn b) ≤ length o)
     tick-may = (opened-formed b o opening h, opening .runs, opening .room)
 
     pub tick-gives : {b′ o′ : List ℕ} {r : ℕ} → Answers (tick (stateOf b)) o b′ o′ r → Gives (tickCalled b o) r b′ o′

@@ -5,19 +5,19 @@ use mathlib.Core.Bool.{Bool, true, false, _&&_}
 use mathlib.Core.List.{List}
 use lib.ListN.{length}
 use lib.Dec.{leb, eqb}
-use Rattle.rules.specs.Limits.{leastOut}
+use Rattle.rules.specs.Limits.{leastOut, lastView, mostStatements, mostTallies}
 use Rattle.rules.specs.Messages.{outgoing}
 use Rattle.rules.specs.Refusals.{Outcome, running, result}
 use Rattle.rules.specs.WellFormed.{wellFormed}
 use Rattle.outgoing.specs.Wrote.{wrote}
-use Rattle.store.specs.Layout.{storeLength}
+use Rattle.store.specs.Layout.{storeLength, sizeIn}
 use Rattle.store.specs.Decode.{stateOf, hasForm, Left}
 
 -- the number of what is refused before any input is looked at, in 01's order; 0 if nothing is
 unfoldable pub barred : List ℕ → List ℕ → ℕ
-unfolding hasForm wellFormed stateOf running
+unfolding hasForm wellFormed stateOf running sizeIn leastOut lastView mostStatements mostTallies
 barred b o =
-    elim (eqb (length b) storeLength && leb leastOut (length o)) [
+    elim (eqb (length b) (storeLength (sizeIn b)) && leb (leastOut (sizeIn b)) (length o)) [
       | false ↦ 1
       | true ↦ elim (hasForm b && wellFormed (stateOf b)) [ false ↦ 2 | true ↦ elim (running (stateOf b)) [ false ↦ 3 | true ↦ 0 ] ]
     ]

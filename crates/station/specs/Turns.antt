@@ -4,10 +4,11 @@ use mathlib.Core.Path.{_≡_}
 use mathlib.Core.Bool.{true}
 use mathlib.Core.List.{List}
 use lib.ListN.{length}
-use Rattle.rules.specs.Limits.{mostStatements, lastClock, leastOut}
+use Rattle.rules.specs.Limits.{lastClock, leastOut, mostStatementsLarge}
 use Rattle.rules.specs.Words.{State}
 use Rattle.rules.specs.Inputs.{Work, _▸_, withClock, logging, complain, lead, enter}
 use Rattle.rules.specs.Refusals.{hasRoom}
+use Rattle.store.specs.Layout.{sizeIn}
 use Rattle.store.specs.Decode.{stateOf}
 use Rattle.commit.specs.Outcome.{Gained}
 use Rattle.acts.specs.Works.{Formed}
@@ -33,6 +34,6 @@ pub record Ready (b t : List ℕ) (clock n room : ℕ) : Type 0 where
   pub next : clock ≡ stateOf b .clock + 1
   pub last : stateOf b .clock < lastClock
   pub gained : Gained b t n
-  pub long : length t ≡ mostStatements
+  pub long : length t ≡ mostStatementsLarge
   pub fits : hasRoom (lead (later (stateOf b)) .now) ≡ true
-  pub space : leastOut ≤ room
+  pub space : leastOut (sizeIn b) ≤ room

@@ -4,7 +4,7 @@ ghost use mathlib.Core.Bool.{true};
 ghost use mathlib.Core.Option.{none};
 ghost use Prim.Native.Nat.{_+_, _*_, _^_, _≤_, _<_};
 ghost use lib.ListN.{length};
-ghost use Rattle.rules.specs.Limits.{mostStations, leastOut};
+ghost use Rattle.rules.specs.Limits.{mostStations, mostStatements, leastOut};
 ghost use Rattle.rules.specs.Sizes.{only};
 ghost use Rattle.rules.specs.Messages.{viewAllowed};
 ghost use Rattle.rules.specs.Words.{message as said};
@@ -12,10 +12,13 @@ ghost use Rattle.rules.specs.Inputs as inputs;
 ghost use Rattle.rules.specs.Refusals.{stopping, hasRoom, ifRoom, running, tick};
 ghost use Rattle.fields.specs.Names.{nameOf};
 ghost use Rattle.wire.specs.Meaning.{statementOf, messageOf};
+ghost use Rattle.store.specs.Layout.{sizeIn};
 ghost use Rattle.store.specs.Decode.{stateOf, Form};
 ghost use Rattle.store.specs.Fresh.{answer, freshly};
-ghost use Rattle.store.specs.Meaning.{tallyOf, causeOf};
+ghost use Rattle.store.specs.Changes.{withVoters};
+ghost use Rattle.store.specs.Meaning.{causeOf, votersOf, Numbered};
 ghost use Rattle.kept.specs.Said.{Sendable};
+ghost use Rattle.words.specs.Meaning.{blockOf};
 ghost use Rattle.calls.specs.Calls.{stepCalled, offerCalled, tickCalled, Gives};
 ghost use Rattle.acts.specs.Works.{Formed, Works};
 ghost use Rattle.turns.specs.Gains.{grownLog};
@@ -29,10 +32,11 @@ use store::Cause;
 use store::Found;
 use store::Phase;
 use store::Station;
-use store::Tally;
+use store::Voters;
 use wire::Message;
 use wire::Read;
 use wire::Statement;
+use words::Certificate;
 
 // What an offer makes.
 enum Offer {
@@ -110,10 +114,10 @@ fn is_running(store: &[u8]) -> bool
 fn barred(store: &[u8], out: &[u8]) -> u64
     ensures { λ r. ⌜ r ≡ barred (now (store .entry)) (now (out .entry)) ⌝ }
 {
-    if store.len() != store::LENGTH {
+    if !store::is_whole(store) {
         return 1;
     }
-    if out.len() < Settings::LEAST_OUT {
+    if out.len() < store::least_out_in(store) {
         return 1;
     }
     if !formed::well_formed(store) {
@@ -146,12 +150,12 @@ fn stated(store: &mut [u8], out: &mut [u8], x: Statement) -> u64
     acts::statement(store, out, 0, x, plan) as u64
 }
 
-// A vote or a status.
-fn counted(store: &mut [u8], tally: Tally) -> u64
-    requires { ⌜ Form (now store) ⌝ }
-    ensures { λ r. ⌜ Mutely (ifRoom (stateOf (now (store .entry))) (inputs.tallied (tallyOf tally) (stateOf (now (store .entry))))) (now (store .exit)) r ⌝ }
+// A vote or a status: whoever joins the tally of a block.
+fn counted(store: &mut [u8], block: Certificate, voters: Voters) -> u64
+    requires { ⌜ (Form (now store)) × (Numbered voters) ⌝ }
+    ensures { λ r. ⌜ Mutely (ifRoom (stateOf (now (store .entry))) (inputs.tallied (withVoters (votersOf voters) (blockOf block)) (stateOf (now (store .entry))))) (now (store .exit)) r ⌝ }
 {
-    if !acts::tallied(store, tally) {
+    if !acts::tallied(store, block, voters) {
         return stop(store, 6, Cause::Full);
     }
     0
@@ -159,7 +163,7 @@ fn counted(store: &mut [u8], tally: Tally) -> u64
 
 // A blame or a blame set.
 fn blamed(store: &mut [u8], out: &mut [u8], view: u32, mask: u16) -> u64
-    requires { ⌜ (Formed (now store)) × (viewAllowed view ≡ true) × (mask < 2 ^ (stateOf (now store) .settings .n)) × (200 ≤ length (now out)) ⌝ }
+    requires { ⌜ (Formed (now store)) × (viewAllowed (stateOf (now store) .settings) view ≡ true) × (mask < 2 ^ (stateOf (now store) .settings .n)) × (200 ≤ length (now out)) ⌝ }
     ensures { λ r. ⌜ Answers (ifRoom (stateOf (now (store .entry))) (inputs.blaming view mask (stateOf (now (store .entry))))) (now (out .entry)) (now (store .exit)) (now (out .exit)) r ⌝ }
 {
     acts::blaming(store, out, 0, view, mask) as u64
@@ -186,16 +190,13 @@ fn handled(store: &mut [u8], out: &mut [u8], message: Message) -> u64
             name,
             author,
         } => {
-            let mask = voter(author);
-            counted(
-                store,
-                Tally {
-                    view,
-                    height,
-                    name,
-                    mask,
-                },
-            )
+            let block = Certificate {
+                view,
+                height,
+                name,
+                mask: 0,
+            };
+            counted(store, block, Voters::One(author as u64))
         }
         Message::Blame { view, author } => {
             let mask = voter(author);
@@ -207,15 +208,15 @@ fn handled(store: &mut [u8], out: &mut [u8], message: Message) -> u64
             name,
             cert,
             mask,
-        } => counted(
-            store,
-            Tally {
+        } => {
+            let block = Certificate {
                 view: cert,
                 height,
                 name,
                 mask,
-            },
-        ),
+            };
+            counted(store, block, Voters::Mask(mask))
+        }
     }
 }
 
@@ -244,7 +245,7 @@ fn extended(store: &[u8], name: Name) -> Offer
         return Offer::NotTaken;
     };
     let top = store::statement_at(store, i);
-    let mask = search::voters(store, search::own_block(top, 0));
+    let mask = search::voters(store, words::own_block(top, 0));
     if !settings.quorum(mask as u64) {
         return Offer::NotTaken;
     }
@@ -301,17 +302,17 @@ fn next_fits(store: &[u8]) -> bool
 
 // What follows the commits of a tick: blame, the leader's new-view, entering a view.
 fn moving(store: &mut [u8], out: &mut [u8], at: usize) -> usize
-    requires { ⌜ (Formed (now store)) × (hasRoom (inputs.lead (stateOf (now store)) .now) ≡ true) × (at + 20_779 ≤ length (now out)) ⌝ }
+    requires { ⌜ (Formed (now store)) × (hasRoom (inputs.lead (stateOf (now store)) .now) ≡ true) × (at + 299 + 160 * mostStatements (sizeIn (now store)) ≤ length (now out)) ⌝ }
     ensures { λ r. ⌜ Works (moving (stateOf (now (store .entry)))) (now (out .entry)) at (now (store .exit)) (now (out .exit)) r ⌝ }
 {
     let complained = turns::complain(store, out, at);
     let led = turns::lead(store, out, complained);
-    let mut order = [0u8; Settings::MOST_STATEMENTS];
+    let mut order = [0u16; Settings::MOST_STATEMENTS_LARGE];
     turns::enter(store, out, led, &mut order)
 }
 
 // The clock moves on and the new log is written; then what else is due.
-fn turning(store: &mut [u8], out: &mut [u8], clock: u32, gained: &[u8], len: usize) -> usize
+fn turning(store: &mut [u8], out: &mut [u8], clock: u32, gained: &[u16], len: usize) -> usize
     requires { ⌜ Ready (now store) (now gained) clock len (length (now out)) ⌝ }
     ensures { λ r. ⌜ Works (turning (grownLog (now (store .entry)) (now (gained .entry)) len) (stateOf (now (store .entry)))) (now (out .entry)) 0 (now (store .exit)) (now (out .exit)) r ⌝ }
 {
@@ -322,14 +323,14 @@ fn turning(store: &mut [u8], out: &mut [u8], clock: u32, gained: &[u8], len: usi
 
 // A tick of a station that runs: refused before anything is written, or done.
 fn ticked(store: &mut [u8], out: &mut [u8]) -> u64
-    requires { ⌜ (Formed (now store)) × (running (stateOf (now store)) ≡ true) × (leastOut ≤ length (now out)) ⌝ }
+    requires { ⌜ (Formed (now store)) × (running (stateOf (now store)) ≡ true) × (leastOut (sizeIn (now store)) ≤ length (now out)) ⌝ }
     ensures { λ r. ⌜ Answers (tick (stateOf (now (store .entry)))) (now (out .entry)) (now (store .exit)) (now (out .exit)) r ⌝ }
 {
     let station = Station::load(store);
     if station.clock as u64 == Settings::LAST_CLOCK {
         return stop(store, 8, Cause::Clock);
     }
-    let mut gained = [0u8; Settings::MOST_STATEMENTS];
+    let mut gained = [0u16; Settings::MOST_STATEMENTS_LARGE];
     let Merged::Grown(len) = commit::commits(store, station, &mut gained) else {
         return stop(store, 7, Cause::Split);
     };

@@ -6,13 +6,13 @@ use mathlib.Core.List.{List, [], _∷_, _++_, append-assoc, append-nil, map, map
 use native.Mathlib.Omega.{arith}
 use native.Mathlib.Nat.{add-zero}
 use lib.ListN.{length, drop, length-append}
-use Rattle.rules.specs.Limits.{lastView, mostStatements, mostTallies}
+use Rattle.rules.specs.Limits.{Size, small, lastView, mostStatements, mostTallies}
 use Rattle.rules.specs.Lists.{all, within}
 use Rattle.rules.specs.Words.{Statement, Tally, State}
 use Rattle.fields.specs.Places.{number, Bytes}
 use Rattle.fields.specs.Records.{fields, Fit}
 use Rattle.store.specs.Layout.{headerFormat, statementFormat, tallyFormat, maskFormat, nameFormat, statementTable, tallyTable, logTable, blameBase, storeLength, countOf, placeOf}
-use Rattle.store.specs.Decode.{nth, kindNumber, statementFrom, statementValues, tallyFrom, tallyValues, statementAt, tallyAt, blameAt, nameAt, kindAt, rows, blames, kinds, stateFrom, headerValues, bytesOf, flat, tableOf, Left, encode}
+use Rattle.store.specs.Decode.{nth, kindNumber, statementFrom, statementValues, tallyFrom, tallyValues, statementAt, tallyFor, blameFor, nameFor, kindAt, rows, blamesFor, kinds, stateFrom, headerValues, bytesOf, flat, tableOf, Left, encode}
 use Rattle.store.proofs.Values.{number-phase, number-vote, number-kind}
 use Rattle.store.proofs.Tables.{Holds}
 use Rattle.store.proofs.Forms.{left}
@@ -29,10 +29,10 @@ pub record Fitted (s : State) : Type 0 where
   pub tallies : Each (λ t. Fit tallyFormat (tallyValues t)) (s .tallies)
   pub masks : Each (λ m. Fit maskFormat (m ∷ [])) (drop 1 (s .blames))
   pub names : Each (λ b. Fit nameFormat (b ∷ [])) (s .log)
-  pub fewStatements : length (s .statements) ≤ mostStatements
-  pub fewTallies : length (s .tallies) ≤ mostTallies
-  pub fewNames : length (s .log) ≤ mostStatements
-  pub views : length (drop 1 (s .blames)) ≡ lastView
+  pub fewStatements : length (s .statements) ≤ mostStatements (s .settings .size)
+  pub fewTallies : length (s .tallies) ≤ mostTallies (s .settings .size)
+  pub fewNames : length (s .log) ≤ mostStatements (s .settings .size)
+  pub views : length (drop 1 (s .blames)) ≡ lastView (s .settings .size)
   pub noneBlamed : 0 ∷ drop 1 (s .blames) ≡ s .blames
 
 -- ---- what a reader finds in each record
@@ -52,35 +52,35 @@ statement-back x = λ i. record {
   voted = number-vote (x .voted) i;
 }
 
-module _ (p q : List ℕ) (i : ℕ) where
+module _ (z : Size) (p q : List ℕ) (i : ℕ) where
   statement-reads : (x : Statement) → Fit statementFormat (statementValues x) → 68 + 80 * i ≡ length p
       → statementAt (p ++ (bytesOf statementFormat (statementValues x) ++ q)) i ≡ x
   unfolding statementAt
   statement-reads x f e =
-      ap statementFrom (fields-bytes p q (placeOf statementTable i) 0 statementFormat (statementValues x) tiledStatement f (omega arith)) ∙ statement-back x
+      ap statementFrom (fields-bytes p q (placeOf statementTable small i) 0 statementFormat (statementValues x) tiledStatement f (omega arith)) ∙ statement-back x
 
   kind-reads : (x : Statement) → Fit statementFormat (statementValues x) → 68 + 80 * i ≡ length p
       → kindAt (p ++ (bytesOf statementFormat (statementValues x) ++ q)) i ≡ kindNumber (x .isNewView)
   unfolding kindAt
   kind-reads x f e =
-      ap (λ (vs : List ℕ). nth vs 3) (fields-bytes p q (placeOf statementTable i) 0 statementFormat (statementValues x) tiledStatement f (omega arith))
+      ap (λ (vs : List ℕ). nth vs 3) (fields-bytes p q (placeOf statementTable small i) 0 statementFormat (statementValues x) tiledStatement f (omega arith))
 
-  tally-reads : (t : Tally) → Fit tallyFormat (tallyValues t) → 10308 + 42 * i ≡ length p → tallyAt (p ++ (bytesOf tallyFormat (tallyValues t) ++ q)) i ≡ t
-  unfolding tallyAt
-  tally-reads t f e = ap tallyFrom (fields-bytes p q (placeOf tallyTable i) 0 tallyFormat (tallyValues t) (tt, (tt, (tt, (tt, tt)))) f (omega arith))
+  tally-reads : (t : Tally) → Fit tallyFormat (tallyValues t) → tallyTable .base z + 42 * i ≡ length p → tallyFor z (p ++ (bytesOf tallyFormat (tallyValues t) ++ q)) i ≡ t
+  unfolding tallyFor
+  tally-reads t f e = ap tallyFrom (fields-bytes p q (placeOf tallyTable z i) 0 tallyFormat (tallyValues t) (tt, (tt, (tt, (tt, tt)))) f (omega arith))
 
   single-reads : (at w v : ℕ) → Fit ((0, w) ∷ []) (v ∷ []) → at ≡ length p → number (p ++ (bytesOf ((0, w) ∷ []) (v ∷ []) ++ q)) at w ≡ v
   single-reads at w v f e =
       let r : List ℕ = p ++ (bytesOf ((0, w) ∷ []) (v ∷ []) ++ q) in
       ap (λ (k : ℕ). number r k w) (sym (add-zero at)) ∙ ap (λ (vs : List ℕ). nth vs 0) (fields-bytes p q at 0 ((0, w) ∷ []) (v ∷ []) (tt, tt) f (omega arith))
 
-  mask-reads : (m : ℕ) → Fit maskFormat (m ∷ []) → blameBase + 2 * i ≡ length p → blameAt (p ++ (bytesOf maskFormat (m ∷ []) ++ q)) i ≡ m
-  unfolding blameAt
-  mask-reads m f e = single-reads (blameBase + 2 * i) 2 m f e
+  mask-reads : (m : ℕ) → Fit maskFormat (m ∷ []) → blameBase z + 2 * i ≡ length p → blameFor z (p ++ (bytesOf maskFormat (m ∷ []) ++ q)) i ≡ m
+  unfolding blameFor
+  mask-reads m f e = single-reads (blameBase z + 2 * i) 2 m f e
 
-  name-reads : (n : ℕ) → Fit nameFormat (n ∷ []) → 21124 + 32 * i ≡ length p → nameAt (p ++ (bytesOf nameFormat (n ∷ []) ++ q)) i ≡ n
-  unfolding nameAt
-  name-reads n f e = single-reads (placeOf logTable i) 32 n f e
+  name-reads : (n : ℕ) → Fit nameFormat (n ∷ []) → logTable .base z + 32 * i ≡ length p → nameFor z (p ++ (bytesOf nameFormat (n ∷ []) ++ q)) i ≡ n
+  unfolding nameFor
+  name-reads n f e = single-reads (placeOf logTable z i) 32 n f e
 
 -- ---- the five pieces of a store, from each of them on
 
@@ -106,20 +106,23 @@ kinds-good [] = refl
 kinds-good (x ∷ xs) = rw (number-kind (x .isNewView) .0) (kinds-good xs)
 
 module _ (s : State) (k : Fitted s) where
+  abbrev z : Size
+  z = s .settings .size
+
   abbrev h : List ℕ
   h = bytesOf headerFormat (headerValues s)
 
   abbrev x : List ℕ
-  x = tableOf statementTable (bytes statementFormat statementValues) (s .statements)
+  x = tableOf z statementTable (bytes statementFormat statementValues) (s .statements)
 
   abbrev t : List ℕ
-  t = tableOf tallyTable (bytes tallyFormat tallyValues) (s .tallies)
+  t = tableOf z tallyTable (bytes tallyFormat tallyValues) (s .tallies)
 
   abbrev m : List ℕ
   m = flat (bytes maskFormat single) (drop 1 (s .blames))
 
   abbrev l : List ℕ
-  l = tableOf logTable (bytes nameFormat single) (s .log)
+  l = tableOf z logTable (bytes nameFormat single) (s .log)
 
   abbrev b : List ℕ
   b = h ++ x ++ t ++ m ++ l
@@ -128,19 +131,19 @@ module _ (s : State) (k : Fitted s) where
   long-h : length h ≡ 68
   long-h = length-bytes headerFormat (headerValues s) (k .header)
 
-  long-x : length x ≡ 10240
-  long-x = length-table statementFormat statementValues statementTable refl (s .statements) (k .statements) (k .fewStatements)
+  long-x : length x ≡ 80 * mostStatements z
+  long-x = length-table statementFormat statementValues z statementTable refl (s .statements) (k .statements) (k .fewStatements)
 
-  long-t : length t ≡ 10752
-  long-t = length-table tallyFormat tallyValues tallyTable refl (s .tallies) (k .tallies) (k .fewTallies)
+  long-t : length t ≡ 42 * mostTallies z
+  long-t = length-table tallyFormat tallyValues z tallyTable refl (s .tallies) (k .tallies) (k .fewTallies)
 
-  long-m : length m ≡ 64
+  long-m : length m ≡ 2 * lastView z
   long-m = length-flat maskFormat single (drop 1 (s .blames)) (k .masks) ∙ ap (λ (n : ℕ). 2 * n) (k .views)
 
-  long-l : length l ≡ 4096
-  long-l = length-table nameFormat single logTable refl (s .log) (k .names) (k .fewNames)
+  long-l : length l ≡ 32 * mostStatements z
+  long-l = length-table nameFormat single z logTable refl (s .log) (k .names) (k .fewNames)
 
-  long : length b ≡ storeLength
+  long : length b ≡ storeLength z
   long = long-five h x t m l ∙ rw (long-h, long-x, long-t, long-m, long-l)
 
   all-bytes : Bytes b
@@ -148,10 +151,10 @@ module _ (s : State) (k : Fitted s) where
       bytes-append (h ++ x ++ t ++ m) l
       (bytes-append (h ++ x ++ t) m
       (bytes-append (h ++ x) t
-      (bytes-append h x (bytes-record headerFormat (headerValues s) (k .header)) (bytes-table statementFormat statementValues statementTable refl (s .statements) (k .statements) (k .fewStatements)))
-      (bytes-table tallyFormat tallyValues tallyTable refl (s .tallies) (k .tallies) (k .fewTallies)))
+      (bytes-append h x (bytes-record headerFormat (headerValues s) (k .header)) (bytes-table statementFormat statementValues z statementTable refl (s .statements) (k .statements) (k .fewStatements)))
+      (bytes-table tallyFormat tallyValues z tallyTable refl (s .tallies) (k .tallies) (k .fewTallies)))
       (bytes-flat maskFormat single (drop 1 (s .blames)) (k .masks)))
-      (bytes-table nameFormat single logTable refl (s .log) (k .names) (k .fewNames))
+      (bytes-table nameFormat single z logTable refl (s .log) (k .names) (k .fewNames))
 
   header-is : fields b 0 headerFormat ≡ headerValues s
   header-is =
@@ -174,16 +177,16 @@ module _ (s : State) (k : Fitted s) where
   count-log = count-is 13 (length (s .log)) refl
 
   -- what each table holds
-  statements-held : Holds statementTable statementAt b (s .statements)
+  statements-held : Holds z statementTable statementAt b (s .statements)
   statements-held =
       let e = from-header h x t m l in
       let c = ap (countOf statementTable) (sym e) ∙ count-statements in
-      subst (λ (r : List ℕ). Holds statementTable statementAt r (s .statements)) (sym e)
+      subst (λ (r : List ℕ). Holds z statementTable statementAt r (s .statements)) (sym e)
       record {
-        used = table-used statementFormat statementValues statementTable refl (s .statements) (k .statements) (k .fewStatements) h (t ++ (m ++ l)) (sym long-h) c;
+        used = table-used statementFormat statementValues z statementTable refl (s .statements) (k .statements) (k .fewStatements) h (t ++ (m ++ l)) (sym long-h) c;
         is =
-            table-rows statementFormat statementValues statementTable refl (s .statements) (k .statements) (k .fewStatements) h (t ++ (m ++ l)) (sym long-h) c
-            (λ y. y) statementAt statement-reads
+            table-rows statementFormat statementValues z statementTable refl (s .statements) (k .statements) (k .fewStatements) h (t ++ (m ++ l)) (sym long-h) c
+            (λ y. y) statementAt (statement-reads z)
             ∙ map-id (s .statements);
       }
 
@@ -193,47 +196,47 @@ module _ (s : State) (k : Fitted s) where
       let e = from-header h x t m l in
       let c = ap (countOf statementTable) (sym e) ∙ count-statements in
       subst (λ (r : List ℕ). all (within 1 2) (kinds r) ≡ true) (sym e)
-      (ap (all (within 1 2)) (table-rows statementFormat statementValues statementTable refl (s .statements) (k .statements) (k .fewStatements) h (t ++ (m ++ l)) (sym long-h) c
-      (λ y. kindNumber (y .isNewView)) kindAt kind-reads)
+      (ap (all (within 1 2)) (table-rows statementFormat statementValues z statementTable refl (s .statements) (k .statements) (k .fewStatements) h (t ++ (m ++ l)) (sym long-h) c
+      (λ y. kindNumber (y .isNewView)) kindAt (kind-reads z))
       ∙ kinds-good (s .statements))
 
-  tallies-held : Holds tallyTable tallyAt b (s .tallies)
+  tallies-held : Holds z tallyTable (tallyFor z) b (s .tallies)
   tallies-held =
       let e = from-tallies h x t m l in
       let c = ap (countOf tallyTable) (sym e) ∙ count-tallies in
-      let at : 10308 ≡ length (h ++ x) = omega (arith, length-append h x, long-h, long-x) in
-      subst (λ (r : List ℕ). Holds tallyTable tallyAt r (s .tallies)) (sym e)
+      let at : tallyTable .base z ≡ length (h ++ x) = omega (arith, length-append h x, long-h, long-x) in
+      subst (λ (r : List ℕ). Holds z tallyTable (tallyFor z) r (s .tallies)) (sym e)
       record {
-        used = table-used tallyFormat tallyValues tallyTable refl (s .tallies) (k .tallies) (k .fewTallies) (h ++ x) (m ++ l) at c;
+        used = table-used tallyFormat tallyValues z tallyTable refl (s .tallies) (k .tallies) (k .fewTallies) (h ++ x) (m ++ l) at c;
         is =
-            table-rows tallyFormat tallyValues tallyTable refl (s .tallies) (k .tallies) (k .fewTallies) (h ++ x) (m ++ l) at c (λ y. y) tallyAt tally-reads
+            table-rows tallyFormat tallyValues z tallyTable refl (s .tallies) (k .tallies) (k .fewTallies) (h ++ x) (m ++ l) at c (λ y. y) (tallyFor z) (tally-reads z)
             ∙ map-id (s .tallies);
       }
 
-  log-held : Holds logTable nameAt b (s .log)
+  log-held : Holds z logTable (nameFor z) b (s .log)
   log-held =
       let e = from-log h x t m l in
       let c = ap (countOf logTable) (sym e) ∙ count-log in
-      let at : 21124 ≡ length (h ++ x ++ t ++ m) =
+      let at : logTable .base z ≡ length (h ++ x ++ t ++ m) =
       omega (arith, length-append h x, length-append (h ++ x) t, length-append (h ++ x ++ t) m, long-h, long-x, long-t, long-m) in
-      subst (λ (r : List ℕ). Holds logTable nameAt r (s .log)) (sym e)
+      subst (λ (r : List ℕ). Holds z logTable (nameFor z) r (s .log)) (sym e)
       record {
-        used = table-used nameFormat single logTable refl (s .log) (k .names) (k .fewNames) (h ++ x ++ t ++ m) [] at c;
+        used = table-used nameFormat single z logTable refl (s .log) (k .names) (k .fewNames) (h ++ x ++ t ++ m) [] at c;
         is =
-            table-rows nameFormat single logTable refl (s .log) (k .names) (k .fewNames) (h ++ x ++ t ++ m) [] at c (λ y. y) nameAt name-reads ∙ map-id (s .log);
+            table-rows nameFormat single z logTable refl (s .log) (k .names) (k .fewNames) (h ++ x ++ t ++ m) [] at c (λ y. y) (nameFor z) (name-reads z) ∙ map-id (s .log);
       }
 
-  blames-held : blames b ≡ s .blames
-  unfolding blames
+  blames-held : blamesFor z b ≡ s .blames
+  unfolding blamesFor
   blames-held =
       let ms = drop 1 (s .blames) in
-      let at : blameBase + 2 * 0 ≡ length (h ++ x ++ t) = omega (arith, length-append h x, length-append (h ++ x) t, long-h, long-x, long-t) in
+      let at : blameBase z + 2 * 0 ≡ length (h ++ x ++ t) = omega (arith, length-append h x, length-append (h ++ x) t, long-h, long-x, long-t) in
       ap (0 ∷_)
-      (ap (λ (r : List ℕ). rows (blameAt r) 0 lastView) (from-masks h x t m l) ∙ ap (rows (blameAt (h ++ x ++ t ++ (m ++ l))) 0) (sym (k .views))
-      ∙ rows-flat maskFormat single blameBase (λ y. y) blameAt mask-reads (h ++ x ++ t) l 0 ms (k .masks) at ∙ map-id ms)
+      (ap (λ (r : List ℕ). rows (blameFor z r) 0 (lastView z)) (from-masks h x t m l) ∙ ap (rows (blameFor z (h ++ x ++ t ++ (m ++ l))) 0) (sym (k .views))
+      ∙ rows-flat maskFormat single (blameBase z) (λ y. y) (blameFor z) (mask-reads z) (h ++ x ++ t) l 0 ms (k .masks) at ∙ map-id ms)
       ∙ k .noneBlamed
 
-  state-is : stateFrom (headerValues s) (s .statements) (s .tallies) (s .blames) (s .log) ≡ s
+  state-is : stateFrom z (headerValues s) (s .statements) (s .tallies) (s .blames) (s .log) ≡ s
   unfolding stateFrom headerValues
   state-is = λ i. record {
     settings = s .settings;
@@ -252,5 +255,5 @@ module _ (s : State) (k : Fitted s) where
   pub encode-left : Left (encode s) s
   unfolding encode
   encode-left =
-      let e = left all-bytes long header-is statements-held tallies-held blames-held log-held kinds-held in
+      let e = left z all-bytes long header-is statements-held tallies-held blames-held log-held kinds-held in
       record { form = e .form; is = e .is ∙ state-is }

@@ -3,21 +3,24 @@ use Prim.Native.Nat.{ℕ, _+_, _*_, _<_}
 use mathlib.Core.Path.{_≡_, sym, ap, ap₂, _∙_}
 use mathlib.Core.List.{List, [], _∷_, _++_}
 use native.Mathlib.Omega.{arith}
-use native.Mathlib.Nat.{add-zero}
+use native.Mathlib.Nat.{add-zero, zero-add}
 use lib.ListN.{getD}
 use lib.Dec.{eqb}
-use Rattle.rules.specs.Limits.{lastView}
+use Rattle.rules.specs.Limits.{Size, small, lastView, mostStatements, mostTallies}
 use Rattle.rules.specs.Lists.{within}
 use Rattle.fields.specs.Places.{number}
 use Rattle.fields.specs.Records.{fields}
-use Rattle.store.specs.Layout.{headerFormat, statementFormat, tallyFormat, maskFormat, nameFormat, statementTable, tallyTable, logTable, blameBase, placeOf, countOf}
-use Rattle.store.specs.Decode.{kindNumber, statementValues, tallyValues, statementAt, tallyAt, blameAt, nameAt, kindAt, statements, tallies, blames, names, kinds, stateFrom, stateOf, Form, headerValues, bytesOf, encode}
+use Rattle.store.specs.Layout.{headerFormat, statementFormat, tallyFormat, maskFormat, nameFormat, statementTable, tallyTable, logTable, blameBase, sizeIn, placeOf, countOf}
+use Rattle.store.specs.Decode.{kindNumber, statementValues, tallyValues, statementAt, tallyAt, tallyFor, blameAt, blameFor, nameAt, nameFor, kindAt, statements, tallies, blamesFor, names, kinds, stateFrom, stateOf, Form, headerValues, bytesOf, encode}
 use Rattle.store.proofs.Values.{phase-number, vote-number, kind-number}
 use Rattle.store.proofs.Rows.{rows-append, rows-length, rows-all}
 use Rattle.store.proofs.Forms.{Parts, parts}
 use Rattle.store.proofs.Pieces.{bytesAt, bytes-all, record-bytes, rows-bytes, table-bytes}
 
 module _ (b : List ℕ) (k : Form b) where
+  abbrev z : Size
+  z = sizeIn b
+
   abbrev p : Parts b
   p = parts b (k .form)
 
@@ -31,27 +34,27 @@ module _ (b : List ℕ) (k : Form b) where
 
   -- each record's bytes
   statement-is : (i : ℕ) → i < countOf statementTable b
-      → bytesOf statementFormat (statementValues (statementAt b i)) ≡ bytesAt b (placeOf statementTable i) (statementTable .size)
+      → bytesOf statementFormat (statementValues (statementAt b i)) ≡ bytesAt b (placeOf statementTable small i) (statementTable .size)
   unfolding statementAt kindAt
   statement-is i l =
       ap (bytesOf statementFormat) (simp (kind-is i l, vote-number))
-      ∙ record-bytes b (k .bytes) (placeOf statementTable i) statementFormat (tt, (tt, (tt, (tt, (tt, (tt, (tt, (tt, tt))))))))
+      ∙ record-bytes b (k .bytes) (placeOf statementTable small i) statementFormat (tt, (tt, (tt, (tt, (tt, (tt, (tt, (tt, tt))))))))
 
-  tally-is : (i : ℕ) → bytesOf tallyFormat (tallyValues (tallyAt b i)) ≡ bytesAt b (placeOf tallyTable i) (tallyTable .size)
-  unfolding tallyAt
-  tally-is i = record-bytes b (k .bytes) (placeOf tallyTable i) tallyFormat (tt, (tt, (tt, (tt, tt))))
+  tally-is : (i : ℕ) → bytesOf tallyFormat (tallyValues (tallyAt b i)) ≡ bytesAt b (placeOf tallyTable z i) (tallyTable .size)
+  unfolding tallyFor
+  tally-is i = record-bytes b (k .bytes) (placeOf tallyTable z i) tallyFormat (tt, (tt, (tt, (tt, tt))))
 
-  mask-is : (i : ℕ) → bytesOf maskFormat (blameAt b i ∷ []) ≡ bytesAt b (blameBase + 2 * i) 2
-  unfolding blameAt
+  mask-is : (i : ℕ) → bytesOf maskFormat (blameAt b i ∷ []) ≡ bytesAt b (blameBase z + 2 * i) 2
+  unfolding blameFor
   mask-is i =
-      ap (λ (n : ℕ). bytesOf maskFormat (number b n 2 ∷ [])) (sym (add-zero (blameBase + 2 * i)))
-      ∙ record-bytes b (k .bytes) (blameBase + 2 * i) maskFormat (tt, tt)
+      ap (λ (n : ℕ). bytesOf maskFormat (number b n 2 ∷ [])) (sym (add-zero (blameBase z + 2 * i)))
+      ∙ record-bytes b (k .bytes) (blameBase z + 2 * i) maskFormat (tt, tt)
 
-  name-is : (i : ℕ) → bytesOf nameFormat (nameAt b i ∷ []) ≡ bytesAt b (placeOf logTable i) (logTable .size)
-  unfolding nameAt
+  name-is : (i : ℕ) → bytesOf nameFormat (nameAt b i ∷ []) ≡ bytesAt b (placeOf logTable z i) (logTable .size)
+  unfolding nameFor
   name-is i =
-      ap (λ (n : ℕ). bytesOf nameFormat (number b n 32 ∷ [])) (sym (add-zero (placeOf logTable i)))
-      ∙ record-bytes b (k .bytes) (placeOf logTable i) nameFormat (tt, tt)
+      ap (λ (n : ℕ). bytesOf nameFormat (number b n 32 ∷ [])) (sym (add-zero (placeOf logTable z i)))
+      ∙ record-bytes b (k .bytes) (placeOf logTable z i) nameFormat (tt, tt)
 
   header-bytes : bytesOf headerFormat (headerValues (stateOf b)) ≡ bytesAt b 0 68
   header-bytes =
@@ -59,21 +62,23 @@ module _ (b : List ℕ) (k : Form b) where
       ∙ record-bytes b (k .bytes) 0 headerFormat (tt, (tt, (tt, (tt, (tt, (tt, (tt, (tt, (tt, (tt, (tt, (tt, (tt, (tt, tt))))))))))))))
 
   -- the five pieces of a store, in a row
-  pieces : bytesAt b 0 68 ++ bytesAt b 68 10240 ++ bytesAt b 10308 10752 ++ bytesAt b blameBase 64 ++ bytesAt b 21124 4096 ≡ b
+  more : (n m : ℕ) → bytesAt b 0 n ++ bytesAt b n m ≡ bytesAt b 0 (n + m)
+  more n m = ap (λ (k : ℕ). bytesAt b 0 n ++ bytesAt b k m) (sym (zero-add n)) ∙ sym (rows-append (λ i. getD b i 0) 0 n m)
+
+  pieces : bytesAt b 0 68 ++ bytesAt b 68 (80 * mostStatements z) ++ bytesAt b (tallyTable .base z) (42 * mostTallies z) ++ bytesAt b (blameBase z) (2 * lastView z) ++ bytesAt b (logTable .base z) (32 * mostStatements z) ≡ b
   pieces =
-      let g : ℕ → ℕ = λ i. getD b i 0 in
-      ap (λ (x : List ℕ). x ++ bytesAt b 10308 10752 ++ bytesAt b blameBase 64 ++ bytesAt b 21124 4096) (sym (rows-append g 0 68 10240))
-      ∙ ap (λ (x : List ℕ). x ++ bytesAt b blameBase 64 ++ bytesAt b 21124 4096) (sym (rows-append g 0 10308 10752))
-      ∙ ap (λ (x : List ℕ). x ++ bytesAt b 21124 4096) (sym (rows-append g 0 blameBase 64)) ∙ sym (rows-append g 0 21124 4096)
+      ap (λ (x : List ℕ). x ++ bytesAt b (tallyTable .base z) (42 * mostTallies z) ++ bytesAt b (blameBase z) (2 * lastView z) ++ bytesAt b (logTable .base z) (32 * mostStatements z)) (more 68 (80 * mostStatements z))
+      ∙ ap (λ (x : List ℕ). x ++ bytesAt b (blameBase z) (2 * lastView z) ++ bytesAt b (logTable .base z) (32 * mostStatements z)) (more (tallyTable .base z) (42 * mostTallies z))
+      ∙ ap (λ (x : List ℕ). x ++ bytesAt b (logTable .base z) (32 * mostStatements z)) (more (blameBase z) (2 * lastView z)) ∙ more (logTable .base z) (32 * mostStatements z)
       ∙ ap (bytesAt b 0) (sym (p .long)) ∙ bytes-all b
 
   pub encode-state : encode (stateOf b) ≡ b
-  unfolding encode stateOf stateFrom statements tallies blames names
+  unfolding encode stateOf stateFrom statements tallies blamesFor names
   encode-state =
       ap₂ _++_
       (ap₂ _++_
-      (ap₂ _++_ (ap₂ _++_ header-bytes (table-bytes b (k .bytes) statementTable (λ x. bytesOf statementFormat (statementValues x)) (statementAt b) statement-is (p .statements .used)))
-      (table-bytes b (k .bytes) tallyTable (λ t. bytesOf tallyFormat (tallyValues t)) (tallyAt b) (λ i l. tally-is i) (p .tallies .used)))
-      (rows-bytes b (k .bytes) (λ m. bytesOf maskFormat (m ∷ [])) (blameAt b) blameBase 2 0 lastView (λ i l m. mask-is i)))
-      (table-bytes b (k .bytes) logTable (λ n. bytesOf nameFormat (n ∷ [])) (nameAt b) (λ i l. name-is i) (p .log .used))
+      (ap₂ _++_ (ap₂ _++_ header-bytes (table-bytes b (k .bytes) z statementTable (λ x. bytesOf statementFormat (statementValues x)) (statementAt b) statement-is (p .statements .used)))
+      (table-bytes b (k .bytes) z tallyTable (λ t. bytesOf tallyFormat (tallyValues t)) (tallyAt b) (λ i l. tally-is i) (p .tallies .used)))
+      (rows-bytes b (k .bytes) (λ m. bytesOf maskFormat (m ∷ [])) (blameAt b) (blameBase z) 2 0 (lastView z) (λ i l m. mask-is i) ∙ ap (λ (at : ℕ). bytesAt b at (2 * lastView z)) (add-zero (blameBase z))))
+      (table-bytes b (k .bytes) z logTable (λ n. bytesOf nameFormat (n ∷ [])) (nameAt b) (λ i l. name-is i) (p .log .used))
       ∙ pieces

@@ -15,5 +15,5 @@ pub mod Searches
 pub mod Joining
 pub mod Starts
 pub mod Sized
-pub mod Voters
+pub mod OneByOne
 pub mod Compose

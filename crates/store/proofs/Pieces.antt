@@ -8,6 +8,7 @@ use lib.Dec.{T, eqb, eqb→eq}
 use lib.ListN.{length, getD, replicate}
 use Rattle.rules.specs.Lists.{unbe}
 use Rattle.rules.proofs.Bytes.{pow-pos}
+use Rattle.rules.specs.Limits.{Size}
 use Rattle.fields.specs.Places.{number, Bytes}
 use Rattle.fields.specs.Records.{Format, fields}
 use Rattle.fields.proofs.Laws.{number-lt}
@@ -82,17 +83,17 @@ module _ (s : List ℕ) (bytes : Bytes s) where
       ∙ sym (rows-append (λ k. getD s k 0) (base + size * i) size (size * n)) ∙ ap (bytesAt s (base + size * i)) q
 
   -- and a table with its unused part
-  pub table-bytes : {A : Type 0} (t : Table) (e : A → List ℕ) (f : ℕ → A) → ((k : ℕ) → k < countOf t s → e (f k) ≡ bytesAt s (t .base + t .size * k) (t .size))
-      → Used t s → tableOf t e (rows f 0 (countOf t s)) ≡ bytesAt s (t .base) (t .size * t .room)
+  pub table-bytes : {A : Type 0} (z : Size) (t : Table) (e : A → List ℕ) (f : ℕ → A) → ((k : ℕ) → k < countOf t s → e (f k) ≡ bytesAt s (t .base z + t .size * k) (t .size))
+      → Used z t s → tableOf z t e (rows f 0 (countOf t s)) ≡ bytesAt s (t .base z) (t .size * t .room z)
   unfolding tableOf
-  table-bytes t e f h u =
+  table-bytes z t e f h u =
       let n = countOf t s in
-      let rest : ℕ = t .size * t .room - t .size * n in
-      let m : t .size * n ≤ t .size * t .room = mul-le-mul-left (t .size) (u .within) in
-      let q : t .base + t .size * 0 ≡ t .base = omega arith in
-      let p : t .size * n + rest ≡ t .size * t .room = omega arith in
-      let z : replicate rest 0 ≡ bytesAt s (t .base + t .size * n) rest =
-      sym (unbe-zero rest) ∙ ap (unbe rest) (sym (u .clear)) ∙ unbe-number (t .base + t .size * n) rest in
-      ap₂ _++_ (rows-bytes e f (t .base) (t .size) 0 n (λ k a b. h k (omega arith)) ∙ ap (λ (x : ℕ). bytesAt s x (t .size * n)) q)
-      (ap (λ (x : ℕ). replicate (t .size * t .room - t .size * x) 0) (rows-length f 0 n) ∙ z)
-      ∙ sym (rows-append (λ i. getD s i 0) (t .base) (t .size * n) rest) ∙ ap (bytesAt s (t .base)) p
+      let rest : ℕ = t .size * t .room z - t .size * n in
+      let m : t .size * n ≤ t .size * t .room z = mul-le-mul-left (t .size) (u .within) in
+      let q : t .base z + t .size * 0 ≡ t .base z = omega arith in
+      let p : t .size * n + rest ≡ t .size * t .room z = omega arith in
+      let zeros : replicate rest 0 ≡ bytesAt s (t .base z + t .size * n) rest =
+      sym (unbe-zero rest) ∙ ap (unbe rest) (sym (u .clear)) ∙ unbe-number (t .base z + t .size * n) rest in
+      ap₂ _++_ (rows-bytes e f (t .base z) (t .size) 0 n (λ k a b. h k (omega arith)) ∙ ap (λ (x : ℕ). bytesAt s x (t .size * n)) q)
+      (ap (λ (x : ℕ). replicate (t .size * t .room z - t .size * x) 0) (rows-length f 0 n) ∙ zeros)
+      ∙ sym (rows-append (λ i. getD s i 0) (t .base z) (t .size * n) rest) ∙ ap (bytesAt s (t .base z)) p

@@ -9,6 +9,7 @@ use lib.ListN.{length, replicate, length-append, length-replicate}
 use Rattle.rules.specs.Lists.{unbe}
 use Rattle.rules.proofs.Bytes as digits
 use Rattle.rules.proofs.Bytes.{length-unbe, pow-pos, bytes-unbe}
+use Rattle.rules.specs.Limits.{Size}
 use Rattle.fields.specs.Places.{number, Bytes}
 use Rattle.fields.specs.Records.{Format, fields, Fit}
 use Rattle.fields.proofs.Lists.{number-cons, number-append-right}
@@ -127,43 +128,43 @@ module _ {A : Type 0} (fs : Format) (values : A → List ℕ) where
       (omega (arith, length-append p u, length-bytes fs (values x) (h .0), mul-suc (total fs) i)))
 
   -- a table of records that fit, with its unused part
-  module _ (t : Table) (sized : total fs ≡ t .size) (xs : List A) (h : Each Fits xs) (few : length xs ≤ t .room) where
+  module _ (z : Size) (t : Table) (sized : total fs ≡ t .size) (xs : List A) (h : Each Fits xs) (few : length xs ≤ t .room z) where
     rest : ℕ
-    rest = t .size * t .room - t .size * length xs
+    rest = t .size * t .room z - t .size * length xs
 
     size-flat : length (flat bytes xs) ≡ t .size * length xs
     size-flat = length-flat xs h ∙ ap (λ (k : ℕ). k * length xs) sized
 
-    pub length-table : length (tableOf t bytes xs) ≡ t .size * t .room
+    pub length-table : length (tableOf z t bytes xs) ≡ t .size * t .room z
     unfolding tableOf rest
     length-table = omega (arith, length-append (flat bytes xs) (replicate rest 0), size-flat, length-replicate {A = ℕ} rest 0, mul-le-mul-left (t .size) few)
 
-    pub bytes-table : Bytes (tableOf t bytes xs)
+    pub bytes-table : Bytes (tableOf z t bytes xs)
     unfolding tableOf rest
     bytes-table = bytes-append (flat bytes xs) (replicate rest 0) (bytes-flat xs h) (bytes-zeros rest)
 
-    module _ (p q : List ℕ) (at : t .base ≡ length p) (count : countOf t (p ++ (tableOf t bytes xs ++ q)) ≡ length xs) where
+    module _ (p q : List ℕ) (at : t .base z ≡ length p) (count : countOf t (p ++ (tableOf z t bytes xs ++ q)) ≡ length xs) where
       abbrev b : List ℕ
-      b = p ++ (tableOf t bytes xs ++ q)
+      b = p ++ (tableOf z t bytes xs ++ q)
 
       parted : b ≡ p ++ (flat bytes xs ++ (replicate rest 0 ++ q))
       unfolding tableOf rest
       parted = ap (p ++_) (append-assoc (flat bytes xs) (replicate rest 0) q)
 
-      pub table-used : Used t b
+      pub table-used : Used z t b
       unfolding rest
       table-used = record {
         within = rw count few;
         clear =
-            ap (λ (n : ℕ). number b (t .base + t .size * n) (t .size * t .room - t .size * n)) count
-            ∙ ap (λ (l : List ℕ). number l (t .base + t .size * length xs) rest) (parted ∙ sym (append-assoc p (flat bytes xs) (replicate rest 0 ++ q)))
-            ∙ number-behind (p ++ flat bytes xs) (replicate rest 0 ++ q) (t .base + t .size * length xs) rest (omega (arith, length-append p (flat bytes xs), size-flat))
+            ap (λ (n : ℕ). number b (t .base z + t .size * n) (t .size * t .room z - t .size * n)) count
+            ∙ ap (λ (l : List ℕ). number l (t .base z + t .size * length xs) rest) (parted ∙ sym (append-assoc p (flat bytes xs) (replicate rest 0 ++ q)))
+            ∙ number-behind (p ++ flat bytes xs) (replicate rest 0 ++ q) (t .base z + t .size * length xs) rest (omega (arith, length-append p (flat bytes xs), size-flat))
             ∙ number-zeros rest q;
       }
 
       pub table-rows : {B : Type 0} (g : A → B) (f : List ℕ → ℕ → B)
-          → ((p q : List ℕ) (i : ℕ) (x : A) → Fits x → t .base + total fs * i ≡ length p → f (p ++ (bytes x ++ q)) i ≡ g x)
+          → ((p q : List ℕ) (i : ℕ) (x : A) → Fits x → t .base z + total fs * i ≡ length p → f (p ++ (bytes x ++ q)) i ≡ g x)
           → rows (f b) 0 (countOf t b) ≡ map g xs
       table-rows g f r =
           ap (rows (f b) 0) count ∙ ap (λ (l : List ℕ). rows (f l) 0 (length xs)) parted
-          ∙ rows-flat (t .base) g f r p (replicate rest 0 ++ q) 0 xs h (omega arith)
+          ∙ rows-flat (t .base z) g f r p (replicate rest 0 ++ q) 0 xs h (omega arith)

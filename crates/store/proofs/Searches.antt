@@ -11,13 +11,14 @@ use lib.Dec.{eqb}
 use lib.ListN.{length}
 use borrow.Author.Tests.{eqb-true, eqb-false, eq-eqb, ne-eqb, not-true, not-false}
 use Rattle.rules.specs.Lists.{iff, first, any, alter}
-use Rattle.rules.specs.Words.{Statement, sameStatement, Tally, sameBlock, grown, join}
+use Rattle.rules.specs.Words.{Statement, sameStatement, Certificate, Tally, certificateOf, opened, sameBlock, ofBlock, grown, join}
 use Rattle.rules.proofs.Tests.{by-bool, eqb-self}
 use Rattle.fields.specs.Places.{number, Bytes}
 use Rattle.fields.proofs.Laws.{number-lt, number-split}
 use Rattle.fields.proofs.Differ.{digit-high, digit-low}
-use Rattle.store.specs.Layout.{tallyTable, statementTable, placeOf}
-use Rattle.store.specs.Decode.{rows, tallyAt, statementAt}
+use Rattle.rules.specs.Limits.{small}
+use Rattle.store.specs.Layout.{tallyTable, statementTable, sizeIn, placeOf}
+use Rattle.store.specs.Decode.{rows, tallyAt, tallyFor, statementAt}
 use Rattle.store.specs.Changes.{pick, firstFrom, changeAt}
 use Rattle.store.specs.declared.Found.{Found}
 use Rattle.store.specs.declared.Found.the-variants.{At, Nothing}
@@ -46,7 +47,7 @@ module _ {A : Type 0} (p : A → Bool) where
   Tells f i n Nothing = (any p (rows f i n) ≡ false) × (first p (rows f i n) ≡ none)
   Tells f i n (At j) = (i ≤ j) × (j < i + n) × (p (f j) ≡ true) × (any p (rows f i n) ≡ true) × (first p (rows f i n) ≡ some (f j))
 
-  tells : (f : ℕ → A) (i n : ℕ) → Tells f i n (firstFrom p i (rows f i n))
+  pub tells : (f : ℕ → A) (i n : ℕ) → Tells f i n (firstFrom p i (rows f i n))
   unfolding firstFrom rows any first
   tells f i zero = (refl, refl)
   tells f i (suc n) = go (p (f i)) (firstFrom p (suc i) (rows f (suc i) n)) refl (tells f (suc i) n)
@@ -98,46 +99,46 @@ module _ {A : Type 0} (p : A → Bool) (g : A → A) where
   pub alter-found : (xs : List A) (j : ℕ) → firstFrom p 0 xs ≡ At j → alter p g xs ≡ changeAt g j xs
   alter-found xs j q = let z : j - 0 ≡ j = omega arith in subst (Alters 0 xs) q (alters 0 xs) .1 ∙ ap (λ (k : ℕ). changeAt g k xs) z
 
-module _ (t : Tally) where
+module _ (t : Certificate) where
   abbrev Joins : ℕ → List Tally → Found → Type 0
-  Joins i us Nothing = join t us ≡ us ++ t ∷ []
+  Joins i us Nothing = join t us ≡ us ++ opened t ∷ []
   Joins i us (At j) = (i ≤ j) × (join t us ≡ changeAt (λ u. grown u (t .mask)) (j - i) us)
 
-  joins : (i : ℕ) (us : List Tally) → Joins i us (firstFrom (sameBlock t) i us)
+  joins : (i : ℕ) (us : List Tally) → Joins i us (firstFrom (ofBlock t) i us)
   unfolding firstFrom join changeAt
   joins i [] = refl
-  joins i (u ∷ us) = go (sameBlock t u) (firstFrom (sameBlock t) (suc i) us) refl (joins (suc i) us)
+  joins i (u ∷ us) = go (ofBlock t u) (firstFrom (ofBlock t) (suc i) us) refl (joins (suc i) us)
     where
-      go : (b : Bool) (r : Found) → sameBlock t u ≡ b → Joins (suc i) us r → Joins i (u ∷ us) (pick b (At i) r)
+      go : (b : Bool) (r : Found) → ofBlock t u ≡ b → Joins (suc i) us r → Joins i (u ∷ us) (pick b (At i) r)
       go true r e h = (omega arith, let z : i - i ≡ 0 = omega arith in rw (e, join, z))
       go false Nothing e h = rw (e, join) (ap (u ∷_) h)
       go false (At j) e h = (omega (arith, h .0), let z : j - i ≡ suc (j - suc i) = omega (arith, h .0) in rw (e, join, z) (ap (u ∷_) (h .1)))
 
-  pub join-found : (us : List Tally) (j : ℕ) → firstFrom (sameBlock t) 0 us ≡ At j → join t us ≡ changeAt (λ u. grown u (t .mask)) j us
+  pub join-found : (us : List Tally) (j : ℕ) → firstFrom (ofBlock t) 0 us ≡ At j → join t us ≡ changeAt (λ u. grown u (t .mask)) j us
   join-found us j q = let z : j - 0 ≡ j = omega arith in subst (Joins 0 us) q (joins 0 us) .1 ∙ ap (λ (k : ℕ). changeAt (λ u. grown u (t .mask)) k us) z
 
-  pub join-missing : (us : List Tally) → firstFrom (sameBlock t) 0 us ≡ Nothing → join t us ≡ us ++ t ∷ []
+  pub join-missing : (us : List Tally) → firstFrom (ofBlock t) 0 us ≡ Nothing → join t us ≡ us ++ opened t ∷ []
   join-missing us q = subst (Joins 0 us) q (joins 0 us)
 
   -- where a block's tally stands once it is joined: where it was found, or behind the others
   abbrev Stays : ℕ → List Tally → Found → Type 0
-  Stays i us Nothing = firstFrom (sameBlock t) i (join t us) ≡ At (i + length us)
-  Stays i us (At j) = firstFrom (sameBlock t) i (join t us) ≡ At j
+  Stays i us Nothing = firstFrom (ofBlock t) i (join t us) ≡ At (i + length us)
+  Stays i us (At j) = firstFrom (ofBlock t) i (join t us) ≡ At j
 
-  stays : (i : ℕ) (us : List Tally) → Stays i us (firstFrom (sameBlock t) i us)
+  stays : (i : ℕ) (us : List Tally) → Stays i us (firstFrom (ofBlock t) i us)
   unfolding firstFrom join sameBlock grown
   stays i [] = rw (eqb-self (t .view), eqb-self (t .height), eqb-self (t .name)) (ap At (sym (add-zero i)))
-  stays i (u ∷ us) = go (sameBlock t u) (firstFrom (sameBlock t) (suc i) us) refl (stays (suc i) us)
+  stays i (u ∷ us) = go (ofBlock t u) (firstFrom (ofBlock t) (suc i) us) refl (stays (suc i) us)
     where
-      go : (b : Bool) (r : Found) → sameBlock t u ≡ b → Stays (suc i) us r → Stays i (u ∷ us) (pick b (At i) r)
+      go : (b : Bool) (r : Found) → ofBlock t u ≡ b → Stays (suc i) us r → Stays i (u ∷ us) (pick b (At i) r)
       go true r e h = rw (e, join, e)
       go false Nothing e h = rw (e, join, e) (h ∙ ap At (omega arith))
       go false (At j) e h = rw (e, join, e) h
 
-  pub joined-found : (us : List Tally) (j : ℕ) → firstFrom (sameBlock t) 0 us ≡ At j → firstFrom (sameBlock t) 0 (join t us) ≡ At j
+  pub joined-found : (us : List Tally) (j : ℕ) → firstFrom (ofBlock t) 0 us ≡ At j → firstFrom (ofBlock t) 0 (join t us) ≡ At j
   joined-found us j q = subst (Stays 0 us) q (stays 0 us)
 
-  pub joined-missing : (us : List Tally) → firstFrom (sameBlock t) 0 us ≡ Nothing → firstFrom (sameBlock t) 0 (join t us) ≡ At (length us)
+  pub joined-missing : (us : List Tally) → firstFrom (ofBlock t) 0 us ≡ Nothing → firstFrom (ofBlock t) 0 (join t us) ≡ At (length us)
   joined-missing us q = subst (Stays 0 us) q (stays 0 us) ∙ ap At (zero-add (length us))
 
 -- ---- view and height as one number
@@ -155,10 +156,10 @@ key-splits b k at v h l =
     ∙ ap (λ (n : ℕ). eqb v (number b n 4) && eqb h (number b (at + 4) 4)) (sym (add-zero at))
 
 -- a tally is of the same block where key and name agree
-pub block-tally : (b : List ℕ) → Bytes b → (t : Tally) (i : ℕ) → t .height < 256 ^ 4
-    → (eqb (t .view * 256 ^ 4 + t .height) (number b (placeOf tallyTable i) 8) && eqb (t .name) (number b (placeOf tallyTable i + 8) 32)) ≡ sameBlock t (tallyAt b i)
-unfolding sameBlock tallyAt
-block-tally b k t i l = ap (λ (e : Bool). e && eqb (t .name) (number b (placeOf tallyTable i + 8) 32)) (key-splits b k (placeOf tallyTable i) (t .view) (t .height) l)
+pub block-tally : (b : List ℕ) → Bytes b → (t : Certificate) (i : ℕ) → t .height < 256 ^ 4
+    → (eqb (t .view * 256 ^ 4 + t .height) (number b (placeOf tallyTable (sizeIn b) i) 8) && eqb (t .name) (number b (placeOf tallyTable (sizeIn b) i + 8) 32)) ≡ ofBlock t (tallyAt b i)
+unfolding sameBlock tallyFor
+block-tally b k t i l = ap (λ (e : Bool). e && eqb (t .name) (number b (placeOf tallyTable (sizeIn b) i + 8) 32)) (key-splits b k (placeOf tallyTable (sizeIn b) i) (t .view) (t .height) l)
 
 -- ---- the same statement
 
@@ -182,18 +183,18 @@ regroup false true true true l a = refl
 -- tested in the order of the code: the block first, then kind, author and link
 pub statement-tests : (b : List ℕ) → Bytes b → (x : Statement) (i : ℕ) → x .height < 256 ^ 4
     → sameStatement x (statementAt b i)
-    ≡ (eqb (x .view * 256 ^ 4 + x .height) (number b (placeOf statementTable i) 8) && eqb (x .name) (number b (placeOf statementTable i + 8) 32)
+    ≡ (eqb (x .view * 256 ^ 4 + x .height) (number b (placeOf statementTable small i) 8) && eqb (x .name) (number b (placeOf statementTable small i + 8) 32)
     && (iff (x .isNewView) (statementAt b i .isNewView) && (eqb (x .author) (statementAt b i .author) && eqb (x .link) (statementAt b i .link))))
 unfolding sameStatement statementAt
 statement-tests b k x i l =
     let y = statementAt b i in
-    let e = key-splits b k (placeOf statementTable i) (x .view) (x .height) l in
+    let e = key-splits b k (placeOf statementTable small i) (x .view) (x .height) l in
     regroup (iff (x .isNewView) (y .isNewView)) (eqb (x .view) (y .view)) (eqb (x .height) (y .height)) (eqb (x .name) (y .name)) (eqb (x .link) (y .link)) (eqb (x .author) (y .author))
     ∙ ap (λ (e : Bool). e && eqb (x .name) (y .name) && (iff (x .isNewView) (y .isNewView) && (eqb (x .author) (y .author) && eqb (x .link) (y .link)))) (sym e)
 
 -- x held against statement i by the answer r of the block's test
 module _ (b : List ℕ) (k : Bytes b) (x : Statement) (i key : ℕ) (l : x .height < 256 ^ 4) (e : key ≡ x .view * 256 ^ 4 + x .height) (r : Bool)
-    (q : r ≡ (eqb key (number b (placeOf statementTable i) 8) && eqb (x .name) (number b (placeOf statementTable i + 8) 32))) where
+    (q : r ≡ (eqb key (number b (placeOf statementTable small i) 8) && eqb (x .name) (number b (placeOf statementTable small i + 8) 32))) where
   tests : sameStatement x (statementAt b i)
       ≡ (r && (iff (x .isNewView) (statementAt b i .isNewView) && (eqb (x .author) (statementAt b i .author) && eqb (x .link) (statementAt b i .link))))
   tests = statement-tests b k x i l ∙ rw (q, e)

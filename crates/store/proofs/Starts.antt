@@ -8,11 +8,12 @@ use native.Mathlib.Nat.{zero-add, mul-zero, mul-le-mul-left}
 use lib.ListN.{length, replicate}
 use lib.Dec.{leb, eqb}
 use borrow.Author.Tests.{leb-true, ltb-true, eq-eqb, ne-eqb}
-use Rattle.rules.specs.Limits.{leastStations, mostStations, leastDelay, mostDelay, lastView}
+use Rattle.rules.specs.Limits.{leastStations, mostStations, leastDelay, mostDelay, Size, lastView}
 use Rattle.rules.specs.Lists.{all, within}
 use Rattle.rules.specs.Sizes.{Settings, goodSettings}
-use Rattle.rules.specs.Words.{inView, fresh}
-use Rattle.settings.specs.Made.{made, pick}
+use Rattle.rules.specs.Words.{inView, State, fresh}
+use Rattle.settings.specs.Made.{made, pick, sizeFrom}
+use Rattle.settings.specs.declared.Size as declared-size
 use Rattle.settings.specs.declared.Settings as declared
 use Rattle.settings.specs.declared.Made.the-variants.{Good, Bad}
 use Rattle.rules.specs.Inputs.{entering}
@@ -22,17 +23,18 @@ use Rattle.fields.specs.Places.{number, put, Bytes}
 use Rattle.fields.specs.Records.{fields, puts, Fit}
 use Rattle.fields.proofs.Laws.{number-put-same, number-split, length-put, bytes-put}
 use Rattle.fields.proofs.Records.{fit-fields}
-use Rattle.store.specs.Layout.{headerFormat, tallyFormat, Table, statementTable, tallyTable, logTable, blameBase, storeLength, countOf}
-use Rattle.store.specs.Decode.{tallyValues, statementAt, tallyAt, blameAt, nameAt, kindAt, blames, kinds, rows, statements, tallies, names, stateFrom, stateOf, headerValues, Form, Left}
-use Rattle.store.specs.Meaning.{tallyOf, headerOf}
+use Rattle.words.specs.Meaning.{blockOf}
+use Rattle.words.specs.declared.Certificate.{Certificate}
+use Rattle.store.specs.Layout.{headerFormat, certificateFormat, Table, statementTable, tallyTable, logTable, blameBase, storeLength, sizeIn, countOf}
+use Rattle.store.specs.Decode.{certificateValues, statementAt, tallyFor, blameFor, nameFor, kindAt, blames, blamesFor, kinds, rows, statements, tallies, names, stateFrom, stateOf, headerValues, Form, Left, encode}
+use Rattle.store.specs.Meaning.{headerOf, Loads}
 use Rattle.store.specs.declared.Phase.the-variants.{InView}
-use Rattle.store.specs.declared.Tally.{Tally}
 use Rattle.store.specs.declared.Station.{Station}
 use Rattle.store.specs.Fresh.{answer, freshly}
 use Rattle.store.proofs.Loaded.{loaded-settings, loaded-clock, loaded-statements, loaded-tallies, loaded-logged}
 use Rattle.store.proofs.Kept.{zero-end}
 use Rattle.store.proofs.Tables.{Holds}
-use Rattle.store.proofs.Forms.{left}
+use Rattle.store.proofs.Forms.{left, sized}
 use Rattle.store.proofs.OneForm.{left-bytes}
 use Rattle.store.proofs.Changes.{put-station}
 
@@ -54,41 +56,44 @@ unfolding rows
 rows-zero f i zero h = refl
 rows-zero f i (suc n) h = ap₂ _∷_ (h i (omega arith)) (rows-zero f (suc i) n (λ k l. h k (omega arith)))
 
-module _ (b : List ℕ) (bytes : Bytes b) (long : length b ≡ storeLength) where
+module _ (b : List ℕ) (bytes : Bytes b) (long : length b ≡ storeLength (sizeIn b)) where
+  abbrev z : Size
+  z = sizeIn b
+
   abbrev cleared : List ℕ
-  cleared = put b 0 storeLength 0
+  cleared = put b 0 (storeLength z) 0
 
-  none-counted : (t : Table) → t .countAt + 2 ≤ storeLength → countOf t cleared ≡ 0
-  none-counted t h = zero-all b storeLength (omega arith) (t .countAt) 2 h
+  none-counted : (t : Table) → t .countAt + 2 ≤ storeLength z → countOf t cleared ≡ 0
+  none-counted t h = zero-all b (storeLength z) (omega arith) (t .countAt) 2 h
 
-  holds-none : {A : Type 0} (t : Table) (f : List ℕ → ℕ → A) → t .countAt + 2 ≤ storeLength → t .base + t .size * t .room ≤ storeLength → Holds t f cleared []
+  holds-none : {A : Type 0} (t : Table) (f : List ℕ → ℕ → A) → t .countAt + 2 ≤ storeLength z → t .base z + t .size * t .room z ≤ storeLength z → Holds z t f cleared []
   unfolding rows
   holds-none t f h l =
       let c = none-counted t h in
-      let z : t .size * 0 ≡ 0 = mul-zero (t .size) in
+      let none : t .size * 0 ≡ 0 = mul-zero (t .size) in
       record {
         used =
             record {
               within = rw c (omega arith);
               clear =
-                  ap (λ (n : ℕ). number cleared (t .base + t .size * n) (t .size * t .room - t .size * n)) c
-                  ∙ zero-all b storeLength (omega arith) (t .base + t .size * 0) (t .size * t .room - t .size * 0) (omega arith);
+                  ap (λ (n : ℕ). number cleared (t .base z + t .size * n) (t .size * t .room z - t .size * n)) c
+                  ∙ zero-all b (storeLength z) (omega arith) (t .base z + t .size * 0) (t .size * t .room z - t .size * 0) (omega arith);
             };
         is = ap (rows (f cleared) 0) c;
       }
 
-  blames-none : blames cleared ≡ replicate (suc lastView) 0
-  unfolding blames blameAt
-  blames-none = ap (0 ∷_) (rows-zero (blameAt cleared) 0 lastView (λ k l. zero-all b storeLength (omega arith) (blameBase + 2 * k) 2 (omega arith)))
+  blames-none : blamesFor z cleared ≡ replicate (suc (lastView z)) 0
+  unfolding blamesFor blameFor
+  blames-none = ap (0 ∷_) (rows-zero (blameFor z cleared) 0 (lastView z) (λ k l. zero-all b (storeLength z) (omega arith) (blameBase z + 2 * k) 2 (omega arith)))
 
   kinds-none : all (within 1 2) (kinds cleared) ≡ true
   unfolding kinds rows all
   kinds-none = ap (λ (n : ℕ). all (within 1 2) (rows (kindAt cleared) 0 n)) (none-counted statementTable (omega arith))
 
-  cleared-left : Left cleared (stateFrom (fields cleared 0 headerFormat) [] [] (replicate (suc lastView) 0) [])
+  cleared-left : Left cleared (stateFrom z (fields cleared 0 headerFormat) [] [] (replicate (suc (lastView z)) 0) [])
   cleared-left =
-      left (bytes-put b bytes 0 storeLength 0) (length-put b 0 storeLength 0 ∙ long) refl (holds-none statementTable statementAt (omega arith) (omega arith))
-      (holds-none tallyTable tallyAt (omega arith) (omega arith)) blames-none (holds-none logTable nameAt (omega arith) (omega arith)) kinds-none
+      left z (bytes-put b bytes 0 (storeLength z) 0) (length-put b 0 (storeLength z) 0 ∙ long) refl (holds-none statementTable statementAt (omega arith) (omega arith))
+      (holds-none tallyTable (tallyFor z) (omega arith) (omega arith)) blames-none (holds-none logTable (nameFor z) (omega arith) (omega arith)) kinds-none
 
   -- ---- and the fresh header
 
@@ -104,61 +109,65 @@ module _ (b : List ℕ) (bytes : Bytes b) (long : length b ≡ storeLength) wher
       let o = ltb-true (g .own) (g .n) (and-right (odd && few && delay) _ e) in
       (omega arith, (omega arith, (omega arith, (omega arith, (omega arith, (omega arith, (omega arith, (omega arith, (omega arith, (pow-pos 32, (omega arith, (omega arith, (omega arith, (omega arith, tt))))))))))))))
 
-  pub fresh-left : (g : Settings) → goodSettings g ≡ true → Left (puts cleared 0 headerFormat (headerValues (fresh g))) (fresh g)
-  unfolding headerValues fresh stateOf stateFrom
-  fresh-left g e =
+  pub fresh-left : (g : Settings) → goodSettings g ≡ true → g .size ≡ z
+      → Left (puts cleared 0 headerFormat (headerValues (fresh g))) (fresh g)
+  unfolding headerValues fresh stateOf stateFrom goodSettings
+  fresh-left g e sz =
       let l = cleared-left in
+      let y : sizeIn cleared ≡ g .size = sized z cleared (length-put b 0 (storeLength z) 0 ∙ long) ∙ sym sz in
       let h = put-station cleared (l .form) (headerValues (fresh g)) (fresh-fits g e) (sym (none-counted statementTable (omega arith)))
       (sym (none-counted tallyTable (omega arith))) (sym (none-counted logTable (omega arith))) in
-      let s : stateOf cleared ≡ stateFrom (fields cleared 0 headerFormat) [] [] (replicate (suc lastView) 0) [] = l .is in
-      record { form = h .form; is = h .is ∙ (λ i. stateFrom (headerValues (fresh g)) (s i .statements) (s i .tallies) (s i .blames) (s i .log)) }
+      let s : stateOf cleared ≡ stateFrom z (fields cleared 0 headerFormat) [] [] (replicate (suc (lastView z)) 0) [] = l .is in
+      let ms : blames cleared ≡ replicate (suc (lastView (g .size))) 0 =
+      ap (λ (s : State). s .blames) s ∙ ap (λ (x : Size). replicate (suc (lastView x)) 0) (sym sz) in
+      record { form = h .form; is = h .is ∙ (λ i. stateFrom (y i) (headerValues (fresh g)) (s i .statements) (s i .tallies) (ms i) (s i .log)) }
 
 -- ---- the answers
 
-module _ (b : List ℕ) (n d own : ℕ) where
+pub length-refused : (b : List ℕ) (n d own : ℕ) → (length b ≡ storeLength (sizeIn b) → ⊥) → answer (1 * 2 ^ 32) b ≡ freshly b n d own
+unfolding freshly
+length-refused b n d own h = rw (ne-eqb (length b) (storeLength (sizeIn b)) h, freshly)
+
+module _ (b : List ℕ) (n d own : ℕ) (y : declared-size.Size) (same : sizeFrom y ≡ sizeIn b) where
   abbrev asked : Settings
-  asked = record { n = n; D = d; own = own }
+  asked = record { n = n; D = d; own = own; size = sizeFrom y }
 
-  pub length-refused : (length b ≡ storeLength → ⊥) → answer (1 * 2 ^ 32) b ≡ freshly b n d own
+  pub settings-refused : length b ≡ storeLength (sizeIn b) → goodSettings asked ≡ false → answer (10 * 2 ^ 32) b ≡ freshly b n d own
   unfolding freshly
-  length-refused h = rw (ne-eqb (length b) storeLength h, freshly)
+  settings-refused l e = rw (eq-eqb (length b) (storeLength (sizeIn b)) l, freshly, e)
 
-  pub settings-refused : length b ≡ storeLength → goodSettings asked ≡ false → answer (10 * 2 ^ 32) b ≡ freshly b n d own
+  pub made-fresh : length b ≡ storeLength (sizeIn b) → goodSettings asked ≡ true → {b′ : List ℕ} → Left b′ (fresh asked) → answer 0 b′ ≡ freshly b n d own
   unfolding freshly
-  settings-refused l e = rw (eq-eqb (length b) storeLength l, freshly, e)
-
-  pub made-fresh : length b ≡ storeLength → goodSettings asked ≡ true → {b′ : List ℕ} → Left b′ (fresh asked) → answer 0 b′ ≡ freshly b n d own
-  unfolding freshly
-  made-fresh l e h = rw (eq-eqb (length b) storeLength l, freshly, e) (ap (answer 0) (left-bytes h))
+  made-fresh l e h = rw (eq-eqb (length b) (storeLength (sizeIn b)) l, freshly, e) (ap (answer 0) (left-bytes h) ∙ ap (λ (x : Size). answer 0 (encode (fresh (record { n = n; D = d; own = own; size = x })))) same)
 
   -- what the settings' constructor answers
   abbrev given : declared.Settings
-  given = record { n = n; delay = d; own = own }
+  given = record { n = n; delay = d; own = own; size = y }
 
-  made-is : (t : Bool) → goodSettings asked ≡ t → made n d own ≡ pick t (Good given) Bad
+  made-is : (t : Bool) → goodSettings asked ≡ t → made n d own y ≡ pick t (Good given) Bad
   unfolding made
   made-is t e = ap (λ (u : Bool). pick u (Good given) Bad) e
 
-  pub made-good : (g : declared.Settings) → made n d own ≡ Good g → (goodSettings asked ≡ true) × (g ≡ given)
+  pub made-good : (g : declared.Settings) → made n d own y ≡ Good g → (goodSettings asked ≡ true) × (g ≡ given)
   made-good g e =
       by-bool (goodSettings asked)
       (λ t. let m = made-is true t in let q : g ≡ given = cc in (t, q))
       (λ f. let m = made-is false f in let z : _≡_ {A = ℕ} 0 1 = cc in absurd (omega arith))
 
-  pub made-bad : made n d own ≡ Bad → goodSettings asked ≡ false
+  pub made-bad : made n d own y ≡ Bad → goodSettings asked ≡ false
   made-bad e =
       by-bool (goodSettings asked) (λ t. let m = made-is true t in let z : _≡_ {A = ℕ} 0 1 = cc in absurd (omega arith)) (λ f. f)
 
 -- ---- entry
 
-pub entered : (b : List ℕ) (k : Form b) (s : Station) → headerOf s ≡ fields b 0 headerFormat → (v : ℕ) (t : Tally) → v < 256 ^ 4 → Fit tallyFormat (tallyValues (tallyOf t))
+pub entered : (b : List ℕ) (k : Form b) (s : Station) → Loads s b → (v : ℕ) (t : Certificate) → v < 256 ^ 4 → Fit certificateFormat (certificateValues (blockOf t))
     → Left
     (puts b 0 headerFormat
     (headerOf (record { settings = s .settings; phase = InView; view = v; entry = s .clock; clock = s .clock; lock = t; statements = s .statements; tallies = s .tallies; logged = s .logged })))
-    (entering v (tallyOf t) (stateOf b))
-unfolding headerOf tallyOf entering stateOf stateFrom
+    (entering v (blockOf t) (stateOf b))
+unfolding headerOf blockOf entering stateOf stateFrom
 entered b k s e v t lv lt =
-    let f : Fit headerFormat (headerOf s) = subst (Fit headerFormat) (sym e) (fit-fields b (k .bytes) 0 headerFormat) in
+    let f : Fit headerFormat (headerOf s) = subst (Fit headerFormat) (sym (e .header)) (fit-fields b (k .bytes) 0 headerFormat) in
     let g = f .1 in
     let clock = g .1 .1 .1 .1 .1 .0 in
     let counts = g .1 .1 .1 .1 .1 .1 .1 .1 .1 .1 in
@@ -172,12 +181,12 @@ entered b k s e v t lv lt =
       is =
           h .is
           ∙ (λ i. record {
-            settings = settings i;
+            settings = record { n = settings i .n; D = settings i .D; own = settings i .own; size = sizeIn b };
             phase = inView;
             view = v;
             entry = then i;
             clock = then i;
-            lock = tallyOf t;
+            lock = blockOf t;
             statements = statements b;
             tallies = tallies b;
             blames = blames b;

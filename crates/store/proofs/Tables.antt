@@ -7,6 +7,7 @@ use native.Mathlib.Nat.{zero-add, mul-suc, mul-le-mul-left}
 use native.Mathlib.Decide.{decLt}
 use native.Mathlib.Numerals.{add-one}
 use lib.ListN.{set}
+use Rattle.rules.specs.Limits.{Size}
 use Rattle.fields.specs.Places.{number}
 use Rattle.store.specs.Layout.{Table, countOf, placeOf, unused}
 use Rattle.store.specs.Decode.{rows}
@@ -45,85 +46,85 @@ module _ {A : Type 0} (base size : ℕ) (f : List ℕ → ℕ → A) (local : Lo
   rows-more n x e s = rows-add (f b′) (f b) x n e (λ k q. kept 0 n k (part s (omega arith) (omega arith)) (omega arith) q)
 
 -- the count is in range, and what is not in use is zero
-pub record Used (t : Table) (b : List ℕ) : Type 0 where
-  pub within : countOf t b ≤ t .room
-  pub clear : unused t b ≡ 0
+pub record Used (z : Size) (t : Table) (b : List ℕ) : Type 0 where
+  pub within : countOf t b ≤ t .room z
+  pub clear : unused z t b ≡ 0
 
 -- a table holds these records, and no more
-pub record Holds {A : Type 0} (t : Table) (f : List ℕ → ℕ → A) (b : List ℕ) (xs : List A) : Type 0 where
-  pub used : Used t b
+pub record Holds {A : Type 0} (z : Size) (t : Table) (f : List ℕ → ℕ → A) (b : List ℕ) (xs : List A) : Type 0 where
+  pub used : Used z t b
   pub is : rows (f b) 0 (countOf t b) ≡ xs
 
-module _ (t : Table) (b b′ : List ℕ) (u : Used t b) where
+module _ (z : Size) (t : Table) (b b′ : List ℕ) (u : Used z t b) where
   abbrev n : ℕ
   n = countOf t b
 
   abbrev end : ℕ
-  end = t .base + t .size * t .room
+  end = t .base z + t .size * t .room z
 
-  used-same : countOf t b′ ≡ n → SameIn b b′ (t .base + t .size * n) end → Used t b′
+  used-same : countOf t b′ ≡ n → SameIn b b′ (t .base z + t .size * n) end → Used z t b′
   used-same e s =
       let m = mul-le-mul-left (t .size) (u .within) in
       record {
         within = omega (arith, u .within);
         clear =
-            ap (λ (k : ℕ). number b′ (t .base + t .size * k) (t .size * t .room - t .size * k)) e
-            ∙ s .same (t .base + t .size * n) (t .size * t .room - t .size * n) (omega arith) (omega arith) ∙ u .clear;
+            ap (λ (k : ℕ). number b′ (t .base z + t .size * k) (t .size * t .room z - t .size * k)) e
+            ∙ s .same (t .base z + t .size * n) (t .size * t .room z - t .size * n) (omega arith) (omega arith) ∙ u .clear;
       }
 
-  used-more : countOf t b′ ≡ n + 1 → n < t .room → SameIn b b′ (t .base + t .size * n + t .size) end → Used t b′
+  used-more : countOf t b′ ≡ n + 1 → n < t .room z → SameIn b b′ (t .base z + t .size * n + t .size) end → Used z t b′
   used-more e l s =
-      let m : t .size * (n + 1) ≤ t .size * t .room = mul-le-mul-left (t .size) (omega arith) in
+      let m : t .size * (n + 1) ≤ t .size * t .room z = mul-le-mul-left (t .size) (omega arith) in
       let p : t .size * (n + 1) ≡ t .size * n + t .size = ap (λ (x : ℕ). t .size * x) (add-one n) ∙ mul-suc (t .size) n in
-      let q : t .base + t .size * (n + 1) ≡ t .base + t .size * n + t .size = omega arith in
-      let rest : ℕ = t .size * t .room - t .size * (n + 1) in
-      let r : t .size + rest ≡ t .size * t .room - t .size * n = omega arith in
+      let q : t .base z + t .size * (n + 1) ≡ t .base z + t .size * n + t .size = omega arith in
+      let rest : ℕ = t .size * t .room z - t .size * (n + 1) in
+      let r : t .size + rest ≡ t .size * t .room z - t .size * n = omega arith in
       record {
         within = omega arith;
         clear =
-            ap (λ (k : ℕ). number b′ (t .base + t .size * k) (t .size * t .room - t .size * k)) e
-            ∙ s .same (t .base + t .size * (n + 1)) rest (omega arith) (omega arith) ∙ ap (λ (x : ℕ). number b x rest) q
-            ∙ zero-end b (t .base + t .size * n) (t .size) rest (ap (number b (t .base + t .size * n)) r ∙ u .clear);
+            ap (λ (k : ℕ). number b′ (t .base z + t .size * k) (t .size * t .room z - t .size * k)) e
+            ∙ s .same (t .base z + t .size * (n + 1)) rest (omega arith) (omega arith) ∙ ap (λ (x : ℕ). number b x rest) q
+            ∙ zero-end b (t .base z + t .size * n) (t .size) rest (ap (number b (t .base z + t .size * n)) r ∙ u .clear);
       }
 
-module _ {A : Type 0} (t : Table) (f : List ℕ → ℕ → A) (local : Local (t .base) (t .size) f) (b b′ : List ℕ) {xs : List A} (h : Holds t f b xs) where
+module _ {A : Type 0} (z : Size) (t : Table) (f : List ℕ → ℕ → A) (local : Local (t .base z) (t .size) f) (b b′ : List ℕ) {xs : List A} (h : Holds z t f b xs) where
   abbrev c : ℕ
   c = countOf t b
 
   abbrev rooms : ℕ
-  rooms = t .base + t .size * t .room
+  rooms = t .base z + t .size * t .room z
 
-  fills : t .size * c ≤ t .size * t .room
+  fills : t .size * c ≤ t .size * t .room z
   fills = mul-le-mul-left (t .size) (h .used .within)
 
   -- neither the count nor a record is written
-  pub holds-same : countOf t b′ ≡ c → SameIn b b′ (t .base) rooms → Holds t f b′ xs
+  pub holds-same : countOf t b′ ≡ c → SameIn b b′ (t .base z) rooms → Holds z t f b′ xs
   holds-same e s =
       let m = fills in
       record {
-        used = used-same t b b′ (h .used) e (part s (omega arith) (omega arith));
-        is = ap (rows (f b′) 0) e ∙ rows-kept (t .base) (t .size) f local b b′ c (part s (omega arith) (omega arith)) ∙ h .is;
+        used = used-same z t b b′ (h .used) e (part s (omega arith) (omega arith));
+        is = ap (rows (f b′) 0) e ∙ rows-kept (t .base z) (t .size) f local b b′ c (part s (omega arith) (omega arith)) ∙ h .is;
       }
 
   -- record j is written
-  pub holds-set : (j : ℕ) (x : A) → j < c → f b′ j ≡ x → countOf t b′ ≡ c → SameIn b b′ (t .base) (placeOf t j)
-      → SameIn b b′ (placeOf t j + t .size) rooms → Holds t f b′ (set xs j x)
+  pub holds-set : (j : ℕ) (x : A) → j < c → f b′ j ≡ x → countOf t b′ ≡ c → SameIn b b′ (t .base z) (placeOf t z j)
+      → SameIn b b′ (placeOf t z j + t .size) rooms → Holds z t f b′ (set xs j x)
   holds-set j x l q e low high =
       let m = fills in
       let k = before (t .size) j c l in
       record {
-        used = used-same t b b′ (h .used) e (part high (omega arith) (omega arith));
+        used = used-same z t b b′ (h .used) e (part high (omega arith) (omega arith));
         is =
-            ap (rows (f b′) 0) e ∙ rows-put (t .base) (t .size) f local b b′ j c x l q low (part high (omega arith) (omega arith))
+            ap (rows (f b′) 0) e ∙ rows-put (t .base z) (t .size) f local b b′ j c x l q low (part high (omega arith) (omega arith))
             ∙ ap (λ (ys : List A). set ys j x) (h .is);
       }
 
   -- a record is added
-  pub holds-more : (x : A) → c < t .room → countOf t b′ ≡ c + 1 → f b′ c ≡ x → SameIn b b′ (t .base) (placeOf t c) → SameIn b b′ (placeOf t c + t .size) rooms
-      → Holds t f b′ (xs ++ x ∷ [])
+  pub holds-more : (x : A) → c < t .room z → countOf t b′ ≡ c + 1 → f b′ c ≡ x → SameIn b b′ (t .base z) (placeOf t z c) → SameIn b b′ (placeOf t z c + t .size) rooms
+      → Holds z t f b′ (xs ++ x ∷ [])
   holds-more x l n q low high = record {
-    used = used-more t b b′ (h .used) n l high;
+    used = used-more z t b b′ (h .used) n l high;
     is =
-        ap (rows (f b′) 0) n ∙ rows-more (t .base) (t .size) f local b b′ c x q low
+        ap (rows (f b′) 0) n ∙ rows-more (t .base z) (t .size) f local b b′ c x q low
         ∙ ap (λ (ys : List A). ys ++ x ∷ []) (h .is);
   }

@@ -3,7 +3,7 @@ use Prim.Native.Nat.{ℕ, zero, suc}
 use mathlib.Core.Path.{_≡_}
 use mathlib.Core.Bool.{Bool, true, false}
 use mathlib.Core.List.{List, [], _∷_, _++_}
-use Rattle.rules.specs.Words.{Statement, Tally, sameBlock, grown, join, joinCertificate, State}
+use Rattle.rules.specs.Words.{Statement, Certificate, Tally, sameBlock, ofBlock, grown, join, joinCertificate, State}
 use Rattle.rules.specs.Inputs.{withTables, withLog, noted}
 use Rattle.store.specs.Decode.{tallies, Left}
 use Rattle.store.specs.declared.Found.{Found}
@@ -19,8 +19,8 @@ firstFrom p i [] = Nothing
 firstFrom p i (x ∷ xs) = pick (p x) (At i) (firstFrom p (suc i) xs)
 
 -- the place of a block's tally
-abbrev pub blockAt : Tally → List Tally → Found
-blockAt t us = firstFrom (sameBlock t) 0 us
+abbrev pub blockAt : Certificate → List Tally → Found
+blockAt t us = firstFrom (ofBlock t) 0 us
 
 -- the record at place i, changed
 unfoldable pub changeAt : {A : Type 0} → (A → A) → ℕ → List A → List A
@@ -33,23 +33,27 @@ unfoldable pub growing : ℕ → ℕ → State → State
 unfolding withTables changeAt grown
 growing i m s = withTables (s .statements) (changeAt (λ t. grown t m) i (s .tallies)) s
 
--- a tally is opened
+-- a tally is put behind the others
 unfoldable pub opening : Tally → State → State
 unfolding withTables
 opening t s = withTables (s .statements) (s .tallies ++ t ∷ []) s
 
+-- a block of a view, with these voters
+abbrev pub withVoters : ℕ → Certificate → Certificate
+withVoters m t = record { view = t .view; height = t .height; name = t .name; mask = m }
+
 -- a mask joins its tally, "opened if missing"
-unfoldable pub joining : Tally → State → State
+unfoldable pub joining : Certificate → State → State
 unfolding withTables join
 joining t s = withTables (s .statements) (join t (s .tallies)) s
 
 -- that is done, and the tally stands at place i now
-pub record Joined (t : Tally) (s : State) (b′ : List ℕ) (i : ℕ) : Type 0 where
+pub record Joined (t : Certificate) (s : State) (b′ : List ℕ) (i : ℕ) : Type 0 where
   pub left : Left b′ (joining t s)
   pub place : At i ≡ blockAt t (tallies b′)
 
 -- the same, but that genesis "has no tally" in view 0
-unfoldable pub certifying : Tally → State → State
+unfoldable pub certifying : Certificate → State → State
 unfolding withTables joinCertificate
 certifying t s = withTables (s .statements) (joinCertificate t (s .tallies)) s
 

@@ -6,13 +6,13 @@ use mathlib.Core.List.{List, [], _∷_, _++_}
 use mathlib.Core.Option.{Option, none, some}
 use lib.ListN.{length, getD, replicate, drop}
 use lib.Dec.{leb, eqb}
-use Rattle.rules.specs.Limits.{lastView}
+use Rattle.rules.specs.Limits.{Size, small, lastView}
 use Rattle.rules.specs.Lists.{unbe, all, within}
-use Rattle.rules.specs.Words.{Statement, Tally, Phase, inView, waiting, stopped, full, split, clock, State}
+use Rattle.rules.specs.Words.{Statement, Certificate, Tally, Phase, inView, waiting, stopped, full, split, clock, State}
 use Rattle.rules.specs.WellFormed.{wellFormed}
 use Rattle.fields.specs.Places.{number, Bytes}
 use Rattle.fields.specs.Records.{Format, fields}
-use Rattle.store.specs.Layout.{headerFormat, statementFormat, tallyFormat, maskFormat, nameFormat, Table, statementTable, tallyTable, blameBase, logTable, storeLength, countOf, placeOf, unused}
+use Rattle.store.specs.Layout.{headerFormat, statementFormat, tallyFormat, maskFormat, nameFormat, Table, statementTable, tallyTable, blameBase, logTable, storeLength, sizeIn, countOf, placeOf, unused}
 
 abbrev pub nth : List ℕ → ℕ → ℕ
 nth vs i = getD vs i 0
@@ -67,6 +67,12 @@ abbrev pub statementValues : Statement → List ℕ
 statementValues x =
     x .view ∷ x .height ∷ x .name ∷ kindNumber (x .isNewView) ∷ x .author ∷ x .mask ∷ x .link ∷ voteNumber (x .voted) ∷ []
 
+abbrev pub certificateFrom : List ℕ → Certificate
+certificateFrom vs = record { view = nth vs 0; height = nth vs 1; name = nth vs 2; mask = nth vs 3 }
+
+abbrev pub certificateValues : Certificate → List ℕ
+certificateValues t = t .view ∷ t .height ∷ t .name ∷ t .mask ∷ []
+
 abbrev pub tallyFrom : List ℕ → Tally
 tallyFrom vs = record { view = nth vs 0; height = nth vs 1; name = nth vs 2; mask = nth vs 3 }
 
@@ -75,22 +81,31 @@ tallyValues t = t .view ∷ t .height ∷ t .name ∷ t .mask ∷ []
 
 -- record i of each table
 unfoldable pub statementAt : List ℕ → ℕ → Statement
-statementAt b i = statementFrom (fields b (placeOf statementTable i) statementFormat)
+statementAt b i = statementFrom (fields b (statementTable .base small + statementTable .size * i) statementFormat)
 
-unfoldable pub tallyAt : List ℕ → ℕ → Tally
-tallyAt b i = tallyFrom (fields b (placeOf tallyTable i) tallyFormat)
+unfoldable pub tallyFor : Size → List ℕ → ℕ → Tally
+tallyFor z b i = tallyFrom (fields b (placeOf tallyTable z i) tallyFormat)
 
-unfoldable pub blameAt : List ℕ → ℕ → ℕ
-blameAt b i = number b (blameBase + 2 * i) 2
+unfoldable pub blameFor : Size → List ℕ → ℕ → ℕ
+blameFor z b i = number b (blameBase z + 2 * i) 2
 
-unfoldable pub nameAt : List ℕ → ℕ → ℕ
-nameAt b i = number b (placeOf logTable i) 32
+unfoldable pub nameFor : Size → List ℕ → ℕ → ℕ
+nameFor z b i = number b (placeOf logTable z i) 32
+
+abbrev pub tallyAt : List ℕ → ℕ → Tally
+tallyAt b i = tallyFor (sizeIn b) b i
+
+abbrev pub blameAt : List ℕ → ℕ → ℕ
+blameAt b i = blameFor (sizeIn b) b i
+
+abbrev pub nameAt : List ℕ → ℕ → ℕ
+nameAt b i = nameFor (sizeIn b) b i
 
 unfoldable pub kindAt : List ℕ → ℕ → ℕ
-kindAt b i = number b (placeOf statementTable i + 40) 1
+kindAt b i = number b (placeOf statementTable small i + 40) 1
 
 unfoldable pub voteAt : List ℕ → ℕ → ℕ
-voteAt b i = number b (placeOf statementTable i + 76) 4
+voteAt b i = number b (placeOf statementTable small i + 76) 4
 
 -- n records from record i on
 unfoldable pub rows : {A : Type 0} → (ℕ → A) → ℕ → ℕ → List A
@@ -104,22 +119,25 @@ unfolding rows statementAt
 statements b = rows (statementAt b) 0 (countOf statementTable b)
 
 unfoldable pub tallies : List ℕ → List Tally
-unfolding rows tallyAt
+unfolding rows tallyFor
 tallies b = rows (tallyAt b) 0 (countOf tallyTable b)
 
 -- nobody blames view 0
-unfoldable pub blames : List ℕ → List ℕ
-unfolding rows blameAt
-blames b = 0 ∷ rows (blameAt b) 0 lastView
+unfoldable pub blamesFor : Size → List ℕ → List ℕ
+unfolding rows blameFor lastView
+blamesFor z b = 0 ∷ rows (blameFor z b) 0 (lastView z)
+
+abbrev pub blames : List ℕ → List ℕ
+blames b = blamesFor (sizeIn b) b
 
 unfoldable pub names : List ℕ → List ℕ
-unfolding rows nameAt
+unfolding rows nameFor
 names b = rows (nameAt b) 0 (countOf logTable b)
 
-unfoldable pub stateFrom : List ℕ → List Statement → List Tally → List ℕ → List ℕ → State
-stateFrom h xs ts ms l =
+unfoldable pub stateFrom : Size → List ℕ → List Statement → List Tally → List ℕ → List ℕ → State
+stateFrom z h xs ts ms l =
     record {
-      settings = record { n = nth h 1; D = nth h 2; own = nth h 3 };
+      settings = record { n = nth h 1; D = nth h 2; own = nth h 3; size = z };
       phase = phaseOf (nth h 0);
       view = nth h 4;
       entry = nth h 5;
@@ -132,12 +150,12 @@ stateFrom h xs ts ms l =
     }
 
 unfoldable pub stateOf : List ℕ → State
-unfolding stateFrom statements tallies blames names
-stateOf b = stateFrom (fields b 0 headerFormat) (statements b) (tallies b) (blames b) (names b)
+unfolding stateFrom statements tallies blamesFor names sizeIn
+stateOf b = stateFrom (sizeIn b) (fields b 0 headerFormat) (statements b) (tallies b) (blames b) (names b)
 
 -- a table's count is in range, and its unused records are zero
-unfoldable pub tableFits : Table → List ℕ → Bool
-tableFits t b = leb (countOf t b) (t .room) && eqb (unused t b) 0
+unfoldable pub tableFits : Size → Table → List ℕ → Bool
+tableFits z t b = leb (countOf t b) (t .room z) && eqb (unused z t b) 0
 
 unfoldable pub kinds : List ℕ → List ℕ
 unfolding rows kindAt
@@ -145,9 +163,10 @@ kinds b = rows (kindAt b) 0 (countOf statementTable b)
 
 -- the form alone: the exact length, counts in range, unused records zero, kinds 1 and 2
 unfoldable pub hasForm : List ℕ → Bool
-unfolding tableFits all within kinds
+unfolding tableFits all within kinds sizeIn
 hasForm b =
-    eqb (length b) storeLength && tableFits statementTable b && tableFits tallyTable b && tableFits logTable b && all (within 1 2) (kinds b)
+    let z = sizeIn b in
+    eqb (length b) (storeLength z) && tableFits z statementTable b && tableFits z tallyTable b && tableFits z logTable b && all (within 1 2) (kinds b)
 
 -- "store not well formed": none
 unfoldable pub decode : List ℕ → Option State
@@ -168,9 +187,9 @@ flat e [] = []
 flat e (x ∷ xs) = e x ++ flat e xs
 
 -- a table's records, then zeros
-unfoldable pub tableOf : {A : Type 0} → Table → (A → List ℕ) → List A → List ℕ
+unfoldable pub tableOf : {A : Type 0} → Size → Table → (A → List ℕ) → List A → List ℕ
 unfolding flat
-tableOf t e xs = flat e xs ++ replicate (t .size * t .room - t .size * length xs) 0
+tableOf z t e xs = flat e xs ++ replicate (t .size * t .room z - t .size * length xs) 0
 
 unfoldable pub headerValues : State → List ℕ
 headerValues s =
@@ -191,7 +210,7 @@ unfoldable pub encode : State → List ℕ
 unfolding bytesOf headerValues tableOf flat
 encode s =
     bytesOf headerFormat (headerValues s)
-    ++ tableOf statementTable (λ x. bytesOf statementFormat (statementValues x)) (s .statements)
-    ++ tableOf tallyTable (λ t. bytesOf tallyFormat (tallyValues t)) (s .tallies)
+    ++ tableOf (s .settings .size) statementTable (λ x. bytesOf statementFormat (statementValues x)) (s .statements)
+    ++ tableOf (s .settings .size) tallyTable (λ t. bytesOf tallyFormat (tallyValues t)) (s .tallies)
     ++ flat (λ m. bytesOf maskFormat (m ∷ [])) (drop 1 (s .blames))
-    ++ tableOf logTable (λ b. bytesOf nameFormat (b ∷ [])) (s .log)
+    ++ tableOf (s .settings .size) logTable (λ b. bytesOf nameFormat (b ∷ [])) (s .log)

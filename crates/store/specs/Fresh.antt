@@ -6,7 +6,7 @@ use lib.ListN.{length}
 use lib.Dec.{eqb}
 use Rattle.rules.specs.Sizes.{goodSettings}
 use Rattle.rules.specs.Words.{fresh}
-use Rattle.store.specs.Layout.{storeLength}
+use Rattle.store.specs.Layout.{storeLength, sizeIn}
 use Rattle.store.specs.Decode.{encode}
 
 -- the result that a host gets, and the bytes left in the store
@@ -19,11 +19,11 @@ answer r b = record { result = r; store = b }
 
 -- "a fresh store: 1, then 10"; a refusal changes nothing, and on 0 the store is the bytes of the fresh state
 unfoldable pub freshly : List ℕ → ℕ → ℕ → ℕ → Answer
-unfolding answer goodSettings encode fresh
+unfolding answer goodSettings encode fresh sizeIn
 freshly b n d own =
-    elim (eqb (length b) storeLength) [
+    elim (eqb (length b) (storeLength (sizeIn b))) [
       | false ↦ answer (1 * 2 ^ 32) b
       | true ↦
-          elim (goodSettings (record { n = n; D = d; own = own }))
-          [ false ↦ answer (10 * 2 ^ 32) b | true ↦ answer 0 (encode (fresh (record { n = n; D = d; own = own }))) ]
+          elim (goodSettings (record { n = n; D = d; own = own; size = sizeIn b }))
+          [ false ↦ answer (10 * 2 ^ 32) b | true ↦ answer 0 (encode (fresh (record { n = n; D = d; own = own; size = sizeIn b }))) ]
     ]

@@ -1,14 +1,22 @@
 -- What the code's tally, phase and station mean in the words of the rules, and in the numbers of the store's header. Assumes nothing.
-use Prim.Native.Nat.{ℕ}
+use mathlib.Core.Path.{_≡_}
+use Prim.Native.Nat.{ℕ, _<_}
 use mathlib.Core.List.{List, [], _∷_}
 use Rattle.fields.specs.Names.{nameOf}
+use Rattle.rules.specs.Limits.{maskBits}
+use Rattle.rules.specs.Sizes.{only}
 use Rattle.rules.specs.Words as words
+use Rattle.fields.specs.Records.{fields}
+use Rattle.settings.specs.Made.{sizeFrom}
+use Rattle.store.specs.Layout.{headerFormat, sizeIn}
 use Rattle.store.specs.Decode.{phaseNumber}
 use Rattle.store.specs.declared.Cause.{Cause}
 use Rattle.store.specs.declared.Cause.the-variants.{Full, Split, Clock}
 use Rattle.store.specs.declared.Phase.{Phase}
 use Rattle.store.specs.declared.Phase.the-variants.{InView, Waiting, Stopped}
 use Rattle.store.specs.declared.Tally.{Tally}
+use Rattle.store.specs.declared.Voters.{Voters}
+use Rattle.store.specs.declared.Voters.the-variants.{One, Mask}
 use Rattle.store.specs.declared.Station.{Station}
 
 -- why a station stopped
@@ -23,9 +31,19 @@ courseOf InView = words.inView
 courseOf (Waiting q) = words.waiting q
 courseOf (Stopped c) = words.stopped (causeOf c)
 
+-- a record of the table
 unfoldable pub tallyOf : Tally → words.Tally
 unfolding nameOf
 tallyOf t = record { view = t .view; height = t .height; name = nameOf (t .name); mask = t .mask }
+
+-- who joins a tally, as a mask; one voter is a station that a mask has a bit for
+abbrev pub votersOf : Voters → ℕ
+votersOf (One i) = only i
+votersOf (Mask m) = m
+
+abbrev pub Numbered : Voters → Type 0
+Numbered (One i) = i < maskBits
+Numbered (Mask m) = Unit {0}
 
 -- the numbers of a station, as the header has them
 unfoldable pub headerOf : Station → List ℕ
@@ -34,3 +52,8 @@ headerOf s =
     phaseNumber (courseOf (s .phase)) ∷ s .settings .n ∷ s .settings .delay ∷ s .settings .own ∷ s .view ∷ s .entry ∷ s .clock
     ∷ s .lock .view ∷ s .lock .height ∷ nameOf (s .lock .name) ∷ s .lock .mask
     ∷ s .statements ∷ s .tallies ∷ s .logged ∷ []
+
+-- a station is what stands in a store's header, with the limits of the store's length
+pub record Loads (s : Station) (b : List ℕ) : Type 0 where
+  pub header : headerOf s ≡ fields b 0 headerFormat
+  pub size : sizeFrom (s .settings .size) ≡ sizeIn b

@@ -1,33 +1,38 @@
-// The lent store: one byte slice of one exact length, the bytes of a well-formed state in one way only.
+// The lent store: one byte slice whose exact length tells its limits, the bytes of a well-formed state in one way only.
 ghost use mathlib.Core.Path.{_≡_};
-ghost use Prim.Native.Nat.{_+_, _*_, _^_, _≤_, _<_};
+ghost use Prim.Native.Nat.{_+_, _-_, _*_, _^_, _≤_, _<_};
 ghost use mathlib.Core.Bool.{_&&_};
 ghost use mathlib.Core.Option.{none};
 ghost use lib.ListN.{length};
 ghost use lib.Dec.{eqb};
-ghost use Rattle.rules.specs.Limits.{lastView, mostStatements, mostTallies, lastClock, maskBits};
+ghost use Rattle.rules.specs.Limits.{lastView, mostStatements, mostTallies, lastClock, leastOut, maskBits};
 ghost use Rattle.rules.specs.Sizes.{only};
-ghost use Rattle.rules.specs.Words.{sameStatement, sameBlock, grown, join, joinCertificate, fresh};
+ghost use Rattle.rules.specs.Words.{sameStatement, certificateOf, opened, ofBlock, grown, join, joinCertificate, fresh};
 ghost use Rattle.rules.specs.Inputs.{withPhase, withClock, entering, blamed};
 ghost use Rattle.fields.specs.Names.{nameOf};
 ghost use Rattle.fields.specs.Places.{number, put as written};
 ghost use Rattle.fields.specs.Records.{fields, puts};
-ghost use Rattle.settings.specs.Made.{settingsOf};
+ghost use Rattle.settings.specs.Made.{sizeFrom, settingsOf};
 ghost use Rattle.wire.specs.Meaning.{statementOf};
-ghost use Rattle.store.specs.Layout.{headerFormat, statementFormat, tallyFormat, statementTable, tallyTable, logTable, storeLength, countOf};
-ghost use Rattle.store.specs.Decode.{phaseOf, phaseNumber, kindNumber, statementValues, tallyFrom, tallyValues, statementAt, tallyAt, blameAt, nameAt, kindAt, voteAt, statements, tallies, stateOf, headerValues, Form, Left};
-ghost use Rattle.store.specs.Meaning.{courseOf, tallyOf, headerOf};
+ghost use Rattle.words.specs.Meaning.{blockOf};
+ghost use Rattle.store.specs.Layout.{headerFormat, statementFormat, certificateFormat, headerSize, statementSize, certificateSize, tallySize, statementTable, tallyTable, logTable, blameBase, storeLength, sizeIn, countOf, placeOf};
+ghost use Rattle.store.specs.Decode.{phaseOf, phaseNumber, kindNumber, statementValues, certificateFrom, certificateValues, statementAt, tallyAt, blameAt, nameAt, kindAt, voteAt, rows, statements, tallies, stateOf, headerValues, Form, Left};
+ghost use Rattle.store.specs.Meaning.{courseOf, tallyOf, votersOf, Numbered, headerOf, Loads};
 ghost use Rattle.store.specs.Fresh.{answer, freshly};
-ghost use Rattle.store.specs.Changes.{firstFrom, blockAt, growing, opening, joining, Joined, certifying, storing, noting, appending};
+ghost use Rattle.store.specs.Changes.{firstFrom, blockAt, withVoters, growing, opening, joining, Joined, certifying, storing, noting, appending};
 use fields::Name;
 use settings::Made;
 use settings::Settings;
+use settings::Size;
 use wire::Statement;
+use words::Certificate;
 
-// The exact length of a store.
-pub const LENGTH: usize = 25_220;
+// The exact length of a store, with the small limits and with the large ones.
+pub const LENGTH: usize = LOG + NAME_SIZE * Settings::MOST_STATEMENTS;
 
-// Where the header's numbers are; the lock is a tally's record.
+pub const LENGTH_LARGE: usize = LOG_LARGE + NAME_SIZE * Settings::MOST_STATEMENTS_LARGE;
+
+// Where the header's numbers are; the lock is a certificate.
 const PHASE: usize = 0;
 
 const N: usize = 4;
@@ -51,21 +56,27 @@ const TALLY_COUNT: usize = 64;
 const LOG_COUNT: usize = 66;
 
 // Where each table begins, and the size of its records.
-const STATEMENTS: usize = 68;
+pub const STATEMENTS: usize = LOG_COUNT + 2;
 
-const STATEMENT_SIZE: usize = 80;
+pub const STATEMENT_SIZE: usize = VOTE + 4;
 
-const TALLIES: usize = 10_308;
+const TALLIES: usize = STATEMENTS + STATEMENT_SIZE * Settings::MOST_STATEMENTS;
 
-const TALLY_SIZE: usize = 42;
+const TALLIES_LARGE: usize = STATEMENTS + STATEMENT_SIZE * Settings::MOST_STATEMENTS_LARGE;
 
-const BLAMES: usize = 21_060;
+pub const TALLY_SIZE: usize = VOTERS + 2;
+
+const BLAMES: usize = TALLIES + TALLY_SIZE * Settings::MOST_TALLIES;
+
+const BLAMES_LARGE: usize = TALLIES_LARGE + TALLY_SIZE * Settings::MOST_TALLIES_LARGE;
 
 const BLAME_SIZE: usize = 2;
 
-const LOG: usize = 21_124;
+const LOG: usize = BLAMES + BLAME_SIZE * (Settings::LAST_VIEW as usize);
 
-const NAME_SIZE: usize = 32;
+const LOG_LARGE: usize = BLAMES_LARGE + BLAME_SIZE * (Settings::LAST_VIEW_LARGE as usize);
+
+pub const NAME_SIZE: usize = 32;
 
 // Where the numbers of a record are: of a block, a tally's last, a statement's last.
 const VIEW: usize = 0;
@@ -100,12 +111,18 @@ pub enum Phase {
     Stopped(Cause),
 }
 
-// A block of a view, with the mask of its voters.
+// A record of the table of tallies: a block of a view, with the mask of its voters.
 pub struct Tally {
     pub view: u32,
     pub height: u32,
     pub name: Name,
     pub mask: u16,
+}
+
+// Who joins a tally: one voter, or the mask of several.
+pub enum Voters {
+    One(u64),
+    Mask(u16),
 }
 
 // What stands in the store's header: all of a station but its tables.
@@ -115,7 +132,7 @@ pub struct Station {
     pub view: u32,
     pub entry: u32,
     pub clock: u32,
-    pub lock: Tally,
+    pub lock: Certificate,
     pub statements: usize,
     pub tallies: usize,
     pub logged: usize,
@@ -125,6 +142,113 @@ pub struct Station {
 pub enum Found {
     At(usize),
     Nothing,
+}
+
+// The limits that a store is made for: its length says which.
+pub fn size_in(store: &[u8]) -> Size
+    ensures { λ r. ⌜ sizeFrom r ≡ sizeIn (now (store .entry)) ⌝ }
+{
+    if store.len() == LENGTH_LARGE {
+        return Size::Large;
+    }
+    Size::Small
+}
+
+// Whether a store is of its exact length.
+pub fn is_whole(store: &[u8]) -> bool
+    ensures { λ r. ⌜ r ≡ eqb (length (now (store .entry))) (storeLength (sizeIn (now (store .entry)))) ⌝ }
+{
+    if store.len() == LENGTH_LARGE {
+        return true;
+    }
+    store.len() == LENGTH
+}
+
+// The last view, how many statements and tallies are stored at most, and how long the out buffer is at least, by a store's limits.
+pub fn last_view_in(store: &[u8]) -> u64
+    ensures { λ r. ⌜ r ≡ lastView (sizeIn (now (store .entry))) ⌝ }
+{
+    if store.len() == LENGTH_LARGE {
+        return Settings::LAST_VIEW_LARGE;
+    }
+    Settings::LAST_VIEW
+}
+
+pub fn most_statements_in(store: &[u8]) -> usize
+    ensures { λ r. ⌜ r ≡ mostStatements (sizeIn (now (store .entry))) ⌝ }
+{
+    if store.len() == LENGTH_LARGE {
+        return Settings::MOST_STATEMENTS_LARGE;
+    }
+    Settings::MOST_STATEMENTS
+}
+
+pub fn most_tallies_in(store: &[u8]) -> usize
+    ensures { λ r. ⌜ r ≡ mostTallies (sizeIn (now (store .entry))) ⌝ }
+{
+    if store.len() == LENGTH_LARGE {
+        return Settings::MOST_TALLIES_LARGE;
+    }
+    Settings::MOST_TALLIES
+}
+
+pub fn least_out_in(store: &[u8]) -> usize
+    ensures { λ r. ⌜ r ≡ leastOut (sizeIn (now (store .entry))) ⌝ }
+{
+    if store.len() == LENGTH_LARGE {
+        return Settings::LEAST_OUT_LARGE;
+    }
+    Settings::LEAST_OUT
+}
+
+// The place of tally i, of the blame mask of view i + 1, of the name logged at height i + 1.
+pub fn tally_place(store: &[u8], i: usize) -> usize
+    requires { ⌜ (length (now store) ≡ storeLength (sizeIn (now store))) × (i < mostTallies (sizeIn (now store))) ⌝ }
+    ensures { λ r. ⌜ (r ≡ placeOf tallyTable (sizeIn (now (store .entry))) i) × (r + tallySize ≤ length (now (store .entry))) ⌝ }
+{
+    tallies_in(store) + TALLY_SIZE * i
+}
+
+pub fn blame_place(store: &[u8], i: usize) -> usize
+    requires { ⌜ (length (now store) ≡ storeLength (sizeIn (now store))) × (i < lastView (sizeIn (now store))) ⌝ }
+    ensures { λ r. ⌜ (r ≡ blameBase (sizeIn (now (store .entry))) + 2 * i) × (r + 2 ≤ length (now (store .entry))) ⌝ }
+{
+    blames_in(store) + BLAME_SIZE * i
+}
+
+pub fn name_place(store: &[u8], i: usize) -> usize
+    requires { ⌜ (length (now store) ≡ storeLength (sizeIn (now store))) × (i < mostStatements (sizeIn (now store))) ⌝ }
+    ensures { λ r. ⌜ (r ≡ placeOf logTable (sizeIn (now (store .entry))) i) × (r + 32 ≤ length (now (store .entry))) ⌝ }
+{
+    log_in(store) + NAME_SIZE * i
+}
+
+// Where the tallies, the blame masks and the log begin.
+pub fn tallies_in(store: &[u8]) -> usize
+    ensures { λ r. ⌜ r ≡ (tallyTable .base) (sizeIn (now (store .entry))) ⌝ }
+{
+    if store.len() == LENGTH_LARGE {
+        return TALLIES_LARGE;
+    }
+    TALLIES
+}
+
+pub fn blames_in(store: &[u8]) -> usize
+    ensures { λ r. ⌜ r ≡ blameBase (sizeIn (now (store .entry))) ⌝ }
+{
+    if store.len() == LENGTH_LARGE {
+        return BLAMES_LARGE;
+    }
+    BLAMES
+}
+
+pub fn log_in(store: &[u8]) -> usize
+    ensures { λ r. ⌜ r ≡ (logTable .base) (sizeIn (now (store .entry))) ⌝ }
+{
+    if store.len() == LENGTH_LARGE {
+        return LOG_LARGE;
+    }
+    LOG
 }
 
 // The number of four bytes.
@@ -164,16 +288,16 @@ fn phase_of(number: u32) -> Phase
     }
 }
 
-// The tally whose record is at a place.
-fn get_tally(store: &[u8], at: usize) -> Tally
-    requires { ⌜ at + 42 ≤ length (now store) ⌝ }
-    ensures { λ r. ⌜ tallyOf r ≡ tallyFrom (fields (now (store .entry)) at tallyFormat) ⌝ }
+// The certificate whose numbers begin at a place.
+fn get_certificate(store: &[u8], at: usize) -> Certificate
+    requires { ⌜ at + certificateSize ≤ length (now store) ⌝ }
+    ensures { λ r. ⌜ blockOf r ≡ certificateFrom (fields (now (store .entry)) at certificateFormat) ⌝ }
 {
     let view = get_four(store, at + VIEW);
     let height = get_four(store, at + HEIGHT);
     let name = fields::get_name(store, at + NAME);
     let mask = get_two(store, at + VOTERS);
-    Tally {
+    Certificate {
         view,
         height,
         name,
@@ -183,15 +307,22 @@ fn get_tally(store: &[u8], at: usize) -> Tally
 
 // Tally i.
 pub fn tally_at(store: &[u8], i: usize) -> Tally
-    requires { ⌜ (length (now store) ≡ storeLength) × (i < mostTallies) ⌝ }
+    requires { ⌜ (length (now store) ≡ storeLength (sizeIn (now store))) × (i < mostTallies (sizeIn (now store))) ⌝ }
     ensures { λ r. ⌜ tallyOf r ≡ tallyAt (now (store .entry)) i ⌝ }
 {
-    get_tally(store, TALLIES + TALLY_SIZE * i)
+    let block = get_certificate(store, tally_place(store, i));
+    let name = block.name;
+    Tally {
+        view: block.view,
+        height: block.height,
+        name,
+        mask: block.mask,
+    }
 }
 
 // The kind of statement i, as on the wire: 1 new-view, 2 propose.
 pub fn kind_at(store: &[u8], i: usize) -> u8
-    requires { ⌜ (length (now store) ≡ storeLength) × (i < mostStatements) ⌝ }
+    requires { ⌜ (length (now store) ≡ storeLength (sizeIn (now store))) × (i < mostStatements (sizeIn (now store))) ⌝ }
     ensures { λ r. ⌜ r ≡ kindAt (now (store .entry)) i ⌝ }
 {
     fields::get(store, STATEMENTS + STATEMENT_SIZE * i + KIND, 1) as u8
@@ -199,7 +330,7 @@ pub fn kind_at(store: &[u8], i: usize) -> u8
 
 // Statement i; whatever is no new-view counts as a propose.
 pub fn statement_at(store: &[u8], i: usize) -> Statement
-    requires { ⌜ (length (now store) ≡ storeLength) × (i < mostStatements) ⌝ }
+    requires { ⌜ (length (now store) ≡ storeLength (sizeIn (now store))) × (i < mostStatements (sizeIn (now store))) ⌝ }
     ensures { λ r. ⌜ statementOf r (statementAt (now (store .entry)) i .voted) ≡ statementAt (now (store .entry)) i ⌝ }
 {
     let at = STATEMENTS + STATEMENT_SIZE * i;
@@ -223,7 +354,7 @@ pub fn statement_at(store: &[u8], i: usize) -> Statement
 
 // The height of statement i.
 pub fn height_at(store: &[u8], i: usize) -> u32
-    requires { ⌜ (length (now store) ≡ storeLength) × (i < mostStatements) ⌝ }
+    requires { ⌜ (length (now store) ≡ storeLength (sizeIn (now store))) × (i < mostStatements (sizeIn (now store))) ⌝ }
     ensures { λ r. ⌜ r ≡ statementAt (now (store .entry)) i .height ⌝ }
 {
     get_four(store, STATEMENTS + STATEMENT_SIZE * i + HEIGHT)
@@ -231,7 +362,7 @@ pub fn height_at(store: &[u8], i: usize) -> u32
 
 // The number of the own vote for statement i: 0, or one more than its clock.
 pub fn voted_at(store: &[u8], i: usize) -> u32
-    requires { ⌜ (length (now store) ≡ storeLength) × (i < mostStatements) ⌝ }
+    requires { ⌜ (length (now store) ≡ storeLength (sizeIn (now store))) × (i < mostStatements (sizeIn (now store))) ⌝ }
     ensures { λ r. ⌜ r ≡ voteAt (now (store .entry)) i ⌝ }
 {
     get_four(store, STATEMENTS + STATEMENT_SIZE * i + VOTE)
@@ -239,18 +370,18 @@ pub fn voted_at(store: &[u8], i: usize) -> u32
 
 // The blame mask of view i + 1.
 pub fn blame_at(store: &[u8], i: usize) -> u16
-    requires { ⌜ (length (now store) ≡ storeLength) × (i < lastView) ⌝ }
+    requires { ⌜ (length (now store) ≡ storeLength (sizeIn (now store))) × (i < lastView (sizeIn (now store))) ⌝ }
     ensures { λ r. ⌜ r ≡ blameAt (now (store .entry)) i ⌝ }
 {
-    get_two(store, BLAMES + BLAME_SIZE * i)
+    get_two(store, blame_place(store, i))
 }
 
 // The name logged at height i + 1.
 pub fn name_at(store: &[u8], i: usize) -> Name
-    requires { ⌜ (length (now store) ≡ storeLength) × (i < mostStatements) ⌝ }
+    requires { ⌜ (length (now store) ≡ storeLength (sizeIn (now store))) × (i < mostStatements (sizeIn (now store))) ⌝ }
     ensures { λ r. ⌜ nameOf r ≡ nameAt (now (store .entry)) i ⌝ }
 {
-    fields::get_name(store, LOG + NAME_SIZE * i)
+    fields::get_name(store, name_place(store, i))
 }
 
 // The phase's number.
@@ -269,6 +400,32 @@ fn phase_number(phase: Phase) -> u64
 }
 
 impl Tally {
+    // A block's tally before anybody joins it.
+    pub fn empty(block: Certificate) -> Tally
+        ensures { λ r. ⌜ tallyOf r ≡ opened (withVoters 0 (blockOf block)) ⌝ }
+    {
+        let name = block.name;
+        Tally {
+            view: block.view,
+            height: block.height,
+            name,
+            mask: 0,
+        }
+    }
+
+    // What the tally certifies.
+    pub fn certificate(self) -> Certificate
+        ensures { λ r. ⌜ blockOf r ≡ certificateOf (tallyOf self) ⌝ }
+    {
+        let name = self.name;
+        Certificate {
+            view: self.view,
+            height: self.height,
+            name,
+            mask: self.mask,
+        }
+    }
+
     // The tally with a voter's bit joined.
     pub fn with_voter(self, station: u64) -> Tally
         requires { ⌜ station < maskBits ⌝ }
@@ -284,6 +441,17 @@ impl Tally {
         let mut tally = self;
         tally.mask = tally.mask | mask;
         tally
+    }
+
+    // The tally with whoever joins it.
+    pub fn joined(self, voters: Voters) -> Tally
+        requires { ⌜ Numbered voters ⌝ }
+        ensures { λ r. ⌜ tallyOf r ≡ grown (tallyOf self) (votersOf voters) ⌝ }
+    {
+        match voters {
+            Voters::One(station) => self.with_voter(station),
+            Voters::Mask(mask) => self.grown(mask),
+        }
     }
 }
 
@@ -305,40 +473,37 @@ fn is_block(store: &[u8], at: usize, key: u64, name: Name) -> bool
     name.same(fields::get_name(store, at + NAME))
 }
 
-// Whether tally i is of the same block.
-pub fn is_tally(store: &[u8], i: usize, tally: Tally) -> bool
-    requires { ⌜ (length (now store) ≡ storeLength) × (i < mostTallies) ⌝ }
-    ensures { λ r. ⌜ r ≡ sameBlock (tallyOf tally) (tallyAt (now (store .entry)) i) ⌝ }
+// The place of the first tally of this block, from one place up to another. Where the tallies begin is asked once.
+pub fn seek_tally(store: &[u8], from: usize, end: usize, block: Certificate) -> Found
+    requires { ⌜ (length (now store) ≡ storeLength (sizeIn (now store))) × (end ≤ mostTallies (sizeIn (now store))) ⌝ }
+    ensures { λ r. ⌜ r ≡ firstFrom (ofBlock (blockOf block)) from (rows (tallyAt (now (store .entry))) from (end - from)) ⌝ }
 {
-    is_block(
-        store,
-        TALLIES + TALLY_SIZE * i,
-        key_of(tally.view, tally.height),
-        tally.name,
-    )
-}
-
-// The place of the first tally of the same block.
-pub fn find_tally(store: &[u8], tally: Tally) -> Found
-    requires { ⌜ Form (now store) ⌝ }
-    ensures { λ r. ⌜ r ≡ blockAt (tallyOf tally) (tallies (now (store .entry))) ⌝ }
-{
-    let count = get_count(store, TALLY_COUNT);
-    let mut i: usize = 0;
+    let base = tallies_in(store);
+    let key = key_of(block.view, block.height);
+    let mut i = from;
     loop {
-        if count <= i {
+        if end <= i {
             break Found::Nothing;
         }
-        if is_tally(store, i, tally) {
+        if is_block(store, base + TALLY_SIZE * i, key, block.name) {
             break Found::At(i);
         }
         i += 1;
     }
 }
 
+// The place of the first tally of this block.
+pub fn find_tally(store: &[u8], block: Certificate) -> Found
+    requires { ⌜ Form (now store) ⌝ }
+    ensures { λ r. ⌜ r ≡ blockAt (blockOf block) (tallies (now (store .entry))) ⌝ }
+{
+    let count = get_count(store, TALLY_COUNT);
+    seek_tally(store, 0, count, block)
+}
+
 // Whether statement i is the same as this one, but for the mask.
 pub fn is_statement(store: &[u8], i: usize, statement: Statement) -> bool
-    requires { ⌜ (length (now store) ≡ storeLength) × (i < mostStatements) ⌝ }
+    requires { ⌜ (length (now store) ≡ storeLength (sizeIn (now store))) × (i < mostStatements (sizeIn (now store))) ⌝ }
     ensures { λ r. ⌜ r ≡ sameStatement (statementOf statement none) (statementAt (now (store .entry)) i) ⌝ }
 {
     let key = key_of(statement.view, statement.height);
@@ -379,13 +544,19 @@ fn put_block(store: &mut [u8], at: usize, view: u32, height: u32, name: Name)
     fields::put_name(store, at + NAME, name);
 }
 
-// Writes a tally's record.
-fn put_tally(store: &mut [u8], at: usize, tally: Tally)
-    requires { ⌜ at + 42 ≤ length (now store) ⌝ }
-    ensures { λ _. ⌜ now (store .exit) ≡ puts (now (store .entry)) at tallyFormat (tallyValues (tallyOf tally)) ⌝ }
+// Writes a certificate's numbers.
+fn put_certificate(store: &mut [u8], at: usize, certificate: Certificate)
+    requires { ⌜ at + certificateSize ≤ length (now store) ⌝ }
+    ensures { λ _. ⌜ now (store .exit) ≡ puts (now (store .entry)) at certificateFormat (certificateValues (blockOf certificate)) ⌝ }
 {
-    put_block(store, at, tally.view, tally.height, tally.name);
-    fields::put(store, at + VOTERS, 2, tally.mask as u64);
+    put_block(
+        store,
+        at,
+        certificate.view,
+        certificate.height,
+        certificate.name,
+    );
+    fields::put(store, at + VOTERS, 2, certificate.mask as u64);
 }
 
 // A kind's number, as on the wire.
@@ -397,7 +568,7 @@ fn kind_number(is_new_view: bool) -> u64
 
 // Writes a statement's record, not voted for.
 fn put_statement(store: &mut [u8], at: usize, statement: Statement)
-    requires { ⌜ at + 80 ≤ length (now store) ⌝ }
+    requires { ⌜ at + statementSize ≤ length (now store) ⌝ }
     ensures { λ _. ⌜ now (store .exit) ≡ puts (now (store .entry)) at statementFormat (statementValues (statementOf statement none)) ⌝ }
 {
     let kind = kind_number(statement.is_new_view);
@@ -411,7 +582,7 @@ fn put_statement(store: &mut [u8], at: usize, statement: Statement)
 
 // A statement is stored behind the others.
 pub fn append_statement(store: &mut [u8], statement: Statement)
-    requires { ⌜ (Form (now store)) × (countOf statementTable (now store) < mostStatements) ⌝ }
+    requires { ⌜ (Form (now store)) × (countOf statementTable (now store) < mostStatements (sizeIn (now store))) ⌝ }
     ensures { λ _. ⌜ Left (now (store .exit)) (storing (statementOf statement none) (stateOf (now (store .entry)))) ⌝ }
 {
     let count = get_count(store, STATEMENT_COUNT);
@@ -434,56 +605,59 @@ pub fn note_vote(store: &mut [u8], i: usize, clock: u32)
 
 // A tally is opened behind the others, at the place given back.
 pub fn open_tally(store: &mut [u8], tally: Tally) -> usize
-    requires { ⌜ (Form (now store)) × (countOf tallyTable (now store) < mostTallies) ⌝ }
+    requires { ⌜ (Form (now store)) × (countOf tallyTable (now store) < mostTallies (sizeIn (now store))) ⌝ }
     ensures { λ r. ⌜ (r ≡ countOf tallyTable (now (store .entry))) × (Left (now (store .exit)) (opening (tallyOf tally) (stateOf (now (store .entry))))) ⌝ }
 {
     let count = get_count(store, TALLY_COUNT);
-    put_tally(store, TALLIES + TALLY_SIZE * count, tally);
+    put_certificate(store, tally_place(store, count), tally.certificate());
     fields::put(store, TALLY_COUNT, 2, (count + 1) as u64);
     count
 }
 
-// A mask joins tally i.
-pub fn join_at(store: &mut [u8], i: usize, mask: u16)
+// Tally i has its new mask.
+fn put_voters(store: &mut [u8], i: usize, mask: u16)
     requires { ⌜ (Form (now store)) × (i < countOf tallyTable (now store)) ⌝ }
-    ensures { λ _. ⌜ Left (now (store .exit)) (growing i mask (stateOf (now (store .entry)))) ⌝ }
+    ensures { λ _. ⌜ (now (store .exit) ≡ written (now (store .entry)) (placeOf tallyTable (sizeIn (now (store .entry))) i + 40) 2 mask) × (mask < 256 ^ 2) ⌝ }
 {
-    let tally = tally_at(store, i).grown(mask);
-    fields::put(
-        store,
-        TALLIES + TALLY_SIZE * i + VOTERS,
-        2,
-        tally.mask as u64,
-    );
+    fields::put(store, tally_place(store, i) + VOTERS, 2, mask as u64);
 }
 
-// A tally's mask joins the tally of its block, opened if missing, as a search found it; gives back where it now stands.
-pub fn join_found(store: &mut [u8], tally: Tally, place: Found) -> usize
-    requires { ⌜ (Form (now store)) × (length (join (tallyOf tally) (tallies (now store))) ≤ mostTallies) × (place ≡ blockAt (tallyOf tally) (tallies (now store))) ⌝ }
-    ensures { λ r. ⌜ Joined (tallyOf tally) (stateOf (now (store .entry))) (now (store .exit)) r ⌝ }
+// Whoever joins tally i.
+fn join_at(store: &mut [u8], i: usize, voters: Voters)
+    requires { ⌜ (Form (now store)) × (i < countOf tallyTable (now store)) × (Numbered voters) ⌝ }
+    ensures { λ _. ⌜ Left (now (store .exit)) (growing i (votersOf voters) (stateOf (now (store .entry)))) ⌝ }
+{
+    let tally = tally_at(store, i).joined(voters);
+    put_voters(store, i, tally.mask);
+}
+
+// Whoever joins the tally of a block, opened if missing, as a search found it; gives back where it now stands.
+pub fn join_found(store: &mut [u8], block: Certificate, place: Found, voters: Voters) -> usize
+    requires { ⌜ (Form (now store)) × (length (join (withVoters (votersOf voters) (blockOf block)) (tallies (now store))) ≤ mostTallies (sizeIn (now store))) × (place ≡ blockAt (blockOf block) (tallies (now store))) × (Numbered voters) ⌝ }
+    ensures { λ r. ⌜ Joined (withVoters (votersOf voters) (blockOf block)) (stateOf (now (store .entry))) (now (store .exit)) r ⌝ }
 {
     match place {
         Found::At(i) => {
-            join_at(store, i, tally.mask);
+            join_at(store, i, voters);
             i
         }
-        Found::Nothing => open_tally(store, tally),
+        Found::Nothing => open_tally(store, Tally::empty(block).joined(voters)),
     }
 }
 
-// The same, with the search.
-pub fn join_tally(store: &mut [u8], tally: Tally)
-    requires { ⌜ (Form (now store)) × (length (join (tallyOf tally) (tallies (now store))) ≤ mostTallies) ⌝ }
-    ensures { λ _. ⌜ Left (now (store .exit)) (joining (tallyOf tally) (stateOf (now (store .entry)))) ⌝ }
+// A certificate's mask joins the tally of its block, with the search.
+fn join_tally(store: &mut [u8], certificate: Certificate)
+    requires { ⌜ (Form (now store)) × (length (join (blockOf certificate) (tallies (now store))) ≤ mostTallies (sizeIn (now store))) ⌝ }
+    ensures { λ _. ⌜ Left (now (store .exit)) (joining (blockOf certificate) (stateOf (now (store .entry)))) ⌝ }
 {
-    let place = find_tally(store, tally);
-    join_found(store, tally, place);
+    let place = find_tally(store, certificate);
+    join_found(store, certificate, place, Voters::Mask(certificate.mask));
 }
 
-// The same of a certificate: genesis has no tally in view 0.
-pub fn join_certificate(store: &mut [u8], certificate: Tally)
-    requires { ⌜ (Form (now store)) × (length (joinCertificate (tallyOf certificate) (tallies (now store))) ≤ mostTallies) ⌝ }
-    ensures { λ _. ⌜ Left (now (store .exit)) (certifying (tallyOf certificate) (stateOf (now (store .entry)))) ⌝ }
+// The same, but that genesis has no tally in view 0.
+pub fn join_certificate(store: &mut [u8], certificate: Certificate)
+    requires { ⌜ (Form (now store)) × (length (joinCertificate (blockOf certificate) (tallies (now store))) ≤ mostTallies (sizeIn (now store))) ⌝ }
+    ensures { λ _. ⌜ Left (now (store .exit)) (certifying (blockOf certificate) (stateOf (now (store .entry)))) ⌝ }
 {
     if certificate.view != 0 {
         join_tally(store, certificate);
@@ -492,21 +666,21 @@ pub fn join_certificate(store: &mut [u8], certificate: Tally)
 
 // A mask joins the blame mask of a view.
 pub fn join_blame(store: &mut [u8], view: u32, mask: u16)
-    requires { ⌜ (Form (now store)) × (1 ≤ view) × (view ≤ lastView) ⌝ }
+    requires { ⌜ (Form (now store)) × (1 ≤ view) × (view ≤ lastView (sizeIn (now store))) ⌝ }
     ensures { λ _. ⌜ Left (now (store .exit)) (blamed view mask (stateOf (now (store .entry)))) ⌝ }
 {
     let i = view as usize - 1;
     let joined = blame_at(store, i) | mask;
-    fields::put(store, BLAMES + BLAME_SIZE * i, 2, joined as u64);
+    fields::put(store, blame_place(store, i), 2, joined as u64);
 }
 
 // A name is logged above the others.
 pub fn append_name(store: &mut [u8], name: Name)
-    requires { ⌜ (Form (now store)) × (countOf logTable (now store) < mostStatements) ⌝ }
+    requires { ⌜ (Form (now store)) × (countOf logTable (now store) < mostStatements (sizeIn (now store))) ⌝ }
     ensures { λ _. ⌜ Left (now (store .exit)) (appending (nameOf name) (stateOf (now (store .entry)))) ⌝ }
 {
     let count = get_count(store, LOG_COUNT);
-    fields::put_name(store, LOG + NAME_SIZE * count, name);
+    fields::put_name(store, name_place(store, count), name);
     fields::put(store, LOG_COUNT, 2, (count + 1) as u64);
 }
 
@@ -528,7 +702,7 @@ pub fn set_clock(store: &mut [u8], clock: u32)
 
 // Writes the settings to the header.
 fn put_settings(store: &mut [u8], settings: Settings)
-    requires { ⌜ length (now store) ≡ storeLength ⌝ }
+    requires { ⌜ headerSize ≤ length (now store) ⌝ }
     ensures { λ _. ⌜ now (store .exit) ≡ written (written (written (now (store .entry)) 4 1 (settings .n)) 5 2 (settings .delay)) 7 1 (settings .own) ⌝ }
 {
     fields::put(store, N, 1, settings.n);
@@ -538,7 +712,7 @@ fn put_settings(store: &mut [u8], settings: Settings)
 
 // Writes the counts to the header.
 fn put_counts(store: &mut [u8], statements: usize, tallies: usize, logged: usize)
-    requires { ⌜ length (now store) ≡ storeLength ⌝ }
+    requires { ⌜ headerSize ≤ length (now store) ⌝ }
     ensures { λ _. ⌜ now (store .exit) ≡ written (written (written (now (store .entry)) 62 2 statements) 64 2 tallies) 66 2 logged ⌝ }
 {
     fields::put(store, STATEMENT_COUNT, 2, statements as u64);
@@ -549,9 +723,10 @@ fn put_counts(store: &mut [u8], statements: usize, tallies: usize, logged: usize
 impl Station {
     // The station of the header's numbers.
     pub fn load(store: &[u8]) -> Station
-        requires { ⌜ length (now store) ≡ storeLength ⌝ }
-        ensures { λ r. ⌜ headerOf r ≡ fields (now (store .entry)) 0 headerFormat ⌝ }
+        requires { ⌜ headerSize ≤ length (now store) ⌝ }
+        ensures { λ r. ⌜ Loads r (now (store .entry)) ⌝ }
     {
+        let size = size_in(store);
         let phase = phase_of(get_four(store, PHASE));
         let n = fields::get(store, N, 1);
         let delay = fields::get(store, DELAY, 2);
@@ -559,12 +734,17 @@ impl Station {
         let view = get_four(store, CURRENT);
         let entry = get_four(store, ENTRY);
         let clock = get_four(store, CLOCK);
-        let lock = get_tally(store, LOCK);
+        let lock = get_certificate(store, LOCK);
         let statements = get_count(store, STATEMENT_COUNT);
         let tallies = get_count(store, TALLY_COUNT);
         let logged = get_count(store, LOG_COUNT);
         Station {
-            settings: Settings { n, delay, own },
+            settings: Settings {
+                n,
+                delay,
+                own,
+                size,
+            },
             phase,
             view,
             entry,
@@ -577,7 +757,7 @@ impl Station {
     }
     // Writes the header's numbers back.
     pub fn save(self, store: &mut [u8])
-        requires { ⌜ length (now store) ≡ storeLength ⌝ }
+        requires { ⌜ headerSize ≤ length (now store) ⌝ }
         ensures { λ _. ⌜ now (store .exit) ≡ puts (now (store .entry)) 0 headerFormat (headerOf self) ⌝ }
     {
         let phase = self.phase;
@@ -586,15 +766,15 @@ impl Station {
         fields::put(store, CURRENT, 4, self.view as u64);
         fields::put(store, ENTRY, 4, self.entry as u64);
         fields::put(store, CLOCK, 4, self.clock as u64);
-        put_tally(store, LOCK, self.lock);
+        put_certificate(store, LOCK, self.lock);
         put_counts(store, self.statements, self.tallies, self.logged);
     }
 }
 
 // A view is entered, with its lock.
-pub fn enter(store: &mut [u8], view: u32, lock: Tally)
+pub fn enter(store: &mut [u8], view: u32, lock: Certificate)
     requires { ⌜ Form (now store) ⌝ }
-    ensures { λ _. ⌜ Left (now (store .exit)) (entering view (tallyOf lock) (stateOf (now (store .entry)))) ⌝ }
+    ensures { λ _. ⌜ Left (now (store .exit)) (entering view (blockOf lock) (stateOf (now (store .entry)))) ⌝ }
 {
     let old = Station::load(store);
     let settings = old.settings;
@@ -616,12 +796,7 @@ pub fn enter(store: &mut [u8], view: u32, lock: Tally)
 fn starting(settings: Settings) -> Station
     ensures { λ r. ⌜ headerOf r ≡ headerValues (fresh (settingsOf settings)) ⌝ }
 {
-    let lock = Tally {
-        view: 0,
-        height: 0,
-        name: Name::zero(),
-        mask: 0,
-    };
+    let lock = Certificate::genesis();
     Station {
         settings,
         phase: Phase::InView,
@@ -639,13 +814,15 @@ fn starting(settings: Settings) -> Station
 pub fn fresh(store: &mut [u8], n: u64, d: u64, own: u64) -> u64
     ensures { λ r. ⌜ answer r (now (store .exit)) ≡ freshly (now (store .entry)) n d own ⌝ }
 {
-    if store.len() != LENGTH {
+    if !is_whole(store) {
         return 1 << 32;
     }
-    let Made::Good(settings) = Settings::new(n, d, own) else {
+    let size = size_in(store);
+    let Made::Good(settings) = Settings::new(n, d, own, size) else {
         return 10 << 32;
     };
-    fields::clear(store, 0, LENGTH);
+    let whole = store.len();
+    fields::clear(store, 0, whole);
     starting(settings).save(store);
     0
 }

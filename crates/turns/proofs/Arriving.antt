@@ -10,14 +10,13 @@ use lib.ListN.{length}
 use Rattle.rules.specs.Limits.{mostStatements}
 use Rattle.rules.specs.Messages.{Message, toAll, blameSet}
 use Rattle.rules.specs.Words.{Statement, message, State}
-use Rattle.rules.specs.Inputs.{saying, _▸_, quit, blamesOf, blameFull, entersNow, nextLock, entered, current, pair, inOrder, votingAll, arrive, enter}
+use Rattle.rules.specs.Inputs.{saying, _▸_, quit, blamesOf, blameFull, entersNow, nextLock, entering, entered, current, pair, inOrder, votingAll, arrive, enter}
 use Rattle.rules.proofs.Kept.{enters-at}
-use Rattle.fields.specs.Records.{fields}
 use Rattle.wire.specs.Meaning.{statementOf, Linked}
 use Rattle.wire.specs.declared.Statement as code
-use Rattle.store.specs.Layout.{headerFormat, statementTable, countOf}
+use Rattle.store.specs.Layout.{statementTable, sizeIn, countOf}
 use Rattle.store.specs.Decode.{rows, statementAt, statements, stateFrom, stateOf}
-use Rattle.store.specs.Meaning.{headerOf}
+use Rattle.store.specs.Meaning.{Loads}
 use Rattle.store.specs.declared.Station.{Station}
 use Rattle.store.proofs.Loaded.{loaded-view}
 use Rattle.store.proofs.Rows.{rows-length}
@@ -34,6 +33,7 @@ use Rattle.acts.specs.Answers.{Stands}
 use Rattle.acts.specs.Works.{Formed, Works}
 use Rattle.acts.proofs.Places.{place-sendable, place-message, sendable-linked}
 use Rattle.acts.proofs.Works.{formed-parts, left-formed, works-is}
+use Rattle.turns.proofs.Parts.{left-size}
 
 -- ---- by the rules' names
 
@@ -77,7 +77,7 @@ module _ {b : List ℕ} (k : Formed b) (i : ℕ) (x : code.Statement) (l : i < c
 
 -- ---- by the loaded numbers
 
-module _ {b : List ℕ} (k : Formed b) (s : Station) (e : headerOf s ≡ fields b 0 headerFormat) where
+module _ {b : List ℕ} (k : Formed b) (s : Station) (e : Loads s b) where
   abbrev S : State
   S = stateOf b
 
@@ -122,12 +122,16 @@ module _ {b : List ℕ} (k : Formed b) (s : Station) (e : headerOf s ≡ fields 
           (i .is ∙ ap (λ (v : ℕ). inOrder (ofView v (statements b))) view-is ∙ ap inOrder (sym (current-is S)))
           ∙ arrive-votes S (sym full-is ∙ not-full) (sym pair-is ∙ ap (pairIn (statementAt b)) q)) w
 
-  pub order-few : (order : List ℕ) (m : ℕ) → InOrder b (s .view) order m → m ≤ mostStatements
+  pub order-few : (order : List ℕ) (m : ℕ) → InOrder b (s .view) order m → m ≤ mostStatements (sizeIn b)
   unfolding stateOf stateFrom
   order-few order m i =
       omega (arith, rows-length (standing b order) 0 m, ap length (i .is), order-length (s .view) (statements b), formed-parts k .fewStatements)
 
 -- ---- then the view is entered
+
+pub entered-size : (b : List ℕ) {b′ o o′ : List ℕ} {at r : ℕ} → Works (entered (stateOf b)) o at b′ o′ r → sizeIn b′ ≡ sizeIn b
+unfolding entered saying entering stateOf stateFrom
+entered-size b w = left-size (w .left)
 
 module _ {b : List ℕ} (k : Formed b) (q : entersNow (stateOf b) ≡ true) where
   pub entered-formed : {b′ o o′ : List ℕ} {at r : ℕ} → Works (entered (stateOf b)) o at b′ o′ r → Formed b′

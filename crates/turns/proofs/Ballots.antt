@@ -8,6 +8,7 @@ use native.Mathlib.Omega.{arith}
 use native.Mathlib.Nat.{zero-add, sub-zero}
 use lib.ListN.{length, getD, length-map, List·getD-map}
 use Rattle.rules.specs.Lists.{alter}
+use Rattle.rules.specs.Sizes.{Settings}
 use Rattle.rules.specs.Messages.{outgoing}
 use Rattle.rules.specs.Words.{Statement, message, sameStatement, ownBlock, certificate, State}
 use Rattle.rules.specs.Inputs.{Work, saying, _▸_, withTables, belowLock, noted, votedFor, ballot, voting, votingAll}
@@ -15,7 +16,7 @@ use Rattle.rules.proofs.Tests.{by-bool}
 use Rattle.wire.specs.Meaning.{statementOf}
 use Rattle.wire.specs.declared.Statement as code
 use Rattle.outgoing.proofs.Writing.{says-length}
-use Rattle.store.specs.Layout.{statementTable, countOf}
+use Rattle.store.specs.Layout.{statementTable, sizeIn, countOf}
 use Rattle.store.specs.Decode.{rows, statementAt, statements, stateFrom, stateOf}
 use Rattle.store.proofs.Rows.{rows-length, rows-at, rows-from}
 use Rattle.search.specs.Orders.{standing, placeAt}
@@ -26,7 +27,7 @@ use Rattle.acts.specs.Works.{Formed, Works}
 use Rattle.acts.proofs.Places.{place-sendable}
 use Rattle.acts.proofs.Votes.{voting-below, voting-cast}
 use Rattle.acts.proofs.Works.{formed-parts, left-formed, ballot-bytes, works-none, works-is}
-use Rattle.turns.proofs.Parts.{works-then, left-same}
+use Rattle.turns.proofs.Parts.{left-size, works-then, left-same}
 
 -- ---- statements without their votes
 
@@ -79,6 +80,7 @@ module _ (b b′ : List ℕ) (e : shapes b′ ≡ shapes b) where
 -- the first j were voted on; whoever votes on the rest has voted on all
 pub record Voted (b order o : List ℕ) (at count j : ℕ) (b′ o′ : List ℕ) (next : ℕ) : Type 0 where
   pub formed : Formed b′
+  pub size : sizeIn b′ ≡ sizeIn b
   pub same : shapes b′ ≡ shapes b
   pub ends : next ≤ at + 160 * j
   pub long : length o′ ≡ length o
@@ -92,6 +94,7 @@ module _ (b order o : List ℕ) (at count : ℕ) where
   pub voted-none : Formed b → Voted b order o at count 0 b o at
   voted-none k = record {
     formed = k;
+    size = refl;
     same = refl;
     ends = omega arith;
     long = refl;
@@ -124,9 +127,11 @@ module _ (b order o : List ℕ) (at count : ℕ) where
       unfolding stateOf stateFrom votingAll
       voted-next {b″} {o″} {r} h w =
           let s = stateOf b′ in
+          let keeps = voting-keeps (formed-parts (g .formed) .formed) X (place-sendable (g .formed) voted-stands) in
           let more = rows x-at (j + 1) (count - (j + 1)) in
           record {
-            formed = left-formed (w .left) (voting-keeps (formed-parts (g .formed) .formed) X (place-sendable (g .formed) voted-stands) .formed);
+            formed = left-formed (w .left) (keeps .formed);
+            size = left-size (w .left) ∙ ap (λ (y : Settings). y .size) (keeps .settings) ∙ g .size;
             same = ap (λ (t : State). map unvoted (t .statements)) (w .left .is) ∙ voting-shape X s ∙ g .same;
             ends = omega (arith, w .says .ends, voting-bytes X s, g .ends);
             long = says-length (w .says) ∙ g .long;

@@ -8,23 +8,22 @@ use lib.ListN.{length}
 use borrow.Author.Tests.{eq-eqb, ne-eqb}
 use Rattle.rules.specs.Sizes.{Settings, leader}
 use Rattle.rules.specs.Messages.{Effect, toOne, status, effect, outgoing}
-use Rattle.rules.specs.Words.{Tally, highest, State}
+use Rattle.rules.specs.Words.{Certificate, highest, State}
 use Rattle.rules.specs.Inputs.{saying, entering, nextLock, report, entered}
 use Rattle.rules.proofs.Tests.{by-bool}
 use Rattle.rules.proofs.Allowed.{leader-lt}
 use Rattle.outgoing.specs.Wrote.{Says}
 use Rattle.outgoing.proofs.Writing.{says-none, says-one}
 use Rattle.fields.specs.Names.{nameOf}
-use Rattle.fields.specs.Records.{fields}
 use Rattle.settings.specs.Made.{settingsOf}
-use Rattle.store.specs.Layout.{headerFormat}
 use Rattle.store.specs.Decode.{tallies, stateFrom, stateOf, Left}
-use Rattle.store.specs.Meaning.{tallyOf, headerOf}
+use Rattle.store.specs.Meaning.{Loads}
 use Rattle.store.specs.declared.Station.{Station}
-use Rattle.store.specs.declared.Tally as code
+use Rattle.words.specs.declared.Certificate as code
 use Rattle.store.proofs.Loaded.{loaded-settings, loaded-view}
 use Rattle.kept.proofs.Facts.{sizes-of}
 use Rattle.kept.proofs.Lengths.{size, weight, length-effect, bytes-cons, bytes-none}
+use Rattle.words.specs.Meaning.{blockOf}
 use Rattle.acts.specs.Works.{Formed, Works}
 use Rattle.acts.proofs.Votes.{loaded-own}
 use Rattle.acts.proofs.Works.{formed-parts, works-saying}
@@ -37,7 +36,7 @@ pub status-bytes : (i h b c m : ℕ) → length (effect (toOne i (status h b c m
 unfolding weight size
 status-bytes i h b c m = length-effect (toOne i (status h b c m))
 
-module _ (s : State) (v : ℕ) (t : Tally) (l : ℕ) (ev : v ≡ s .view + 1) (et : t ≡ highest (s .settings) v (s .tallies)) (el : l ≡ leader (s .settings) v) where
+module _ (s : State) (v : ℕ) (t : Certificate) (l : ℕ) (ev : v ≡ s .view + 1) (et : t ≡ highest (s .settings) v (s .tallies)) (el : l ≡ leader (s .settings) v) where
   lock-is : t ≡ nextLock s
   unfolding nextLock
   lock-is = et ∙ ap (λ (w : ℕ). highest (s .settings) w (s .tallies)) ev
@@ -74,7 +73,7 @@ module _ (s : State) (v : ℕ) (t : Tally) (l : ℕ) (ev : v ≡ s .view + 1) (e
 
 -- ---- by the loaded numbers
 
-module _ {b : List ℕ} (k : Formed b) (s : Station) (e : headerOf s ≡ fields b 0 headerFormat) (t : code.Tally) (h : tallyOf t ≡ highest (stateOf b .settings) (s .view + 1) (tallies b))
+module _ {b : List ℕ} (k : Formed b) (s : Station) (e : Loads s b) (t : code.Certificate) (h : blockOf t ≡ highest (stateOf b .settings) (s .view + 1) (tallies b))
     (l : ℕ) (el : l ≡ leader (settingsOf (s .settings)) (s .view + 1)) where
   leader-loaded : l ≡ leader (stateOf b .settings) (s .view + 1)
   leader-loaded = el ∙ ap (λ (g : Settings). leader g (s .view + 1)) (loaded-settings s b e)
@@ -85,15 +84,15 @@ module _ {b : List ℕ} (k : Formed b) (s : Station) (e : headerOf s ≡ fields 
   pub leader-small : l < 2 ^ 8
   leader-small = let z = sizes-of (formed-parts k .formed) in omega (arith, leader-loaded, leader-lt (s .view + 1) z)
 
-  module _ {b′ : List ℕ} (left : Left b′ (entering (s .view + 1) (tallyOf t) (stateOf b))) where
+  module _ {b′ : List ℕ} (left : Left b′ (entering (s .view + 1) (blockOf t) (stateOf b))) where
     pub goes-as-leader : (o : List ℕ) (at : ℕ) → l ≡ s .settings .own → Works (entered (stateOf b)) o at b′ o at
     unfolding stateOf stateFrom
-    goes-as-leader o at q = entered-as-leader (stateOf b) (s .view + 1) (tallyOf t) l view-next h leader-loaded left o at (q ∙ loaded-own k s e)
+    goes-as-leader o at q = entered-as-leader (stateOf b) (s .view + 1) (blockOf t) l view-next h leader-loaded left o at (q ∙ loaded-own k s e)
 
     pub goes-with-status : {o o′ : List ℕ} {at r : ℕ} → (l ≡ s .settings .own → ⊥) → Says o at (effect (toOne l (status (t .height) (nameOf (t .name)) (t .view) (t .mask)))) o′ r
         → Works (entered (stateOf b)) o at b′ o′ r
-    unfolding stateOf stateFrom tallyOf
-    goes-with-status d p = entered-with-status (stateOf b) (s .view + 1) (tallyOf t) l view-next h leader-loaded left (λ q. d (q ∙ sym (loaded-own k s e))) p
+    unfolding stateOf stateFrom blockOf
+    goes-with-status d p = entered-with-status (stateOf b) (s .view + 1) (blockOf t) l view-next h leader-loaded left (λ q. d (q ∙ sym (loaded-own k s e))) p
 
 -- how far the status goes
 pub report-ends : {b′ o o′ : List ℕ} {at r : ℕ} (s : State) → Works (entered s) o at b′ o′ r → r ≤ at + 62

@@ -16,15 +16,13 @@ use Rattle.rules.specs.Refusals.{hasRoom}
 use Rattle.rules.proofs.Truths.{and-2, both}
 use Rattle.rules.proofs.Allowed.{view-within}
 use Rattle.fields.specs.Names.{nameOf}
-use Rattle.fields.specs.Records.{fields}
 use Rattle.fields.specs.declared.Name.{Name}
 use Rattle.wire.specs.Meaning.{statementOf}
 use Rattle.wire.specs.declared.Statement.{Statement}
-use Rattle.store.specs.Layout.{headerFormat}
 use Rattle.store.specs.Decode.{tallies, stateFrom, stateOf}
-use Rattle.store.specs.Meaning.{tallyOf, headerOf}
+use Rattle.store.specs.Meaning.{Loads}
 use Rattle.store.specs.declared.Station.{Station}
-use Rattle.store.specs.declared.Tally.{Tally}
+use Rattle.words.specs.declared.Certificate.{Certificate}
 use Rattle.store.proofs.Loaded.{loaded-view}
 use Rattle.kept.specs.Said.{Sendable}
 use Rattle.kept.specs.Parts as kept
@@ -32,6 +30,7 @@ use Rattle.kept.proofs.Facts.{sizes-of}
 use Rattle.kept.proofs.Sendable.{sendable}
 use Rattle.kept.proofs.Tallies.{highest-good}
 use Rattle.kept.proofs.Ticks.{leads-own}
+use Rattle.words.specs.Meaning.{blockOf}
 use Rattle.acts.specs.Works.{Formed}
 use Rattle.acts.proofs.Works.{formed-parts}
 use Rattle.acts.proofs.Votes.{loaded-own}
@@ -51,23 +50,23 @@ own-sendable : {s : State} → kept.Formed s → leads s ≡ true → Sendable (
 unfolding ownNewView allowed
 own-sendable {s} f e =
     let t = highest (s .settings) (s .view) (s .tallies) in
-    let c = highest-good (s .settings) (s .view) (s .tallies) (view-within (s .view) (f .view) .0) (f .tables .tallies) in
+    let c = highest-good (s .settings) (s .view) (s .tallies) (view-within (s .settings) (s .view) (f .view) .0) (f .tables .tallies) in
     let o = eq-eqb (s .settings .own) (leader (s .settings) (s .view)) (leads-own s e) in
     sendable (newView (s .view) (t .height) (t .name) (t .view) (t .mask) (s .settings .own)) (sizes-of f)
     (both (both (both (both (f .view) (c .block)) (lt-ltb (t .view) (s .view) (c .earlier))) (c .isAllowed)) o) (c .name)
 
-module _ {b : List ℕ} (k : Formed b) (s : Station) (e : headerOf s ≡ fields b 0 headerFormat) (t : Tally) (h : tallyOf t ≡ highest (stateOf b .settings) (s .view) (tallies b)) where
+module _ {b : List ℕ} (k : Formed b) (s : Station) (e : Loads s b) (t : Certificate) (h : blockOf t ≡ highest (stateOf b .settings) (s .view) (tallies b)) where
   abbrev made : Statement
   made = record { «is_new_view» = true; view = s .view; height = t .height; name = t .name; link = linkTo (t .view); mask = t .mask; author = s .settings .own }
 
-  best : tallyOf t ≡ highest (stateOf b .settings) (stateOf b .view) (stateOf b .tallies)
+  best : blockOf t ≡ highest (stateOf b .settings) (stateOf b .view) (stateOf b .tallies)
   unfolding stateOf stateFrom
   best = h ∙ ap (λ (v : ℕ). highest (stateOf b .settings) v (tallies b)) (loaded-view s b e)
 
   pub made-is : message (statementOf made none) ≡ ownNewView (stateOf b)
-  unfolding message statementOf ownNewView tallyOf
+  unfolding message statementOf ownNewView blockOf
   made-is =
-      λ i. newView (loaded-view s b e i) (best i .height) (best i .name) ((link-number (t .view) ∙ ap (λ (u : words.Tally). u .view) best) i) (best i .mask) (loaded-own k s e i)
+      λ i. newView (loaded-view s b e i) (best i .height) (best i .name) ((link-number (t .view) ∙ ap (λ (u : words.Certificate). u .view) best) i) (best i .mask) (loaded-own k s e i)
 
   pub made-sendable : leads (stateOf b) ≡ true → Sendable (stateOf b .settings) (message (statementOf made none))
   made-sendable l = subst (Sendable (stateOf b .settings)) (sym made-is) (own-sendable (formed-parts k .formed) l)

@@ -8,7 +8,7 @@ use native.Mathlib.Omega.{arith}
 use native.Mathlib.Nat.{mul-le-mul-left}
 use lib.Dec.{leb, ltb, eqb}
 use lib.ListN.{length}
-use Rattle.rules.specs.Limits.{lastView, mostDelay, mostStatements}
+use Rattle.rules.specs.Limits.{lastView, mostDelay, lastViewLarge, mostStatementsLarge}
 use Rattle.rules.specs.Sizes as sizes
 use Rattle.rules.specs.Sizes.{leader, holds}
 use Rattle.rules.specs.Messages.{viewAllowed}
@@ -16,12 +16,11 @@ use Rattle.rules.specs.Words as words
 use Rattle.rules.specs.Words.{State, inView, waiting, stopped}
 use Rattle.rules.specs.Inputs.{isIn, leads, blamesOf, votes, overdue, leadsNow, entersNow}
 use Rattle.rules.proofs.Tests.{by-bool}
-use Rattle.rules.proofs.Allowed.{view-within}
-use Rattle.fields.specs.Records.{fields}
+use Rattle.rules.proofs.Bounds.{statements-most}
 use Rattle.settings.specs.Made.{settingsOf}
-use Rattle.store.specs.Layout.{headerFormat}
-use Rattle.store.specs.Decode.{blameAt, stateOf}
-use Rattle.store.specs.Meaning.{courseOf, headerOf}
+use Rattle.store.specs.Layout.{sizeIn}
+use Rattle.store.specs.Decode.{blameAt, stateFrom, stateOf}
+use Rattle.store.specs.Meaning.{courseOf, Loads}
 use Rattle.store.specs.declared.Station.{Station}
 use Rattle.store.specs.declared.Phase.{Phase}
 use Rattle.store.specs.declared.Phase.the-variants.{InView, Waiting, Stopped}
@@ -30,7 +29,7 @@ use Rattle.kept.proofs.Lists.{keep-length}
 use Rattle.kept.proofs.Facts.{sizes-of, clocks-of}
 use Rattle.acts.specs.Works.{Formed}
 use Rattle.acts.proofs.Works.{formed-parts}
-use Rattle.acts.proofs.Stores.{blame-place}
+use Rattle.acts.proofs.Stores.{view-in, blame-place}
 
 -- ---- by the rules' names
 
@@ -65,7 +64,7 @@ module _ (s : State) where
   leads-at q = rw q
 
   unfoldable entersIf : words.Phase → Bool
-  entersIf p = elim p [ inView ↦ false | waiting q ↦ ltb (s .view) lastView && eqb (s .clock) (q + s .settings .D + 1) | stopped c ↦ false ]
+  entersIf p = elim p [ inView ↦ false | waiting q ↦ ltb (s .view) (lastView (s .settings .size)) && eqb (s .clock) (q + s .settings .D + 1) | stopped c ↦ false ]
 
   by-phase : entersIf (s .phase) ≡ entersNow s
   unfolding entersIf entersNow
@@ -78,23 +77,23 @@ votes-few s =
     keep-length (λ x. not (x .isNewView) && eqb (x .view) (s .view) && elim (x .voted) [ none ↦ false | some c ↦ true ]) (s .statements)
 
 -- so the wait is a small number
-pub short-wait : (m d : ℕ) → m ≤ mostStatements → d ≤ mostDelay → (2 * m + 6) * d + 2 ≤ 2_620_002
+pub short-wait : (m d : ℕ) → m ≤ mostStatementsLarge → d ≤ mostDelay → (2 * m + 6) * d + 2 ≤ 10_300_002
 short-wait m d f l = let h : (2 * m + 6) * d ≤ (2 * m + 6) * mostDelay = mul-le-mul-left (2 * m + 6) l in omega arith
 
 -- ---- by the loaded numbers
 
-module _ {b : List ℕ} (k : Formed b) (s : Station) (e : headerOf s ≡ fields b 0 headerFormat) where
+module _ {b : List ℕ} (k : Formed b) (s : Station) (e : Loads s b) where
   abbrev S : State
   S = stateOf b
 
   part : (f : sizes.Settings → ℕ) → f (settingsOf (s .settings)) ≡ f (S .settings)
   part f = ap f (loaded-settings s b e)
 
-  pub view-of-loaded : viewAllowed (s .view) ≡ true
-  view-of-loaded = ap viewAllowed (loaded-view s b e) ∙ formed-parts k .formed .view
+  pub view-of-loaded : viewAllowed (S .settings) (s .view) ≡ true
+  view-of-loaded = ap (viewAllowed (S .settings)) (loaded-view s b e) ∙ formed-parts k .formed .view
 
-  pub view-limits : (1 ≤ s .view) × (s .view ≤ lastView)
-  view-limits = view-within (s .view) view-of-loaded
+  pub view-limits : (1 ≤ s .view) × (s .view ≤ lastView (sizeIn b)) × (s .view ≤ lastViewLarge)
+  view-limits = view-in b (s .view) view-of-loaded
 
   pub short-delay : s .settings .delay ≤ mostDelay
   short-delay = let z = sizes-of (formed-parts k .formed) in omega (arith, part (λ g. g .D))
@@ -102,8 +101,8 @@ module _ {b : List ℕ} (k : Formed b) (s : Station) (e : headerOf s ≡ fields 
   pub some-stations : 0 < s .settings .n
   some-stations = let z = sizes-of (formed-parts k .formed) in omega (arith, part (λ g. g .n))
 
-  pub few-votes : (m : ℕ) → m ≡ votes S → m ≤ mostStatements
-  few-votes m q = omega (arith, votes-few S, formed-parts k .fewStatements)
+  pub few-votes : (m : ℕ) → m ≡ votes S → m ≤ mostStatementsLarge
+  few-votes m q = omega (arith, votes-few S, formed-parts k .fewStatements, statements-most (S .settings .size))
 
   pub entered-before : s .entry ≤ s .clock
   entered-before = let c = clocks-of (formed-parts k .formed) in omega (arith, loaded-entry s b e, loaded-clock s b e)
@@ -141,10 +140,10 @@ module _ {b : List ℕ} (k : Formed b) (s : Station) (e : headerOf s ≡ fields 
   loaded-enters : entersIf S (courseOf (s .phase)) ≡ entersNow S
   loaded-enters = ap (entersIf S) (loaded-phase s b e) ∙ by-phase S
 
-  pub enters-at : (q : ℕ) → s .phase ≡ Waiting q → (ltb (s .view) lastView && eqb (s .clock) (q + s .settings .delay + 1)) ≡ entersNow S
-  unfolding entersIf
+  pub enters-at : (q : ℕ) → s .phase ≡ Waiting q → (ltb (s .view) (lastView (sizeIn b)) && eqb (s .clock) (q + s .settings .delay + 1)) ≡ entersNow S
+  unfolding entersIf stateOf stateFrom
   enters-at q p =
-      (λ i. ltb (loaded-view s b e i) lastView && eqb (loaded-clock s b e i) (q + part (λ g. g .D) i + 1))
+      (λ i. ltb (loaded-view s b e i) (lastView (sizeIn b)) && eqb (loaded-clock s b e i) (q + part (λ g. g .D) i + 1))
       ∙ sym (ap (λ (r : Phase). entersIf S (courseOf r)) p) ∙ loaded-enters
 
   pub enters-never : ((q : ℕ) → s .phase ≡ Waiting q → ⊥) → false ≡ entersNow S

@@ -6,7 +6,8 @@ use mathlib.Core.Option.{some}
 use native.Mathlib.Omega.{arith}
 use native.Mathlib.Nat.{zero-add}
 use lib.ListN.{length, getD, drop, length-append}
-use Rattle.rules.specs.Limits.{mostStatements}
+use Rattle.rules.specs.Limits.{mostStatements, mostStatementsLarge}
+use Rattle.rules.proofs.Bounds.{statements-most}
 use Rattle.rules.specs.Messages.{Effect, committed, effect, outgoing}
 use Rattle.rules.specs.Words.{Statement, State}
 use Rattle.rules.specs.Inputs.{saying, withClock, withLog, reports, logging}
@@ -15,7 +16,7 @@ use Rattle.wire.specs.Meaning.{statementOf}
 use Rattle.outgoing.specs.Wrote.{Says}
 use Rattle.wire.specs.declared.Statement as code
 use Rattle.outgoing.proofs.Writing.{says-none, says-one, says-outgoing}
-use Rattle.store.specs.Layout.{statementTable, logTable, countOf}
+use Rattle.store.specs.Layout.{statementTable, logTable, sizeIn, countOf}
 use Rattle.store.specs.Decode.{rows, statementAt, nameAt, statements, names, stateFrom, stateOf, Form, Left}
 use Rattle.store.specs.Changes.{appending}
 use Rattle.store.proofs.Rows.{rows-append, rows-length, rows-same, rows-at}
@@ -26,6 +27,7 @@ use Rattle.kept.proofs.Lengths.{weight, length-effect, reports-bytes}
 use Rattle.acts.specs.Works.{Works}
 use Rattle.acts.proofs.Works.{left-then, works-is, works-saying}
 use Rattle.turns.specs.Gains.{grownLog, Enough}
+use Rattle.turns.proofs.Parts.{left-size}
 
 -- ---- lists
 
@@ -71,7 +73,7 @@ module _ (b t : List ℕ) where
   grown-more : (k : ℕ) → old ≤ k → grownLog b t (k + 1) ≡ grownLog b t k ++ nameIn b t k ∷ []
   grown-more k l = ap (names b ++_) (gains-more k l) ∙ sym (append-assoc (names b) (gains k) (nameIn b t k ∷ []))
 
-  grown-length : (k : ℕ) → old ≤ k → length (grownLog b t k) ≡ k
+  pub grown-length : (k : ℕ) → old ≤ k → length (grownLog b t k) ≡ k
   grown-length k l = omega (arith, length-append (names b) (gains k), old-length, rows-length (nameIn b t) old (k - old))
 
   logging-is : (k : ℕ) → saying (withLog (grownLog b t k) (stateOf b)) (reports (suc old) (gains k)) ≡ logging (grownLog b t k) (stateOf b)
@@ -82,6 +84,10 @@ module _ (b t : List ℕ) where
       (ap (reports (suc (length (names b)))) (drop-append (names b) (gains k)) ∙ ap (λ (j : ℕ). reports (suc j) (gains k)) old-length))
 
 -- ---- so far
+
+-- the table's length is enough in both columns
+pub enough-few : {b t : List ℕ} {n at room : ℕ} → Enough b t n at room → n ≤ mostStatementsLarge
+enough-few {b} e = omega (arith, e .fits, statements-most (sizeIn b))
 
 -- the log has the names up to k, and they are reported
 pub record Logged (b t o : List ℕ) (at k : ℕ) (b′ o′ : List ℕ) (next : ℕ) : Type 0 where
@@ -118,6 +124,10 @@ module _ (b t o : List ℕ) (at : ℕ) where
               subst (λ (fs : List Effect). Says o at (outgoing fs) o″ r) es
               (says-outgoing o at (reports (suc h) (gains b t k)) (committed (k + 1) n ∷ []) o′ o″ next r (g .says) (says-one o′ next (committed (k + 1) n) o″ r p));
         }
+
+    pub logged-size : sizeIn b′ ≡ sizeIn b
+    unfolding withLog stateOf stateFrom
+    logged-size = left-size (g .left)
 
     pub logged-count : countOf logTable b′ ≡ k
     unfolding withLog stateOf stateFrom names
@@ -162,6 +172,10 @@ module _ (b b′ t : List ℕ) (n c : ℕ) (g : Gained b t n) (l : Left b′ (wi
   unfolding statements
   count-kept = sym (rows-length (statementAt b′) 0 (countOf statementTable b′)) ∙ ap length statements-kept ∙ rows-length (statementAt b) 0 (countOf statementTable b)
 
+  size-kept : sizeIn b′ ≡ sizeIn b
+  unfolding withClock stateOf stateFrom
+  size-kept = left-size l
+
   name-kept : (k : ℕ) → countOf logTable b ≤ k → k < n → nameIn b′ t k ≡ nameIn b t k
   unfolding nameIn statementIn
   name-kept k p q = ap (λ (y : Statement). y .name) (same-places b b′ statements-kept (getD t k 0) (g .stored k p q))
@@ -173,12 +187,12 @@ module _ (b b′ t : List ℕ) (n c : ℕ) (g : Gained b t n) (l : Left b′ (wi
       ap (λ (j : ℕ). rows (nameIn b′ t) j (n - j)) log-kept ∙ rows-same (nameIn b′ t) (nameIn b t) old (n - old) (λ k p q. name-kept k p (omega (arith, g .more))) in
       g .is ∙ ap some (sym (ap₂ _++_ names-kept rest))
 
-  pub gained-enough : {at room : ℕ} → length t ≡ mostStatements → at + 39 * (n - countOf logTable b) ≤ room → Enough b′ t n at room
-  gained-enough {at} {room} h p =
+  pub gained-enough : {at room : ℕ} → length t ≡ mostStatementsLarge → n ≤ mostStatements (sizeIn b) → at + 39 * (n - countOf logTable b) ≤ room → Enough b′ t n at room
+  gained-enough {at} {room} h f p =
       record {
         form = l .form;
         more = omega (arith, log-kept, g .more);
-        fits = g .fits;
+        fits = omega (arith, ap mostStatements size-kept);
         long = h;
         stored = λ k u v. omega (arith, g .stored k (omega (arith, log-kept)) v, count-kept);
         space = subst (λ (j : ℕ). at + 39 * (n - j) ≤ room) (sym log-kept) p;

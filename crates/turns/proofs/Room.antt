@@ -11,7 +11,7 @@ use borrow.Author.Tests.{eqb-true, leb-true}
 use Rattle.rules.specs.Lists.{first, any}
 use Rattle.rules.specs.Sizes.{only, holds}
 use Rattle.rules.specs.Messages.{Effect, toAll, blameSet}
-use Rattle.rules.specs.Words.{Statement, sameStatement, conflict, ownBlock, sameBlock, highest, State}
+use Rattle.rules.specs.Words.{Statement, sameStatement, conflict, ownBlock, ofBlock, highest, State}
 use Rattle.rules.specs.Inputs.{Work, saying, _▸_, withPhase, withTables, withBlames, withLog, isIn, quit, belowLock, votedFor, voting, certificateJoined, stored, statement, handled, blamesOf, blamed, blameFull, blaming, leads, logging, votes, overdue, complain, leadsNow, ownNewView, lead, entersNow, nextLock, entering, entered, current, pair, inOrder, votingAll, arrive, enter}
 use Rattle.rules.specs.Refusals.{hasRoom}
 use Rattle.rules.specs.WellFormed.{talliesThere, linked}
@@ -45,7 +45,7 @@ complain-room s =
 
 -- a vote joins a tally that is there, and loses none
 abbrev Opened : State → Statement → Type 0
-Opened s x = any (sameBlock (ownBlock x 0)) (s .tallies) ≡ true
+Opened s x = any (ofBlock (ownBlock x 0)) (s .tallies) ≡ true
 
 voting-opened : (x y : Statement) (s : State) → Opened s y → Opened (voting x s .now) y
 unfolding voting saying votedFor withTables
@@ -74,7 +74,7 @@ arrive-room s f =
 
 formed-opened : {s : State} → Formed s → (x : Statement) → Mem x (s .statements) → Opened s x
 unfolding talliesThere
-formed-opened {s} f x m = and-2 (any (sameBlock (ownBlock x 0)) (s .tallies)) _ (all-mem (talliesThere (s .tallies)) (f .tables .opened) m) .0
+formed-opened {s} f x m = and-2 (any (ofBlock (ownBlock x 0)) (s .tallies)) _ (all-mem (talliesThere (s .tallies)) (f .tables .opened) m) .0
 
 pub enter-room : {s : State} → Formed s → hasRoom (enter s .now) ≡ hasRoom s
 unfolding enter entered saying entering _▸_ hasRoom

@@ -3,8 +3,8 @@ use Prim.Native.Nat.{ℕ, _+_, _-_, _*_, _≤_}
 use mathlib.Core.Path.{_≡_}
 use mathlib.Core.List.{List, _++_}
 use lib.ListN.{length}
-use Rattle.rules.specs.Limits.{mostStatements}
-use Rattle.store.specs.Layout.{logTable, countOf}
+use Rattle.rules.specs.Limits.{mostStatements, mostStatementsLarge}
+use Rattle.store.specs.Layout.{logTable, sizeIn, countOf}
 use Rattle.store.specs.Decode.{rows, names, Form}
 use Rattle.commit.specs.Chains.{nameIn, Stored}
 
@@ -16,7 +16,7 @@ grownLog b t n = names b ++ rows (nameIn b t) (countOf logTable b) (n - countOf 
 pub record Enough (b t : List ℕ) (n at room : ℕ) : Type 0 where
   pub form : Form b
   pub more : countOf logTable b ≤ n
-  pub fits : n ≤ mostStatements
-  pub long : length t ≡ mostStatements
+  pub fits : n ≤ mostStatements (sizeIn b)
+  pub long : length t ≡ mostStatementsLarge
   pub stored : Stored b t (countOf logTable b) n
   pub space : at + 39 * (n - countOf logTable b) ≤ room

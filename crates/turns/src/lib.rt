@@ -5,12 +5,13 @@ ghost use mathlib.Core.Option.{none};
 ghost use Prim.Native.Nat.{_+_, _*_, _^_, _≤_, _<_};
 ghost use lib.Dec.{eqb};
 ghost use lib.ListN.{length};
-ghost use Rattle.rules.specs.Limits.{mostStatements, maskBits};
+ghost use Rattle.rules.specs.Limits.{mostStatements, maskBits, mostStatementsLarge};
 ghost use Rattle.rules.specs.Sizes as sizes;
 ghost use Rattle.rules.specs.Words.{message as said};
 ghost use Rattle.rules.specs.Inputs as inputs;
 ghost use Rattle.rules.specs.Refusals.{hasRoom};
 ghost use Rattle.wire.specs.Meaning.{statementOf};
+ghost use Rattle.store.specs.Layout.{sizeIn};
 ghost use Rattle.store.specs.Decode.{rows, stateOf};
 ghost use Rattle.search.specs.Orders.{standing};
 ghost use Rattle.kept.specs.Said.{Sendable};
@@ -19,7 +20,6 @@ ghost use Rattle.turns.specs.Gains.{grownLog, Enough};
 ghost use Rattle.turns.specs.Ballots.{Listed};
 use fields::Name;
 use search::Pair;
-use settings::Settings;
 use store::Phase;
 use store::Station;
 use wire::Message;
@@ -116,7 +116,7 @@ pub fn enters_now(store: &[u8]) -> bool
     match phase {
         Phase::Waiting(quit) => {
             let is_over = is_past(station.clock, quit, settings.delay);
-            ((station.view as u64) < Settings::LAST_VIEW) & is_over
+            ((station.view as u64) < store::last_view_in(store)) & is_over
         }
         _ => false,
     }
@@ -186,7 +186,7 @@ fn entered(store: &mut [u8], out: &mut [u8], at: usize) -> usize
 }
 
 // The log grows by the names of the statements whose places stand in a table, each reported.
-pub fn logging(store: &mut [u8], out: &mut [u8], at: usize, gained: &[u8], len: usize) -> usize
+pub fn logging(store: &mut [u8], out: &mut [u8], at: usize, gained: &[u16], len: usize) -> usize
     requires { ⌜ Enough (now store) (now gained) len at (length (now out)) ⌝ }
     ensures { λ r. ⌜ Works (inputs.logging (grownLog (now (store .entry)) (now (gained .entry)) len) (stateOf (now (store .entry)))) (now (out .entry)) at (now (store .exit)) (now (out .exit)) r ⌝ }
 {
@@ -204,7 +204,7 @@ pub fn logging(store: &mut [u8], out: &mut [u8], at: usize, gained: &[u8], len: 
 }
 
 // Votes on the statements whose places stand in a table, in its order.
-fn vote_in_order(store: &mut [u8], out: &mut [u8], at: usize, order: &[u8], count: usize) -> usize
+fn vote_in_order(store: &mut [u8], out: &mut [u8], at: usize, order: &[u16], count: usize) -> usize
     requires { ⌜ Listed (now store) (now order) count at (length (now out)) ⌝ }
     ensures { λ r. ⌜ Works (inputs.votingAll (rows (standing (now (store .entry)) (now (order .entry))) 0 count) (stateOf (now (store .entry)))) (now (out .entry)) at (now (store .exit)) (now (out .exit)) r ⌝ }
 {
@@ -213,7 +213,7 @@ fn vote_in_order(store: &mut [u8], out: &mut [u8], at: usize, order: &[u8], coun
     while j < count {
         let place = order[j] as usize;
         let x = store::statement_at(store, place);
-        let tally = store::find_tally(store, search::own_block(x, 0));
+        let tally = store::find_tally(store, words::own_block(x, 0));
         next = acts::voting(store, out, next, place, x, tally);
         j += 1;
     }
@@ -221,8 +221,8 @@ fn vote_in_order(store: &mut [u8], out: &mut [u8], at: usize, order: &[u8], coun
 }
 
 // What the station finds in the view that it entered: a full blame mask or a conflict, and quits, or statements to vote on.
-fn arrive(store: &mut [u8], out: &mut [u8], at: usize, order: &mut [u8]) -> usize
-    requires { ⌜ (Formed (now store)) × (at + 160 * mostStatements ≤ length (now out)) × (mostStatements ≤ length (now order)) ⌝ }
+fn arrive(store: &mut [u8], out: &mut [u8], at: usize, order: &mut [u16]) -> usize
+    requires { ⌜ (Formed (now store)) × (at + 160 * mostStatements (sizeIn (now store)) ≤ length (now out)) × (mostStatementsLarge ≤ length (now order)) ⌝ }
     ensures { λ r. ⌜ Works (inputs.arrive (stateOf (now (store .entry)))) (now (out .entry)) at (now (store .exit)) (now (out .exit)) r ⌝ }
 {
     let station = Station::load(store);
@@ -244,8 +244,8 @@ fn arrive(store: &mut [u8], out: &mut [u8], at: usize, order: &mut [u8]) -> usiz
 }
 
 // A waiting station whose wait is over enters the next view.
-pub fn enter(store: &mut [u8], out: &mut [u8], at: usize, order: &mut [u8]) -> usize
-    requires { ⌜ (Formed (now store)) × (at + 62 + 160 * mostStatements ≤ length (now out)) × (mostStatements ≤ length (now order)) ⌝ }
+pub fn enter(store: &mut [u8], out: &mut [u8], at: usize, order: &mut [u16]) -> usize
+    requires { ⌜ (Formed (now store)) × (at + 62 + 160 * mostStatements (sizeIn (now store)) ≤ length (now out)) × (mostStatementsLarge ≤ length (now order)) ⌝ }
     ensures { λ r. ⌜ Works (inputs.enter (stateOf (now (store .entry)))) (now (out .entry)) at (now (store .exit)) (now (out .exit)) r ⌝ }
 {
     if !enters_now(store) {

@@ -1,20 +1,20 @@
--- Reading by places is reading: fields one after the other, the end of the message, the message of a kind. Assumes nothing.
+-- Reading by places is reading: a reader moves behind field after field to the end, and what it has is the message. Assumes nothing.
 use Prim.Native.Nat.{ℕ, zero, suc, _+_, _-_, _*_, _/_, _%_, _^_, _<_, _≤_}
-use mathlib.Core.Path.{_≡_, refl, sym, ap, ap₂, _∙_}
-use mathlib.Core.Bool.{Bool, true, false, _&&_, and-true}
-use mathlib.Core.List.{List, [], _∷_, _++_}
+use mathlib.Core.Path.{_≡_, refl, sym, ap, ap₂, subst, _∙_}
+use mathlib.Core.Bool.{Bool, true, false, _&&_, _||_, and-true}
+use mathlib.Core.List.{List, [], _∷_, _++_, map}
 use mathlib.Core.Option.{Option, none, some, Option·map}
 use native.Mathlib.Omega.{arith}
-use lib.ListN.{length, take, drop, getD, length-drop, drop-of-length-le}
-use lib.Seq.{drop-cons, drop-drop, length-take-le}
+use lib.ListN.{length, take, drop, getD, set, length-drop, length-set, drop-of-length-le}
+use lib.Seq.{drop-cons, drop-drop, length-take-le, getD-set-same, getD-set-other}
 use lib.Dec.{leb, eqb}
 use borrow.Author.Tests.{eqb-true, eqb-false, eq-eqb, ne-eqb, leb-true, leb-false, le-leb, lt-leb}
 use Rattle.fields.specs.Places.{Bytes, number}
 use Rattle.fields.proofs.Lists.{number-cons, number-piece}
-use Rattle.rules.specs.Lists.{be, unbe}
-use Rattle.rules.specs.Messages.{Message, Row, table, rowOf, width, after, readField, reads, body, read}
-use Rattle.rules.proofs.Tests.{by-bool, and-left, and-right}
-use Rattle.wire.specs.Fields.{head, isField, Found, bodyAt}
+use Rattle.rules.specs.Lists.{be, unbe, within as between, any, all, keep}
+use Rattle.rules.specs.Messages.{Message, Row, table, rowOf, tagsOf, width, after, readField, reads, body, read}
+use Rattle.rules.proofs.Tests.{by-bool, no-bool, and-left, and-right}
+use Rattle.wire.specs.Fields.{head, isField, numberOf, behind, has, Place, value, start, moved, walked, made, ended}
 
 -- a field that stands at a place lies within the message
 pub field-room : (s : List ℕ) (at t w : ℕ) → isField s at t w ≡ true → at + 3 + w ≤ length s
@@ -145,80 +145,24 @@ lost ts s at h = rw (lt-leb at (length s) h, readsAt)
 within : (ts s : List ℕ) (at : ℕ) → at ≤ length s → readsAt ts s at ≡ reads ts (drop at s)
 within ts s at h = rw (le-leb at (length s) h, readsAt)
 
--- fields that were found one after the other, from a place to a place
-pub data Chain (s : List ℕ) : ℕ → List ℕ → List ℕ → ℕ → Type 0 where
-  ends : {at : ℕ} → Chain s at [] [] at
-  found : {at t v n e : ℕ} {ts vs : List ℕ} → Found (isField s at t (width t)) s at (width t) v n → Chain s n ts vs e → Chain s at (t ∷ ts) (v ∷ vs) e
+-- tests joined one after the other, as the code joins them
+abbrev joined : (ℕ → Bool) → Bool → List ℕ → Bool
+joined p a [] = a
+joined p a (x ∷ xs) = joined p (a || p x) xs
 
-module _ (s : List ℕ) (b : Bytes s) where
-  reads-found : (at t v n : ℕ) (ts : List ℕ) → Found (isField s at t (width t)) s at (width t) v n → readsAt (t ∷ ts) s at ≡ Option·map (v ∷_) (readsAt ts s n)
-  unfolding reads isField
-  reads-found at t v n ts f =
-      let w = width t in
-      let go : ℕ → List ℕ → Option (List ℕ) = λ x r. Option·map (x ∷_) (reads ts r) in
-      by-bool (isField s at t w)
-      (λ q.
-      let l = field-room s at t w q in
-      let v-is : v ≡ number s (at + 3) w = f .value-is ∙ rw q in
-      let n-is : n ≡ at + 3 + w = f .next-is ∙ rw q in
-      within (t ∷ ts) s at (omega arith) ∙ field-here s b at t go q ∙ rw (v-is, n-is, within ts s (at + 3 + w) l))
-      (λ q.
-      let n-is : n ≡ suc (length s) = f .next-is ∙ rw q in
-      let r : Option·map (v ∷_) (readsAt ts s n) ≡ none = rw (lost ts s n (omega arith)) in
-      by-bool (leb at (length s)) (λ k. within (t ∷ ts) s at (leb-true at (length s) k) ∙ field-gone s b at t go q ∙ sym r)
-      (λ k. lost (t ∷ ts) s at (leb-false at (length s) k) ∙ sym r))
+joined-any : (p : ℕ → Bool) (a : Bool) (xs : List ℕ) → joined p a xs ≡ elim a [ true ↦ true | false ↦ any p xs ]
+unfolding any
+joined-any p true [] = refl
+joined-any p false [] = refl
+joined-any p true (x ∷ xs) = joined-any p true xs
+joined-any p false (x ∷ xs) = joined-any p (p x) xs
 
-  -- all of them, and the end of the message: the numbers; else nothing
-  reads-all : (at e : ℕ) (ts vs : List ℕ) → Chain s at ts vs e → e ≡ length s → readsAt ts s at ≡ some vs
-  unfolding reads
-  reads-all at e ts vs ends h = within [] s at (omega arith) ∙ rw (drop-of-length-le s {i = at} (omega arith))
-  reads-all at e ts vs (found {t = t} {v = v} {n = n} {ts = us} f k) h = reads-found at t v n us f ∙ rw (reads-all n e us _ k h)
+-- a kind's tags, tested one after the other
+pub has-tags : (k t : ℕ) (ts : List ℕ) → tagsOf k ≡ ts → joined (eqb t) (eqb t 1) ts ≡ has k t
+unfolding has any
+has-tags k t ts e = joined-any (eqb t) (eqb t 1) ts ∙ rw e
 
-  reads-other : (at e : ℕ) (ts vs : List ℕ) → Chain s at ts vs e → (e ≡ length s → ⊥) → readsAt ts s at ≡ none
-  unfolding reads
-  reads-other at e ts vs ends h =
-      by-bool (leb at (length s)) (λ k. within [] s at (leb-true at (length s) k) ∙ rw (drop-cons s at 0 (omega (arith, leb-true at (length s) k))))
-      (λ k. lost [] s at (leb-false at (length s) k))
-  reads-other at e ts vs (found {t = t} {v = v} {n = n} {ts = us} f k) h = reads-found at t v n us f ∙ rw (reads-other n e us _ k h)
-
-  -- the message of a kind
-  module _ (k at e : ℕ) (row : Row) (vs : List ℕ) (r : rowOf k ≡ some row) (f : Chain s at (row .tags) vs e) where
-    made : List ℕ → Message
-    made us = row .make (λ i. getD us i 0)
-
-    body-reads : bodyAt k s at ≡ Option·map made (readsAt (row .tags) s at)
-    unfolding bodyAt body made
-    body-reads = by-bool (leb at (length s)) (λ q. rw (q, bodyAt, readsAt, r, body)) (λ q. rw (q, bodyAt, readsAt))
-
-    pub body-all : e ≡ length s → some (row .make (λ i. getD vs i 0)) ≡ bodyAt k s at
-    unfolding made
-    body-all h = sym (body-reads ∙ ap (Option·map made) (reads-all at e (row .tags) vs f h))
-
-    pub body-other : (e ≡ length s → ⊥) → none ≡ bodyAt k s at
-    body-other h = sym (body-reads ∙ ap (Option·map made) (reads-other at e (row .tags) vs f h))
-
-  pub body-none : (k at : ℕ) → rowOf k ≡ none → none ≡ bodyAt k s at
-  unfolding bodyAt body
-  body-none k at r = by-bool (leb at (length s)) (λ q. rw (q, bodyAt, r, body)) (λ q. rw (q, bodyAt))
-
-  -- the kind, and the message of that kind after it
-  pub read-found : (k n : ℕ) → Found (isField s 0 1 1) s 0 1 k n → bodyAt k s n ≡ read s
-  unfolding bodyAt read isField width
-  read-found k n f =
-      by-bool (isField s 0 1 1)
-      (λ q.
-      let l : 4 ≤ length s = field-room s 0 1 1 q in
-      let k-is : k ≡ number s 3 1 = f .value-is ∙ rw q in
-      let n-is : n ≡ 4 = f .next-is ∙ rw q in
-      ap₂ (λ (x y : ℕ). bodyAt x s y) k-is n-is ∙ rw (le-leb 4 (length s) l, bodyAt) (sym (field-here s b 0 1 body q)))
-      (λ q.
-      let n-is : n ≡ suc (length s) = f .next-is ∙ rw q in
-      rw (lt-leb n (length s) (omega arith), bodyAt) (sym (field-gone s b 0 1 body q)))
-
-  pub read-kind : {k n : ℕ} {o : Option Message} (j : ℕ) → Found (isField s 0 1 1) s 0 1 k n → k ≡ j → o ≡ bodyAt j s n → o ≡ read s
-  read-kind {k} {n} j f e h = h ∙ ap (λ (i : ℕ). bodyAt i s n) (sym e) ∙ read-found k n f
-
--- a kind outside 1 to 6 has no row
+-- a kind outside 1 to 6 has no row, and no tag but the first
 pub no-row : (k : ℕ) → (k ≡ 1 → ⊥) → (k ≡ 2 → ⊥) → (k ≡ 3 → ⊥) → (k ≡ 4 → ⊥) → (k ≡ 5 → ⊥) → (k ≡ 6 → ⊥) → rowOf k ≡ none
 unfolding rowOf table
 no-row zero a b c d e f = refl
@@ -229,3 +173,229 @@ no-row (suc (suc (suc (suc zero)))) a b c d e f = absurd (d refl)
 no-row (suc (suc (suc (suc (suc zero))))) a b c d e f = absurd (e refl)
 no-row (suc (suc (suc (suc (suc (suc zero)))))) a b c d e f = absurd (f refl)
 no-row (suc (suc (suc (suc (suc (suc (suc k))))))) a b c d e f = refl
+
+pub no-tags : (k : ℕ) → rowOf k ≡ none → tagsOf k ≡ []
+unfolding tagsOf
+no-tags k e = rw (e, tagsOf)
+
+-- what holds of each of some numbers holds of one that is among them
+in-all : (p : ℕ → Bool) (t : ℕ) (ts : List ℕ) → all p ts ≡ true → any (eqb t) ts ≡ true → p t ≡ true
+unfolding any all
+in-all p t [] a e = no-bool (sym e)
+in-all p t (x ∷ xs) a e =
+    by-bool (eqb t x) (λ q. rw (eqb-true t x q) (and-left (p x) (all p xs) a))
+    (λ q. in-all p t xs (and-right (p x) (all p xs) a) (rw (q, any) at e))
+
+-- tags are 1 to 8
+tags-within : (k : ℕ) → all (between 1 8) (1 ∷ tagsOf k) ≡ true
+unfolding all tagsOf rowOf table between
+tags-within zero = refl
+tags-within (suc zero) = refl
+tags-within (suc (suc zero)) = refl
+tags-within (suc (suc (suc zero))) = refl
+tags-within (suc (suc (suc (suc zero)))) = refl
+tags-within (suc (suc (suc (suc (suc zero))))) = refl
+tags-within (suc (suc (suc (suc (suc (suc zero)))))) = refl
+tags-within (suc (suc (suc (suc (suc (suc (suc k))))))) = refl
+
+above-four : (t : ℕ) → 1 ≤ t → (t ≡ 1 → ⊥) → (t ≡ 2 → ⊥) → (t ≡ 3 → ⊥) → (t ≡ 4 → ⊥) → 5 ≤ t
+above-four t l a b c d = omega arith
+
+eight : (t : ℕ) → 5 ≤ t → t ≤ 8 → (t ≡ 5 → ⊥) → (t ≡ 6 → ⊥) → (t ≡ 7 → ⊥) → t ≡ 8
+eight t l m e f g = omega arith
+
+pub last-tag : (k t : ℕ) → has k t ≡ true → (t ≡ 1 → ⊥) → (t ≡ 2 → ⊥) → (t ≡ 3 → ⊥) → (t ≡ 4 → ⊥) → (t ≡ 5 → ⊥) → (t ≡ 6 → ⊥) → (t ≡ 7 → ⊥) → t ≡ 8
+unfolding has between
+last-tag k t h a b c d e f g =
+    let w = in-all (between 1 8) t (1 ∷ tagsOf k) (tags-within k) h in
+    eight t (above-four t (leb-true 1 t (and-left (leb 1 t) (leb t 8) w)) a b c d) (leb-true t 8 (and-right (leb 1 t) (leb t 8) w)) e f g
+
+-- what is made at a place: at the end of the message, the message of its kind
+module _ (s : List ℕ) (p : Place) where
+  pub ended-made : {o : Option Message} (k : ℕ) → p .at ≡ length s → value p 1 ≡ k → o ≡ elim (rowOf k) [ none ↦ none | some row ↦ some (row .make (λ i. value p (getD (row .tags) i 0))) ] → o ≡ ended s p
+  unfolding ended made
+  ended-made k h e f = rw (eq-eqb (p .at) (length s) h, ended, made, e) f
+
+  pub ended-not : (p .at ≡ length s → ⊥) → none ≡ ended s p
+  unfolding ended
+  ended-not h = rw (ne-eqb (p .at) (length s) h, ended)
+
+-- a place as it is behind a field, or the same place
+module _ (s : List ℕ) (t : ℕ) (p : Place) where
+  pub moved-on : {v n : ℕ} → has (value p 1) t ≡ true → v ≡ numberOf s (p .at) t (width t) → n ≡ behind s (p .at) t (width t)
+      → record { at = n; values = set (p .values) t v } ≡ moved s t p
+  unfolding moved
+  moved-on h e f = rw (h, moved, e, f)
+
+  pub moved-not : has (value p 1) t ≡ false → p ≡ moved s t p
+  unfolding moved
+  moved-not h = rw (h, moved)
+
+  -- the value of a lesser tag stays, and so does the count of values
+  moved-keeps : (u : ℕ) → u < t → value (moved s t p) u ≡ value p u
+  unfolding moved
+  moved-keeps u l = by-bool (has (value p 1) t) (λ h. rw (h, moved) (getD-set-other (p .values) t u _ 0 (λ e. omega arith))) (λ h. rw (h, moved))
+
+  moved-length : length (moved s t p .values) ≡ length (p .values)
+  unfolding moved
+  moved-length = by-bool (has (value p 1) t) (λ h. rw (h, moved) (length-set (p .values) t _)) (λ h. rw (h, moved))
+
+-- the same, of a tag that is known to be one
+pub moved-as : (s : List ℕ) (p : Place) {t v n : ℕ} (j : ℕ) → t ≡ j → has (value p 1) t ≡ true
+    → v ≡ numberOf s (p .at) j (width j) → n ≡ behind s (p .at) j (width j) → record { at = n; values = set (p .values) j v } ≡ moved s t p
+moved-as s p j e h x y =
+    moved-on s j p (subst (λ (i : ℕ). has (value p 1) i ≡ true) e h) x y ∙ ap (λ (i : ℕ). moved s i p) (sym e)
+
+-- a value in front of those that were read to the end, if they were
+onto-ends : (x : Bool) (v w : ℕ) (vs : List ℕ) → w ≡ v
+    → Option·map (v ∷_) (elim x [ true ↦ some vs | false ↦ none ]) ≡ elim x [ true ↦ some (w ∷ vs) | false ↦ none ]
+onto-ends true v w vs e = rw e
+onto-ends false v w vs e = refl
+
+-- tags in ascending order, above one and up to 8
+data Rising : ℕ → List ℕ → Type 0 where
+  top : {u : ℕ} → Rising u []
+  next : {u t : ℕ} {ts : List ℕ} → u < t → t < 9 → Rising t ts → Rising u (t ∷ ts)
+
+rising-from : {u t : ℕ} {ts : List ℕ} → u < t → Rising t ts → Rising u ts
+rising-from h top = top
+rising-from {u = u} h (next {t = x} a b r) = next {u = u} {t = x} (omega arith) b r
+
+module _ (s : List ℕ) (b : Bytes s) where
+  -- where the field stands, its number is followed by what is read behind it
+  reads-on : (at t : ℕ) (ts : List ℕ) → readsAt (t ∷ ts) s at ≡ Option·map (numberOf s at t (width t) ∷_) (readsAt ts s (behind s at t (width t)))
+  unfolding reads isField numberOf behind
+  reads-on at t ts =
+      let w = width t in
+      let go : ℕ → List ℕ → Option (List ℕ) = λ x r. Option·map (x ∷_) (reads ts r) in
+      by-bool (isField s at t w)
+      (λ q.
+      let l = field-room s at t w q in
+      within (t ∷ ts) s at (omega arith) ∙ field-here s b at t go q ∙ rw (q, numberOf, behind, within ts s (at + 3 + w) l))
+      (λ q.
+      let r : Option·map (numberOf s at t w ∷_) (readsAt ts s (behind s at t w)) ≡ none = rw (q, numberOf, behind, lost ts s (suc (length s)) (omega arith)) in
+      by-bool (leb at (length s)) (λ k. within (t ∷ ts) s at (leb-true at (length s) k) ∙ field-gone s b at t go q ∙ sym r)
+      (λ k. lost (t ∷ ts) s at (leb-false at (length s) k) ∙ sym r))
+
+  -- with no field left: the end of the message, or not
+  reads-end : (at : ℕ) → readsAt [] s at ≡ elim (eqb at (length s)) [ true ↦ some [] | false ↦ none ]
+  unfolding reads
+  reads-end at =
+      by-bool (eqb at (length s))
+      (λ q.
+      let h = eqb-true at (length s) q in
+      rw q (within [] s at (omega arith) ∙ rw (drop-of-length-le s {i = at} (omega arith))))
+      (λ q.
+      let h = eqb-false at (length s) q in
+      rw q (by-bool (leb at (length s))
+      (λ k. within [] s at (leb-true at (length s) k) ∙ rw (drop-cons s at 0 (omega (arith, leb-true at (length s) k))))
+      (λ k. lost [] s at (leb-false at (length s) k))))
+
+  -- a place behind fields, one after the other
+  abbrev walks : List ℕ → Place → Place
+  walks [] p = p
+  walks (t ∷ ts) p = walks ts (moved s t p)
+
+  walks-keep : (ts : List ℕ) (p : Place) (u : ℕ) → Rising u ts → value (walks ts p) u ≡ value p u
+  walks-keep [] p u r = refl
+  walks-keep (t ∷ ts) p u (next l m r) = walks-keep ts (moved s t p) u (rising-from l r) ∙ moved-keeps s t p u l
+
+  -- what was read so, to the end: the values of the kind's tags
+  abbrev endsAt : List ℕ → Place → Option (List ℕ)
+  endsAt ts q = elim (eqb (q .at) (length s)) [ true ↦ some (map (value q) ts) | false ↦ none ]
+
+  reads-walk : (k u : ℕ) (ts : List ℕ) (p : Place) → 1 ≤ u → value p 1 ≡ k → length (p .values) ≡ 9 → Rising u ts
+      → readsAt (keep (has k) ts) s (p .at) ≡ endsAt (keep (has k) ts) (walks ts p)
+  unfolding keep moved
+  reads-walk k u [] p o e l r = reads-end (p .at)
+  reads-walk k u (t ∷ ts) p o e l (next a m r) =
+      let z : value (moved s t p) 1 ≡ k = moved-keeps s t p 1 (omega arith) ∙ e in
+      let ih = reads-walk k t ts (moved s t p) (omega arith) z (moved-length s t p ∙ l) r in
+      let q = walks ts (moved s t p) in
+      by-bool (has k t)
+      (λ h.
+      let g : has (value p 1) t ≡ true = rw e h in
+      let v = numberOf s (p .at) t (width t) in
+      let x : moved s t p ≡ record { at = behind s (p .at) t (width t); values = set (p .values) t v } = sym (moved-on s t p g refl refl) in
+      let y : value q t ≡ v = walks-keep ts (moved s t p) t r ∙ rw x (getD-set-same (p .values) t v 0 (omega arith)) in
+      let w : moved s t p .at ≡ behind s (p .at) t (width t) = ap (λ (f : Place). f .at) x in
+      rw (h, keep) (reads-on (p .at) t (keep (has k) ts) ∙ ap (Option·map (v ∷_)) (rw w at ih)
+      ∙ onto-ends (eqb (q .at) (length s)) v (value q t) (map (value q) (keep (has k) ts)) y))
+      (λ h.
+      let g : has (value p 1) t ≡ false = rw e h in
+      let x : moved s t p ≡ p = sym (moved-not s t p g) in
+      rw (h, keep) (rw (ap (λ (f : Place). f .at) x) at ih))
+
+  -- the message of a kind, from the bytes of a place on
+  abbrev bodyAt : ℕ → ℕ → Option Message
+  bodyAt k at = elim (leb at (length s)) [ true ↦ body k (drop at s) | false ↦ none ]
+
+  module _ (k at : ℕ) (row : Row) (q : Place) (r : rowOf k ≡ some row) (e : value q 1 ≡ k) (f : readsAt (row .tags) s at ≡ endsAt (row .tags) q) where
+    makes : List ℕ → Message
+    makes us = row .make (λ i. getD us i 0)
+
+    body-reads : bodyAt k at ≡ Option·map makes (readsAt (row .tags) s at)
+    unfolding body makes
+    body-reads = by-bool (leb at (length s)) (λ z. rw (z, bodyAt, readsAt, r, body)) (λ z. rw (z, bodyAt, readsAt))
+
+    row-read : makes (map (value q) (row .tags)) ≡ row .make (λ i. value q (getD (row .tags) i 0)) → ended s q ≡ bodyAt k at
+    unfolding ended made
+    row-read g =
+        by-bool (eqb (q .at) (length s))
+        (λ z.
+        let h : readsAt (row .tags) s at ≡ some (map (value q) (row .tags)) = f ∙ rw (z, endsAt) in
+        rw (z, ended, made, e, r, made) (sym (body-reads ∙ ap (Option·map makes) h ∙ ap some g)))
+        (λ z.
+        let h : readsAt (row .tags) s at ≡ none = f ∙ rw (z, endsAt) in
+        rw (z, ended) (sym (body-reads ∙ ap (Option·map makes) h)))
+
+  none-read : (k at : ℕ) (q : Place) → rowOf k ≡ none → value q 1 ≡ k → ended s q ≡ bodyAt k at
+  unfolding ended made body
+  none-read k at q r e =
+      let x : ended s q ≡ none = by-bool (eqb (q .at) (length s)) (λ z. rw (z, ended, made, e, r, made)) (λ z. rw (z, ended)) in
+      let y : bodyAt k at ≡ none = by-bool (leb at (length s)) (λ z. rw (z, bodyAt, r, body)) (λ z. rw (z, bodyAt)) in
+      x ∙ sym y
+
+  -- the tags after the first
+  abbrev others : List ℕ
+  others = 2 ∷ 3 ∷ 4 ∷ 5 ∷ 6 ∷ 7 ∷ 8 ∷ []
+
+  rising : Rising 1 others
+  rising =
+      next {u = 1} {t = 2} (omega arith) (omega arith) (next {u = 2} {t = 3} (omega arith) (omega arith) (next {u = 3} {t = 4} (omega arith) (omega arith)
+      (next {u = 4} {t = 5} (omega arith) (omega arith) (next {u = 5} {t = 6} (omega arith) (omega arith) (next {u = 6} {t = 7} (omega arith) (omega arith)
+      (next {u = 7} {t = 8} (omega arith) (omega arith) top))))))
+
+  kind-read : (k at : ℕ) (q : Place) → value q 1 ≡ k → readsAt (keep (has k) others) s at ≡ endsAt (keep (has k) others) q → ended s q ≡ bodyAt k at
+  unfolding keep has any tagsOf rowOf table makes
+  kind-read zero at q e f = none-read 0 at q refl e
+  kind-read (suc zero) at q e f = row-read 1 at _ q refl e f refl
+  kind-read (suc (suc zero)) at q e f = row-read 2 at _ q refl e f refl
+  kind-read (suc (suc (suc zero))) at q e f = row-read 3 at _ q refl e f refl
+  kind-read (suc (suc (suc (suc zero)))) at q e f = row-read 4 at _ q refl e f refl
+  kind-read (suc (suc (suc (suc (suc zero))))) at q e f = row-read 5 at _ q refl e f refl
+  kind-read (suc (suc (suc (suc (suc (suc zero)))))) at q e f = row-read 6 at _ q refl e f refl
+  kind-read (suc (suc (suc (suc (suc (suc (suc k))))))) at q e f = none-read (suc (suc (suc (suc (suc (suc (suc k))))))) at q refl e
+
+  -- the kind, and the message of that kind behind it
+  read-body : bodyAt (numberOf s 0 1 1) (behind s 0 1 1) ≡ read s
+  unfolding read isField width numberOf behind
+  read-body =
+      by-bool (isField s 0 1 1)
+      (λ q.
+      let l : 4 ≤ length s = field-room s 0 1 1 q in
+      let k-is : numberOf s 0 1 1 ≡ number s 3 1 = rw (q, numberOf) in
+      let n-is : behind s 0 1 1 ≡ 4 = rw (q, behind) in
+      ap₂ (λ (x y : ℕ). bodyAt x y) k-is n-is ∙ rw (le-leb 4 (length s) l, bodyAt) (sym (field-here s b 0 1 body q)))
+      (λ q.
+      let n-is : behind s 0 1 1 ≡ suc (length s) = rw (q, behind) in
+      ap (bodyAt (numberOf s 0 1 1)) n-is ∙ rw (lt-leb (suc (length s)) (length s) (omega arith), bodyAt) (sym (field-gone s b 0 1 body q)))
+
+  -- what a reader has behind all fields is what is read
+  pub walked-read : ended s (walked s 8) ≡ read s
+  unfolding walked moved has any width
+  walked-read =
+      let k = numberOf s 0 1 1 in
+      let n = behind s 0 1 1 in
+      let p : Place = record { at = n; values = 0 ∷ k ∷ 0 ∷ 0 ∷ 0 ∷ 0 ∷ 0 ∷ 0 ∷ 0 ∷ [] } in
+      kind-read k n (walks others p) (walks-keep others p 1 rising) (reads-walk k 1 others p (omega arith) refl refl rising) ∙ read-body

@@ -1,2 +1,2 @@
-pub mod Meaning
 pub mod Fields
+pub mod Meaning

@@ -2,15 +2,18 @@
 use Prim.Native.Nat.{ℕ, _^_, _<_}
 use mathlib.Core.Path.{_≡_}
 use mathlib.Core.Bool.{true}
+use mathlib.Core.List.{[], _∷_}
 use mathlib.Core.Option.{Option, none, some}
 use Rattle.fields.specs.Names.{nameOf}
 use Rattle.rules.specs.Messages as messages
 use Rattle.rules.specs.Messages.{vote, blame, blameSet, status}
 use Rattle.rules.specs.Words as words
 use Rattle.rules.specs.Words.{message}
+use Rattle.wire.specs.Fields.{Place}
 use Rattle.wire.specs.declared.Statement.{Statement}
 use Rattle.wire.specs.declared.Message.{Message}
 use Rattle.wire.specs.declared.Message.the-variants.{Stated, Vote, Blame, BlameSet, Status}
+use Rattle.wire.specs.declared.reader.Cursor.{Cursor}
 use Rattle.wire.specs.declared.Read.{Read}
 use Rattle.wire.specs.declared.Read.the-variants.{Readable, Unreadable}
 
@@ -50,8 +53,25 @@ Writable (Blame v a) = Unit
 Writable (BlameSet v m) = Unit
 Writable (Status h b c m) = Unit
 
--- the answer of each case: a message, or refusal 4
+-- a cursor: its place, and the values by their tags
+unfoldable pub placeOf : Cursor → Place
+unfolding nameOf
+placeOf c =
+    record {
+      at = c .at;
+      values = 0 ∷ c .kind ∷ c .view ∷ c .height ∷ nameOf (c .name) ∷ nameOf (c .parent) ∷ c .cert ∷ c .mask ∷ c .author ∷ [];
+    }
+
+-- the number that the paper gives to each case, 0 where there is a message, and the message: "4 unreadable message"
+pub record Answer : Type 0 where
+  pub number : ℕ
+  pub message : Option messages.Message
+
+abbrev pub answerOf : Read → Answer
+answerOf (Readable m) = record { number = 0; message = some (messageOf m) }
+answerOf Unreadable = record { number = 4; message = none }
+
+-- the message of the answer, if any
 unfoldable pub readOf : Read → Option messages.Message
 unfolding messageOf
-readOf (Readable m) = some (messageOf m)
-readOf Unreadable = none
+readOf r = answerOf r .message

@@ -53,16 +53,5 @@ pub enum Read {
 pub fn read_message(message: &[u8]) -> Read
     ensures { λ r. ⌜ readOf r ≡ read (now (message .entry)) ⌝ }
 {
-    let kind = reader::read_number(message, 0, 1, 1);
-    let at = kind.next;
-    let number = kind.value;
-    match number {
-        1 => kinds::new_view(message, at),
-        2 => kinds::propose(message, at),
-        3 => kinds::vote(message, at),
-        4 => kinds::blame(message, at),
-        5 => kinds::blame_set(message, at),
-        6 => kinds::status(message, at),
-        _ => Read::Unreadable,
-    }
+    reader::walk(message)
 }

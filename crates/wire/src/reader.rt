@@ -1,26 +1,42 @@
-// Fields at places of a message. Where a field isn't there, the answer is 0 and a place past the end, from which nothing is read.
+// Reading field by field: one reader walks a message from its first field to its end.
+use super::Read;
+use super::kinds;
 use fields::Name;
 ghost use mathlib.Core.Path.{_≡_};
 ghost use Prim.Native.Nat.{_≤_};
 ghost use Rattle.fields.specs.Names.{nameOf};
-ghost use Rattle.wire.specs.Fields.{isField, NumberAt, NameAt};
+ghost use Rattle.wire.specs.Fields.{isField, Found, has as contains, start, moved, walked, ended};
+ghost use Rattle.wire.specs.Meaning.{placeOf, readOf};
+
+// A place in a message, and the values that were read before it, 0 where none was.
+pub struct Cursor {
+    pub at: usize,
+    pub kind: u8,
+    pub view: u32,
+    pub height: u32,
+    pub name: Name,
+    pub parent: Name,
+    pub cert: u32,
+    pub mask: u16,
+    pub author: u8,
+}
 
 // A reader keeps the message and its place in it.
 pub struct Reader<'a> {
     pub message: &'a [u8],
-    pub at: usize,
+    pub cursor: Cursor,
 }
 
-// A number that was read, and the place after its field.
-pub struct Number {
-    pub value: u64,
-    pub next: usize,
+// A number that was read, and the place behind its field.
+struct Number {
+    value: u64,
+    next: usize,
 }
 
-// A name that was read, and the place after its field.
-pub struct Named {
-    pub value: Name,
-    pub next: usize,
+// A name that was read, and the place behind its field.
+struct Named {
+    value: Name,
+    next: usize,
 }
 
 // Whether a field of this tag and width stands at a place.
@@ -38,16 +54,11 @@ fn stands(s: &[u8], at: usize, tag: u8, width: usize) -> bool
     fields::get(s, at, 3) == (tag as u64) * 65_536 + width as u64
 }
 
-// The number of a field at a place.
+// The number of a field at a place. Where it isn't there: 0, and a place past the end, from which nothing is read.
 fn number_at(s: &[u8], at: usize, tag: u8, width: usize) -> Number
-    ensures { λ r. ⌜ NumberAt (now (s .entry)) at tag width (r .value) (r .next) ⌝ }
+    requires { ⌜ width ≤ 8 ⌝ }
+    ensures { λ r. ⌜ Found (now (s .entry)) at tag width (r .value) (r .next) ⌝ }
 {
-    if 8 < width {
-        return Number {
-            value: 0,
-            next: s.len() + 1,
-        };
-    }
     if stands(s, at, tag, width) {
         let from = at + 3;
         let value = fields::get(s, from, width);
@@ -62,9 +73,9 @@ fn number_at(s: &[u8], at: usize, tag: u8, width: usize) -> Number
     }
 }
 
-// The name of a field at a place.
+// The name of a field at a place, likewise.
 fn name_at(s: &[u8], at: usize, tag: u8) -> Named
-    ensures { λ r. ⌜ NameAt (now (s .entry)) at tag (nameOf (r .value)) (r .next) ⌝ }
+    ensures { λ r. ⌜ Found (now (s .entry)) at tag 32 (nameOf (r .value)) (r .next) ⌝ }
 {
     if stands(s, at, tag, 32) {
         let from = at + 3;
@@ -81,39 +92,174 @@ fn name_at(s: &[u8], at: usize, tag: u8) -> Named
     }
 }
 
+// Whether a message of a kind has a field of a tag; every message has its kind.
+fn has(kind: u8, tag: u8) -> bool
+    ensures { λ r. ⌜ r ≡ contains kind tag ⌝ }
+{
+    match kind {
+        1 => (tag == 1)
+            | (tag == 2)
+            | (tag == 3)
+            | (tag == 4)
+            | (tag == 6)
+            | (tag == 7)
+            | (tag == 8),
+        2 => (tag == 1)
+            | (tag == 2)
+            | (tag == 3)
+            | (tag == 4)
+            | (tag == 5)
+            | (tag == 7)
+            | (tag == 8),
+        3 => (tag == 1) | (tag == 2) | (tag == 3) | (tag == 4) | (tag == 8),
+        4 => (tag == 1) | (tag == 2) | (tag == 8),
+        5 => (tag == 1) | (tag == 2) | (tag == 7),
+        6 => (tag == 1) | (tag == 3) | (tag == 4) | (tag == 6) | (tag == 7),
+        _ => tag == 1,
+    }
+}
+
+// The cursor behind the field of a tag, with its value; where the kind has no such field, the same cursor.
+fn field_at(s: &[u8], mut cursor: Cursor, tag: u8) -> Cursor
+    ensures { λ r. ⌜ placeOf r ≡ moved (now (s .entry)) tag (placeOf cursor) ⌝ }
+{
+    let at = cursor.at;
+    if !has(cursor.kind, tag) {
+        return cursor;
+    }
+    match tag {
+        1 => {
+            let found = number_at(s, at, 1, 1);
+            cursor.kind = found.value as u8;
+            cursor.at = found.next;
+            cursor
+        }
+        2 => {
+            let found = number_at(s, at, 2, 4);
+            cursor.view = found.value as u32;
+            cursor.at = found.next;
+            cursor
+        }
+        3 => {
+            let found = number_at(s, at, 3, 4);
+            cursor.height = found.value as u32;
+            cursor.at = found.next;
+            cursor
+        }
+        4 => {
+            let found = name_at(s, at, 4);
+            let name = found.value;
+            let parent = cursor.parent;
+            Cursor {
+                at: found.next,
+                kind: cursor.kind,
+                view: cursor.view,
+                height: cursor.height,
+                name,
+                parent,
+                cert: cursor.cert,
+                mask: cursor.mask,
+                author: cursor.author,
+            }
+        }
+        5 => {
+            let found = name_at(s, at, 5);
+            let name = cursor.name;
+            let parent = found.value;
+            Cursor {
+                at: found.next,
+                kind: cursor.kind,
+                view: cursor.view,
+                height: cursor.height,
+                name,
+                parent,
+                cert: cursor.cert,
+                mask: cursor.mask,
+                author: cursor.author,
+            }
+        }
+        6 => {
+            let found = number_at(s, at, 6, 4);
+            cursor.cert = found.value as u32;
+            cursor.at = found.next;
+            cursor
+        }
+        7 => {
+            let found = number_at(s, at, 7, 2);
+            cursor.mask = found.value as u16;
+            cursor.at = found.next;
+            cursor
+        }
+        _ => {
+            let found = number_at(s, at, 8, 1);
+            cursor.author = found.value as u8;
+            cursor.at = found.next;
+            cursor
+        }
+    }
+}
+
+impl Cursor {
+    // The first place of a message.
+    pub fn start() -> Cursor
+        ensures { λ r. ⌜ placeOf r ≡ start ⌝ }
+    {
+        let name = Name::zero();
+        let parent = Name::zero();
+        Cursor {
+            at: 0,
+            kind: 0,
+            view: 0,
+            height: 0,
+            name,
+            parent,
+            cert: 0,
+            mask: 0,
+            author: 0,
+        }
+    }
+}
+
 impl<'a> Reader<'a> {
-    // A reader of a message, at a place in it.
-    pub fn new(message: &'a [u8], at: usize) -> Reader<'a>
-        ensures { λ r. ⌜ (r .message ≡ message .entry) × (r .at ≡ at) ⌝ }
+    // A reader at the first place of a message.
+    pub fn new(message: &'a [u8]) -> Reader<'a>
+        ensures { λ r. ⌜ (r .message ≡ message .entry) × (placeOf (r .cursor) ≡ start) ⌝ }
     {
-        Reader { message, at }
+        let cursor = Cursor::start();
+        Reader { message, cursor }
     }
 
-    // The number of the field at its place.
-    pub fn number(self, tag: u8, width: usize) -> Number
-        ensures { λ r. ⌜ NumberAt (now (self .entry .message)) (self .entry .at) tag width (r .value) (r .next) ⌝ }
+    // The reader behind the field of a tag, with its value, if the kind has one.
+    pub fn field(self, tag: u8) -> Reader<'a>
+        ensures { λ r. ⌜ (r .message ≡ self .entry .message) × (placeOf (r .cursor) ≡ moved (now (self .entry .message)) tag (placeOf (self .entry .cursor))) ⌝ }
     {
-        number_at(self.message, self.at, tag, width)
+        let cursor = field_at(self.message, self.cursor, tag);
+        Reader {
+            message: self.message,
+            cursor,
+        }
     }
 
-    // The name of the field at its place.
-    pub fn name(self, tag: u8) -> Named
-        ensures { λ r. ⌜ NameAt (now (self .entry .message)) (self .entry .at) tag (nameOf (r .value)) (r .next) ⌝ }
+    // At the end of the message, the message of the values that were read.
+    pub fn end(self) -> Read
+        ensures { λ r. ⌜ readOf r ≡ ended (now (self .entry .message)) (placeOf (self .entry .cursor)) ⌝ }
     {
-        name_at(self.message, self.at, tag)
+        kinds::message_at(self.message, self.cursor)
     }
 }
 
-// The number of the field at a place, through a reader.
-pub fn read_number(message: &[u8], at: usize, tag: u8, width: usize) -> Number
-    ensures { λ r. ⌜ NumberAt (now (message .entry)) at tag width (r .value) (r .next) ⌝ }
+// One reader walks the message from its first field to its end: fields stand in ascending tag order.
+pub fn walk(message: &[u8]) -> Read
+    ensures { λ r. ⌜ readOf r ≡ ended (now (message .entry)) (walked (now (message .entry)) 8) ⌝ }
 {
-    Reader::new(message, at).number(tag, width)
-}
-
-// The name of the field at a place, through a reader.
-pub fn read_name(message: &[u8], at: usize, tag: u8) -> Named
-    ensures { λ r. ⌜ NameAt (now (message .entry)) at tag (nameOf (r .value)) (r .next) ⌝ }
-{
-    Reader::new(message, at).name(tag)
+    Reader::new(message)
+        .field(1)
+        .field(2)
+        .field(3)
+        .field(4)
+        .field(5)
+        .field(6)
+        .field(7)
+        .field(8)
+        .end()
 }

@@ -1,6 +1,5 @@
 -- `acts::blame_full` meets its contract. Assumes nothing.
-use Rattle.rules.proofs.Allowed.{view-within}
-use Rattle.acts.proofs.Stores.{blame-quorum}
+use Rattle.acts.proofs.Stores.{view-in, blame-quorum}
 use Rattle.store.proofs.Forms.{form-long}
 use Rattle.rules.specs.Sizes.{quorum}
 use Rattle.settings.specs.Made.{settingsOf}
@@ -12,15 +11,15 @@ use Rattle.acts.proofs.blame_full.Tie as tie
 
 load-requires : tie.Need-load-requires
 load-requires c κs =
-    form-long _ (c .before .pre .0)
+    omega (arith, form-long _ (c .before .pre .0))
 
 sub-blame-at : tie.Need-sub-blame-at
 sub-blame-at c =
-    view-within (c .before .before .before .args .view) (c .before .before .before .pre .1) .0
+    view-in (c .before .before .before .args .store .now) (c .before .before .before .args .view) (c .before .before .before .pre .1) .0
 
 blame-at-requires : tie.Need-blame-at-requires
 blame-at-requires c κs =
-    (form-long _ (c .before .before .before .pre .0), omega (arith, view-within (c .before .before .before .args .view) (c .before .before .before .pre .1)))
+    (form-long _ (c .before .before .before .pre .0), omega (arith, view-in (c .before .before .before .args .store .now) (c .before .before .before .args .view) (c .before .before .before .pre .1)))
 
 cast-quorum : tie.Need-cast-quorum
 cast-quorum c = search needs

@@ -1,5 +1,5 @@
 -- `acts::blaming` meets its contract. Assumes nothing.
-use Rattle.rules.proofs.Allowed.{view-within}
+use Rattle.acts.proofs.Stores.{view-in, view-blamed}
 use Rattle.store.specs.Decode.{stateOf}
 use Rattle.acts.proofs.Blames.{goes-on-outside, goes-on-with-few, quits-with-set}
 use Rattle.acts.proofs.Works.{formed-parts, left-formed}
@@ -12,7 +12,7 @@ use Rattle.acts.proofs.blaming.Tie as tie
 
 join-blame-requires : tie.Need-join-blame-requires
 join-blame-requires c κs =
-    let w = view-within (c .before .before .before .args .view) (c .before .before .before .pre .1) in (c .before .before .before .pre .0 .form, w .0, w .1)
+    let w = view-in (c .before .before .before .args .store .now) (c .before .before .before .args .view) (c .before .before .before .pre .1) in (c .before .before .before .pre .0 .form, w .0, w .1)
 
 is-in-requires : tie.Need-is-in-requires
 is-in-requires c κs =
@@ -27,7 +27,7 @@ returns c =
 
 blame-full-requires : tie.Need-blame-full-requires
 blame-full-requires c κs =
-    (c .before .before .before .before .before .before .join-blame .ensures .form, c .before .before .before .before .before .before .before .before .before .before .pre .1)
+    (c .before .before .before .before .before .before .join-blame .ensures .form, view-blamed _ (c .before .before .before .before .before .before .before .before .before .before .args .view) (c .before .before .before .before .before .before .before .before .before .before .args .mask) (c .before .before .before .before .before .before .join-blame .ensures) (c .before .before .before .before .before .before .before .before .before .before .pre .1))
 
 same-length-2 : tie.Need-same-length-2
 same-length-2 c = search needs
@@ -38,7 +38,7 @@ returns-2 c =
 
 quit-with-set-requires : tie.Need-quit-with-set-requires
 quit-with-set-requires c κs =
-    (left-formed (c .before .before .before .before .before .before .before .before .before .before .join-blame .ensures) (blamed-formed (formed-parts (c .before .before .before .before .before .before .before .before .before .before .before .before .before .before .pre .0) .formed) (c .before .before .before .before .before .before .before .before .before .before .before .before .before .before .args .view) (c .before .before .before .before .before .before .before .before .before .before .before .before .before .before .args .mask) (c .before .before .before .before .before .before .before .before .before .before .before .before .before .before .pre .1) (c .before .before .before .before .before .before .before .before .before .before .before .before .before .before .pre .2)), c .before .before .before .before .before .before .before .before .before .before .before .before .before .before .pre .1, c .before .before .before .before .before .before .before .before .before .before .before .before .before .before .pre .3)
+    (left-formed (c .before .before .before .before .before .before .before .before .before .before .join-blame .ensures) (blamed-formed (formed-parts (c .before .before .before .before .before .before .before .before .before .before .before .before .before .before .pre .0) .formed) (c .before .before .before .before .before .before .before .before .before .before .before .before .before .before .args .view) (c .before .before .before .before .before .before .before .before .before .before .before .before .before .before .args .mask) (c .before .before .before .before .before .before .before .before .before .before .before .before .before .before .pre .1) (c .before .before .before .before .before .before .before .before .before .before .before .before .before .before .pre .2)), view-blamed _ (c .before .before .before .before .before .before .before .before .before .before .before .before .before .before .args .view) (c .before .before .before .before .before .before .before .before .before .before .before .before .before .before .args .mask) (c .before .before .before .before .before .before .before .before .before .before .join-blame .ensures) (c .before .before .before .before .before .before .before .before .before .before .before .before .before .before .pre .1), c .before .before .before .before .before .before .before .before .before .before .before .before .before .before .pre .3)
 
 same-length-3 : tie.Need-same-length-3
 same-length-3 c = search needs

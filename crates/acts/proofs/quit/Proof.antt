@@ -1,5 +1,6 @@
 -- `acts::quit` meets its contract. Assumes nothing.
 use Rattle.acts.proofs.Stores.{quit-fits, quit-left}
+use native.Mathlib.Omega.{arith}
 use Rattle.store.proofs.Forms.{form-long}
 use borrow.Author.Needs.{needs}
 use Rattle.acts.proofs.quit.Statement.{statement}
@@ -7,7 +8,7 @@ use Rattle.acts.proofs.quit.Tie as tie
 
 load-requires : tie.Need-load-requires
 load-requires c κs =
-    form-long _ (c .before .before .pre .form)
+    omega (arith, form-long _ (c .before .before .pre .form))
 
 set-phase-requires : tie.Need-set-phase-requires
 set-phase-requires c κs =

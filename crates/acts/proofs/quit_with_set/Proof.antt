@@ -1,7 +1,6 @@
 -- `acts::quit_with_set` meets its contract. Assumes nothing.
-use Rattle.rules.proofs.Allowed.{view-within}
 use Rattle.acts.proofs.Works.{set-bytes, works-quit}
-use Rattle.acts.proofs.Stores.{blame-place}
+use Rattle.acts.proofs.Stores.{view-in, blame-place}
 use Rattle.store.proofs.Forms.{form-long}
 use Rattle.store.specs.Decode.{stateOf}
 use Rattle.outgoing.proofs.Writing.{says-one}
@@ -17,11 +16,11 @@ use Rattle.acts.proofs.quit_with_set.Tie as tie
 
 sub-blame-at : tie.Need-sub-blame-at
 sub-blame-at c =
-    view-within (c .before .before .before .args .view) (c .before .before .before .pre .1) .0
+    view-in (c .before .before .before .args .store .now) (c .before .before .before .args .view) (c .before .before .before .pre .1) .0
 
 blame-at-requires : tie.Need-blame-at-requires
 blame-at-requires c κs =
-    (form-long _ (c .before .before .before .pre .0 .form), omega (arith, view-within (c .before .before .before .args .view) (c .before .before .before .pre .1)))
+    (form-long _ (c .before .before .before .pre .0 .form), omega (arith, view-in (c .before .before .before .args .store .now) (c .before .before .before .args .view) (c .before .before .before .pre .1)))
 
 quit-requires : tie.Need-quit-requires
 quit-requires c κs = search needs

@@ -9,10 +9,11 @@ use Rattle.acts.specs.declared.Plan.the-variants.{Repeat, New, Full}
 use Rattle.kept.proofs.Tables.{stored-formed}
 use Rattle.rules.proofs.Tests.{no-bool}
 use Rattle.store.proofs.Loaded.{loaded-statements}
+use native.Mathlib.Omega.{arith}
 use Rattle.store.proofs.Forms.{form-long}
-use Rattle.store.specs.Meaning.{tallyOf}
 use Rattle.store.specs.Decode.{stateOf}
 use Rattle.wire.specs.Meaning.{statementOf}
+use Rattle.words.specs.Meaning.{blockOf}
 use mathlib.Core.Option.{none}
 use mathlib.Core.Path.{sym, ap, _∙_}
 use borrow.Author.Needs.{needs}
@@ -22,8 +23,8 @@ use Rattle.acts.proofs.statement.Tie as tie
 enum-told : tie.Need-enum-told
 enum-told c = search needs
 
-certificate-requires : tie.Need-certificate-requires
-certificate-requires c κs =
+certificate-of-requires : tie.Need-certificate-of-requires
+certificate-of-requires c κs =
     let start = c .before .before .before .before .before in
     sendable-certifies (stateOf (start .args .store .now) .settings) (start .args .x) (start .pre .1)
 
@@ -32,14 +33,14 @@ join-certificate-requires c κs =
     let start = c .before .before .before .before .before .before in
     let x = statementOf (start .args .x) none in
     let repeats = plan-tells x (stateOf (start .args .store .now)) Repeat (sym (c .before .before .enum-told .given .1) ∙ start .pre .3) in
-    (start .pre .0 .form, repeat-fits (start .pre .0) x (tallyOf (c .certificate .result)) (c .certificate .ensures) repeats)
+    (start .pre .0 .form, repeat-fits (start .pre .0) x (blockOf (c .certificate-of .result)) (c .certificate-of .ensures) repeats)
 
 enum-known-plan : tie.Need-enum-known-plan
 enum-known-plan c = search needs
 
 load-requires : tie.Need-load-requires
 load-requires c κs =
-    form-long _ (c .before .before .before .before .before .before .pre .0 .form)
+    omega (arith, form-long _ (c .before .before .before .before .before .before .pre .0 .form))
 
 store-new-requires : tie.Need-store-new-requires
 store-new-requires c κs =
@@ -67,10 +68,10 @@ returns c =
     let start = c .before .before .before .before .before .before .before .before .before in
     let s = stateOf (start .args .store .now) in
     let x = statementOf (start .args .x) none in
-    let certificate = c .before .before .before .certificate in
+    let certificate = c .before .before .before .certificate-of in
     let repeats = plan-tells x s Repeat (sym (c .before .before .before .before .before .enum-told .given .1) ∙ start .pre .3) in
     works-is (statement-repeat x s repeats)
-    (works-none (start .args .out .now) (start .args .at) (repeat-left (start .pre .0) x (tallyOf (certificate .result)) (certificate .ensures) (c .before .before .join-certificate .ensures)))
+    (works-none (start .args .out .now) (start .args .at) (repeat-left (start .pre .0) x (blockOf (certificate .result)) (certificate .ensures) (c .before .before .join-certificate .ensures)))
 
 same-length-2 : tie.Need-same-length-2
 same-length-2 c = search needs
@@ -99,7 +100,7 @@ statement-spec =
     tie.close
     (tie.spec
     enum-told
-    certificate-requires
+    certificate-of-requires
     join-certificate-requires
     enum-known-plan
     load-requires

@@ -3,11 +3,12 @@ use Rattle.acts.proofs.Plans.{needed-few, tallied-full, tallied-fits, t
 use Rattle.acts.specs.Plans.{needed}
 use Rattle.store.proofs.Loaded.{loaded-tallies}
 use Rattle.store.proofs.Forms.{form-long, form-tallies}
-use Rattle.store.specs.Meaning.{tallyOf}
+use Rattle.words.specs.Meaning.{blockOf}
 use native.Mathlib.Omega.{arith}
 use Prim.Native.Nat.{_+_}
 use mathlib.Core.Path.{ap₂}
 use borrow.Author.Needs.{needs}
+use Rattle.store.specs.Meaning.{votersOf}
 use Rattle.acts.proofs.tallied.Statement.{statement}
 use Rattle.acts.proofs.tallied.Tie as tie
 
@@ -16,43 +17,46 @@ find-certificate-requires c κs = search needs
 
 load-requires : tie.Need-load-requires
 load-requires c κs =
-    form-long _ (c .before .before .before .before .pre)
+    omega (arith, form-long _ (c .before .before .before .before .pre .0))
+
+most-tallies-in-requires : tie.Need-most-tallies-in-requires
+most-tallies-in-requires c κs = search needs
 
 needed-requires : tie.Need-needed-requires
 needed-requires c κs = search needs
 
 add-if1 : tie.Need-add-if1
 add-if1 c =
-    let start = c .before .before .before .before .before .before .before in
-    let load = c .before .before .load in
-    omega (arith, loaded-tallies (load .result) (start .args .store .now) (load .ensures), form-tallies _ (start .pre), c .before .needed .ensures, needed-few (tallyOf (start .args .tally)) (c .before .before .before .before .find-certificate .result))
+    let start = c .before .before .before .before .before .before .before .before .before in
+    let load = c .before .before .before .before .load in
+    omega (arith, loaded-tallies (load .result) (start .args .store .now) (load .ensures), form-tallies _ (start .pre .0), c .before .needed .ensures, needed-few (blockOf (start .args .block)) (c .before .before .before .before .before .before .find-certificate .result))
 
 same-length : tie.Need-same-length
 same-length c = search needs
 
 returns : tie.Need-returns
 returns c =
-    let start = c .before .before .before .before .before .before .before .before in
-    let found = c .before .before .before .before .before .find-certificate in
-    let load = c .before .before .before .load in
-    tallied-full (start .pre) (tallyOf (start .args .tally)) (found .result) (found .ensures) _ (ap₂ _+_ (loaded-tallies (load .result) (start .args .store .now) (load .ensures)) (c .before .before .needed .ensures)) (c .if1 .taken)
+    let start = c .before .before .before .before .before .before .before .before .before .before in
+    let found = c .before .before .before .before .before .before .before .find-certificate in
+    let load = c .before .before .before .before .before .load in
+    tallied-full (start .pre .0) (blockOf (start .args .block)) (votersOf (start .args .voters)) (found .result) (found .ensures) _ (ap₂ _+_ (loaded-tallies (load .result) (start .args .store .now) (load .ensures)) (c .before .before .needed .ensures)) (omega (arith, c .if1 .taken, c .before .before .before .most-tallies-in .ensures))
 
 join-certified-requires : tie.Need-join-certified-requires
 join-certified-requires c κs =
-    let start = c .before .before .before .before .before .before .before .before .before in
-    let found = c .before .before .before .before .before .before .find-certificate in
-    let load = c .before .before .before .before .load in
-    (start .pre, tallied-fits (start .pre) (tallyOf (start .args .tally)) (found .result) (found .ensures) _ (ap₂ _+_ (loaded-tallies (load .result) (start .args .store .now) (load .ensures)) (c .before .before .before .needed .ensures)) (omega (arith, c .before .if1 .left)), found .ensures)
+    let start = c .before .before .before .before .before .before .before .before .before .before .before in
+    let found = c .before .before .before .before .before .before .before .before .find-certificate in
+    let load = c .before .before .before .before .before .before .load in
+    (start .pre .0, tallied-fits (start .pre .0) (blockOf (start .args .block)) (votersOf (start .args .voters)) (found .result) (found .ensures) _ (ap₂ _+_ (loaded-tallies (load .result) (start .args .store .now) (load .ensures)) (c .before .before .before .needed .ensures)) (omega (arith, c .before .if1 .left, c .before .before .before .before .most-tallies-in .ensures)), found .ensures, start .pre .1)
 
 same-length-2 : tie.Need-same-length-2
 same-length-2 c = search needs
 
 returns-2 : tie.Need-returns-2
 returns-2 c =
-    let start = c .before .before .before .before .before .before .before .before .before .before .before .before in
-    let found = c .before .before .before .before .before .before .before .before .before .find-certificate in
-    let load = c .before .before .before .before .before .before .before .load in
-    tallied-done (start .pre) (tallyOf (start .args .tally)) (found .result) (found .ensures) _ (ap₂ _+_ (loaded-tallies (load .result) (start .args .store .now) (load .ensures)) (c .before .before .before .before .before .before .needed .ensures)) (omega (arith, c .before .before .before .before .if1 .left)) (c .before .before .join-certified .ensures)
+    let start = c .before .before .before .before .before .before .before .before .before .before .before .before .before .before in
+    let found = c .before .before .before .before .before .before .before .before .before .before .before .find-certificate in
+    let load = c .before .before .before .before .before .before .before .before .before .load in
+    tallied-done (start .pre .0) (blockOf (start .args .block)) (votersOf (start .args .voters)) (found .result) (found .ensures) _ (ap₂ _+_ (loaded-tallies (load .result) (start .args .store .now) (load .ensures)) (c .before .before .before .before .before .before .needed .ensures)) (omega (arith, c .before .before .before .before .if1 .left, c .before .before .before .before .before .before .before .most-tallies-in .ensures)) (c .before .before .join-certified .ensures)
 
 pub tallied-spec : {M : Type 1} → statement M
 tallied-spec =
@@ -60,6 +64,7 @@ tallied-spec =
     (tie.spec
     find-certificate-requires
     load-requires
+    most-tallies-in-requires
     needed-requires
     add-if1
     same-length

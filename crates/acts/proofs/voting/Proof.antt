@@ -1,19 +1,21 @@
 -- `acts::voting` meets its contract. Assumes nothing.
 use Rattle.fields.specs.Names.{nameOf}
-use Rattle.acts.proofs.Votes.{voting-below, voting-cast, ballot-is, loaded-own, own-small, only-small, loaded-below}
-use Rattle.acts.proofs.Places.{sendable-certifies, sendable-linked, place-sendable, place-voted, place-room, place-found}
+use Rattle.acts.proofs.Votes.{voting-below, voting-cast, ballot-is, loaded-own, own-small, loaded-below}
+use Rattle.store.specs.Changes.{withVoters}
+use Rattle.acts.proofs.Places.{voter-block, sendable-certifies, sendable-linked, place-sendable, place-voted, place-room, place-found}
 use Rattle.acts.proofs.Works.{formed-parts, ballot-bytes, works-is, works-none, works-saying}
 use Rattle.kept.proofs.Facts.{clocks-of}
 use Rattle.store.proofs.Loaded.{loaded-clock}
 use Rattle.store.proofs.Forms.{form-long}
-use Rattle.store.specs.Meaning.{tallyOf}
 use Rattle.store.specs.Decode.{stateOf}
 use Rattle.wire.specs.Meaning.{statementOf, messageOf}
 use Rattle.rules.specs.Inputs.{ballot}
 use Rattle.rules.specs.Words.{ownBlock}
 use Rattle.rules.specs.Sizes.{only}
+use Rattle.words.specs.Meaning.{blockOf}
 use mathlib.Core.Option.{none}
 use native.Mathlib.Omega.{arith}
+use Prim.Native.Nat.{ℕ}
 use mathlib.Core.Path.{refl, sym, ap, _∙_}
 use borrow.Author.Needs.{needs}
 use Rattle.acts.proofs.voting.Statement.{statement}
@@ -21,7 +23,7 @@ use Rattle.acts.proofs.voting.Tie as tie
 
 load-requires : tie.Need-load-requires
 load-requires c κs =
-    form-long _ (c .before .before .before .pre .0 .form)
+    omega (arith, form-long _ (c .before .before .before .pre .0 .form))
 
 below-lock-requires : tie.Need-below-lock-requires
 below-lock-requires c κs =
@@ -38,35 +40,35 @@ returns c =
 
 note-vote-requires : tie.Need-note-vote-requires
 note-vote-requires c κs =
-    (c .before .before .before .before .before .before .before .before .before .pre .0 .form, c .before .before .before .before .before .before .before .before .before .pre .1 .within, omega (arith, loaded-clock (c .before .before .before .before .before .load .result) (c .before .before .before .before .before .before .before .before .before .args .store .now) (c .before .before .before .before .before .load .ensures), clocks-of (formed-parts (c .before .before .before .before .before .before .before .before .before .pre .0) .formed) .last))
-
-only-requires : tie.Need-only-requires
-only-requires c κs =
-    own-small (c .before .before .before .before .before .before .before .before .before .before .before .before .before .pre .0) (c .before .before .before .before .before .before .before .before .before .load .result) (c .before .before .before .before .before .before .before .before .before .load .ensures)
-
-cast-own-block : tie.Need-cast-own-block
-cast-own-block c =
-    record { fits = omega (arith, c .only .ensures, only-small (c .before .before .before .before .before .before .before .before .before .before .before .before .before .before .pre .0) (c .before .before .before .before .before .before .before .before .before .before .load .result) (c .before .before .before .before .before .before .before .before .before .before .load .ensures)) }
+    let start = c .before .before .before .before .before .before .before .before .before in
+    let load = c .before .before .before .before .before .load in
+    (start .pre .0 .form, start .pre .1 .within, omega (arith, loaded-clock (load .result) (start .args .store .now) (load .ensures), clocks-of (formed-parts (start .pre .0) .formed) .last))
 
 own-block-requires : tie.Need-own-block-requires
 own-block-requires c κs = search needs
 
 join-found-requires : tie.Need-join-found-requires
 join-found-requires c κs =
-    let p = c .before .before .before .before .before .before .before .before .before .before .before .before .before .before .before .pre in
-    let vote = c .before .before .before .before .before .note-vote in
-    let u = tallyOf (c .own-block .result) in
-    (vote .ensures .form, place-room (p .0) (p .1) _ _ u (c .own-block .ensures) (vote .ensures), place-found (p .0) (p .1) _ _ u _ (c .own-block .ensures) (p .2) (vote .ensures))
+    let p = c .before .before .before .before .before .before .before .before .before .before .before .before .before .before .pre in
+    let load = c .before .before .before .before .before .before .before .before .before .before .load in
+    let x = statementOf (c .before .before .before .before .before .before .before .before .before .before .before .before .before .before .args .x) none in
+    let vote = c .before .before .before .before .note-vote in
+    let block = c .own-block in
+    let m = only (load .result .settings .own) in
+    let own = own-small (p .0) (load .result) (load .ensures) in
+    (vote .ensures .form, place-room (p .0) (p .1) _ m (withVoters m (blockOf (block .result))) (voter-block x m (block .ensures)) (vote .ensures), place-found (p .0) (p .1) _ _ (blockOf (block .result)) _ (block .ensures) (p .2) (vote .ensures), own)
 
-cast-t25 : tie.Need-cast-t25
-cast-t25 c =
-    record { fits = omega (arith, own-small (c .before .before .before .before .before .before .before .before .before .before .before .before .before .before .before .before .before .before .before .pre .0) (c .before .before .before .before .before .before .before .before .before .before .before .before .before .before .before .load .result) (c .before .before .before .before .before .before .before .before .before .before .before .before .before .before .before .load .ensures)) }
+cast-t24 : tie.Need-cast-t24
+cast-t24 c =
+    let load = c .before .before .before .before .before .before .before .before .before .before .before .before .before .before .load in
+    record { fits = omega (arith, own-small (c .before .before .before .before .before .before .before .before .before .before .before .before .before .before .before .before .before .before .pre .0) (load .result) (load .ensures)) }
 
 send-both-requires : tie.Need-send-both-requires
 unfolding messageOf
 send-both-requires c κs =
-    let a = c .before .before .before .before .before .before .before .before .before .before .before .before .before .before .before .before .before .before .before .before .args in
-    (sendable-linked (stateOf (a .store .now) .settings) (a .x) (place-sendable (c .before .before .before .before .before .before .before .before .before .before .before .before .before .before .before .before .before .before .before .before .pre .0) (c .before .before .before .before .before .before .before .before .before .before .before .before .before .before .before .before .before .before .before .before .pre .1)), tt, omega (arith, ballot-bytes (statementOf (a .x) none) (a .x .view) (a .x .height) (nameOf (a .x .name)) (c .before .before .before .before .before .before .before .before .before .before .before .before .before .before .before .before .load .result .settings .own), c .before .before .before .before .before .before .before .before .before .before .before .before .before .before .before .before .before .before .before .before .pre .3))
+    let start = c .before .before .before .before .before .before .before .before .before .before .before .before .before .before .before .before .before .before .before in
+    let a = start .args in
+    (sendable-linked (stateOf (a .store .now) .settings) (a .x) (place-sendable (start .pre .0) (start .pre .1)), tt, omega (arith, ballot-bytes (statementOf (a .x) none) (a .x .view) (a .x .height) (nameOf (a .x .name)) (c .before .before .before .before .before .before .before .before .before .before .before .before .before .before .before .load .result .settings .own), start .pre .3))
 
 same-length-2 : tie.Need-same-length-2
 same-length-2 c = search needs
@@ -76,15 +78,20 @@ same-length-3 c = search needs
 
 returns-2 : tie.Need-returns-2
 returns-2 c =
-    let a = c .before .before .before .before .before .before .before .before .before .before .before .before .before .before .before .before .before .before .before .before .before .before .before .args in
+    let start = c .before .before .before .before .before .before .before .before .before .before .before .before .before .before .before .before .before .before .before .before .before .before in
+    let a = start .args in
+    let k = start .pre .0 in
+    let load = c .before .before .before .before .before .before .before .before .before .before .before .before .before .before .before .before .before .before .load in
     let s = stateOf (a .store .now) in
     let x = statementOf (a .x) none in
-    let k = c .before .before .before .before .before .before .before .before .before .before .before .before .before .before .before .before .before .before .before .before .before .before .before .pre .0 in
-    let own = loaded-own k (c .before .before .before .before .before .before .before .before .before .before .before .before .before .before .before .before .before .before .before .load .result) (c .before .before .before .before .before .before .before .before .before .before .before .before .before .before .before .before .before .before .before .load .ensures) in
-    works-is (voting-cast x s (sym (loaded-below k (c .before .before .before .before .before .before .before .before .before .before .before .before .before .before .before .before .before .before .before .load .result) (c .before .before .before .before .before .before .before .before .before .before .before .before .before .before .before .before .before .before .before .load .ensures) x) ∙ sym (c .before .before .before .before .before .before .before .before .before .before .before .before .before .before .before .before .before .below-lock .ensures) ∙ c .before .before .before .before .before .before .before .before .before .before .before .before .before .before .before .before .if1 .left))
+    let own = loaded-own k (load .result) (load .ensures) in
+    let m = only (load .result .settings .own) in
+    let block = c .before .before .before .before .before .before .before .before .own-block in
+    let vote = c .before .before .before .before .before .before .before .before .before .before .before .before .note-vote in
+    works-is (voting-cast x s (sym (loaded-below k (load .result) (load .ensures) x) ∙ sym (c .before .before .before .before .before .before .before .before .before .before .before .before .before .before .before .before .below-lock .ensures) ∙ c .before .before .before .before .before .before .before .before .before .before .before .before .before .before .before .if1 .left))
     (works-saying (ballot x s)
-    (place-voted k (c .before .before .before .before .before .before .before .before .before .before .before .before .before .before .before .before .before .before .before .before .before .before .before .pre .1) (c .before .before .before .before .before .before .before .before .before .before .before .before .before .before .before .before .before .before .before .load .result .clock) (tallyOf (c .before .before .before .before .before .before .before .before .own-block .result)) (loaded-clock (c .before .before .before .before .before .before .before .before .before .before .before .before .before .before .before .before .before .before .before .load .result) (a .store .now) (c .before .before .before .before .before .before .before .before .before .before .before .before .before .before .before .before .before .before .before .load .ensures)) (c .before .before .before .before .before .before .before .before .own-block .ensures ∙ ap (ownBlock x) (c .before .before .before .before .before .before .before .before .before .only .ensures ∙ ap only own)) (c .before .before .before .before .before .before .before .before .before .before .before .before .before .note-vote .ensures) (c .before .before .before .before .before .before .before .join-found .ensures .left))
-    (rw (← ballot-is (a .x) s (c .before .before .before .before .before .before .before .before .before .before .before .before .before .before .before .before .before .before .before .load .result .settings .own) own) (c .before .before .send-both .ensures)))
+    (place-voted k (start .pre .1) (load .result .clock) (withVoters m (blockOf (block .result))) (loaded-clock (load .result) (a .store .now) (load .ensures)) (voter-block x m (block .ensures) ∙ ap (λ (i : ℕ). ownBlock x (only i)) own) (vote .ensures) (c .before .before .before .before .before .before .before .join-found .ensures .left))
+    (rw (← ballot-is (a .x) s (load .result .settings .own) own) (c .before .before .send-both .ensures)))
 
 pub voting-spec : {M : Type 1} → statement M
 voting-spec =
@@ -95,11 +102,9 @@ voting-spec =
     same-length
     returns
     note-vote-requires
-    only-requires
-    cast-own-block
     own-block-requires
     join-found-requires
-    cast-t25
+    cast-t24
     send-both-requires
     same-length-2
     same-length-3

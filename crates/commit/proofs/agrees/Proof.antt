@@ -1,5 +1,5 @@
 -- `commit::agrees` meets its contract. The invariant: the names below height k agree. The measure is what is left of them. Assumes nothing.
-use Rattle.store.proofs.Forms.{form-long, form-statements}
+use Rattle.store.proofs.Forms.{form-long, form-statements, form-log}
 use Rattle.commit.specs.Chains.{nameIn, nameSoFar}
 use borrow.Author.Count.{below-more}
 use borrow.Author.Tests.{eqb-true, eqb-false, not-true, not-false}
@@ -32,7 +32,7 @@ name-so-far-requires : tie.Need-name-so-far-requires Inv-loop μ-loop
 name-so-far-requires c κs =
     let r = c .before .before .before .before .before .before .pre .0 in
     let low : c .before .before .loop .k < c .before .before .before .before .before .before .args .len = omega (arith, c .before .before .before .before .before .before .pre .1) in
-    (form-long _ (r .form), r .old, omega (arith, r .fits), omega (arith, r .fits, r .long), λ l. omega (arith, r .gains (c .before .before .loop .k) l low, form-statements _ (r .form)))
+    (form-long _ (r .form), r .old, omega (arith, r .old, form-log _ (r .form)), omega (arith, r .fits, r .long), λ l. omega (arith, r .gains (c .before .before .loop .k) l low, form-statements _ (r .form)))
 
 same-requires : tie.Need-same-requires Inv-loop μ-loop
 same-requires c κs = search needs

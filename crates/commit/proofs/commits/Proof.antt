@@ -29,7 +29,7 @@ enum-told c = search needs
 returns : tie.Need-returns
 returns c =
     let header = c .before .before .before .pre .2 in
-    gained-none _ _ _ (loaded-logged _ _ header) (form-log _ (c .before .before .before .pre .0))
+    gained-none _ _ _ (loaded-logged _ _ header) (form-log _ (c .before .before .before .pre .0) .1)
     (tick-out _ (λ e. outside (c .before .before .before .args .station .phase) (c .match .keys2) (loaded-phase _ _ header ∙ e)))
 
 mul-wait : tie.Need-mul-wait

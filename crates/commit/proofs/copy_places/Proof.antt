@@ -5,6 +5,7 @@ use lib.ListN.{length, length-set}
 use mathlib.Core.Path.{_≡_, refl}
 use native.Mathlib.Omega.{arith}
 use Prim.Native.Nat.{_≤_, _-_}
+use borrow.Author.Needs.{needs}
 use Rattle.commit.proofs.copy_places.Statement.{statement}
 use Rattle.commit.proofs.copy_places.Tie as tie
 
@@ -20,9 +21,15 @@ loop-holds : tie.Need-loop-holds Inv-loop μ-loop
 loop-holds c =
     (omega arith, refl, copied-none _ _ _)
 
+mul-to : tie.Need-mul-to Inv-loop μ-loop
+mul-to c = search needs
+
 shared-slice-read-to : tie.Need-shared-slice-read-to Inv-loop μ-loop
 shared-slice-read-to c =
     omega (arith, c .before .before .before .pre .0)
+
+mul-to-2 : tie.Need-mul-to-2 Inv-loop μ-loop
+mul-to-2 c = search needs
 
 slice-write-to : tie.Need-slice-write-to Inv-loop μ-loop
 slice-write-to c =
@@ -56,7 +63,9 @@ copy-places-spec =
     Inv-loop
     μ-loop
     loop-holds
+    mul-to
     shared-slice-read-to
+    mul-to-2
     slice-write-to
     add-k
     loop-less

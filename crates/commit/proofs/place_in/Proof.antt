@@ -4,6 +4,9 @@ use borrow.Author.Needs.{needs}
 use Rattle.commit.proofs.place_in.Statement.{statement}
 use Rattle.commit.proofs.place_in.Tie as tie
 
+mul-result : tie.Need-mul-result
+mul-result c = search needs
+
 shared-slice-read-result : tie.Need-shared-slice-read-result
 shared-slice-read-result c = search needs
 
@@ -15,4 +18,4 @@ returns : tie.Need-returns
 returns c = search needs
 
 pub place-in-spec : {M : Type 1} → statement M
-place-in-spec = tie.close (tie.spec shared-slice-read-result cast-result returns)
+place-in-spec = tie.close (tie.spec mul-result shared-slice-read-result cast-result returns)

@@ -35,6 +35,9 @@ cast-chain c =
     let pre = c .before .before .before .before .pre in
     omega (arith, pre .1, pre .2, form-statements _ (pre .0))
 
+mul-chain : tie.Need-mul-chain Inv-loop μ-loop
+mul-chain c = search needs
+
 slice-write-chain : tie.Need-slice-write-chain Inv-loop μ-loop
 slice-write-chain c =
     let pre = c .before .before .before .before .pre in
@@ -71,6 +74,9 @@ sub-k-2 c =
 cast-chain-2 : tie.Need-cast-chain-2 Inv-loop μ-loop
 cast-chain-2 c =
     omega (arith, form-statements _ (c .before .before .before .before .before .before .before .before .before .before .before .pre .0), walking-stored (c .before .before .before .before .before .loop .inv) (c .before .before .before .find-block .ensures) (omega arith) (c .before .p .given .1))
+
+mul-chain-2 : tie.Need-mul-chain-2 Inv-loop μ-loop
+mul-chain-2 c = search needs
 
 slice-write-chain-2 : tie.Need-slice-write-chain-2 Inv-loop μ-loop
 slice-write-chain-2 c =
@@ -116,6 +122,7 @@ walk-spec =
     cast-height
     sub-k
     cast-chain
+    mul-chain
     slice-write-chain
     loop-holds
     cast-find-block
@@ -124,6 +131,7 @@ walk-spec =
     enum-told
     sub-k-2
     cast-chain-2
+    mul-chain-2
     slice-write-chain-2
     statement-at-requires-2
     loop-less

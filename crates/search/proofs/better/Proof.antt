@@ -3,16 +3,16 @@ use mathlib.Core.Path.{_∙_, sym}
 use borrow.Author.Tests.{not-true, not-false}
 use borrow.Author.Needs.{needs}
 use Rattle.settings.specs.Made.{settingsOf}
-use Rattle.store.specs.Meaning.{tallyOf}
+use Rattle.words.specs.Meaning.{blockOf}
 use Rattle.search.proofs.Tops.{chosen-late, chosen-few, chosen-lower, chosen-here}
 use Rattle.search.proofs.better.Statement.{statement}
 use Rattle.search.proofs.better.Tie as tie
 
 returns : tie.Need-returns
-unfolding tallyOf
+unfolding blockOf
 returns c =
     let a = c .before .before .args in
-    chosen-late (settingsOf (a .settings)) (a .view) (tallyOf (a .tally)) (tallyOf (a .best)) (c .if1 .taken)
+    chosen-late (settingsOf (a .settings)) (a .view) (blockOf (a .block)) (blockOf (a .best)) (c .if1 .taken)
 
 cast-quorum : tie.Need-cast-quorum
 cast-quorum c = search needs
@@ -21,25 +21,25 @@ quorum-requires : tie.Need-quorum-requires
 quorum-requires c κs = search needs
 
 returns-2 : tie.Need-returns-2
-unfolding tallyOf
+unfolding blockOf
 returns-2 c =
     let a = c .before .before .before .before .before .args in
-    chosen-few (settingsOf (a .settings)) (a .view) (tallyOf (a .tally)) (tallyOf (a .best)) (sym (c .before .quorum .ensures) ∙ not-true _ (c .if2 .taken))
+    chosen-few (settingsOf (a .settings)) (a .view) (blockOf (a .block)) (blockOf (a .best)) (sym (c .before .quorum .ensures) ∙ not-true _ (c .if2 .taken))
 
 higher-requires : tie.Need-higher-requires
 higher-requires c κs = search needs
 
 returns-3 : tie.Need-returns-3
-unfolding tallyOf
+unfolding blockOf
 returns-3 c =
     let a = c .before .before .before .before .before .before .before .args in
-    chosen-lower (settingsOf (a .settings)) (a .view) (tallyOf (a .tally)) (tallyOf (a .best)) (sym (c .before .higher .ensures) ∙ not-true _ (c .if3 .taken))
+    chosen-lower (settingsOf (a .settings)) (a .view) (blockOf (a .block)) (blockOf (a .best)) (sym (c .before .higher .ensures) ∙ not-true _ (c .if3 .taken))
 
 returns-4 : tie.Need-returns-4
-unfolding tallyOf
+unfolding blockOf
 returns-4 c =
     let a = c .before .before .before .before .before .before .before .args in
-    chosen-here (settingsOf (a .settings)) (a .view) (tallyOf (a .tally)) (tallyOf (a .best)) (c .before .before .before .before .before .if1 .left) (sym (c .before .before .before .quorum .ensures) ∙ not-false _ (c .before .before .if2 .left)) (sym (c .before .higher .ensures) ∙ not-false _ (c .if3 .left))
+    chosen-here (settingsOf (a .settings)) (a .view) (blockOf (a .block)) (blockOf (a .best)) (c .before .before .before .before .before .if1 .left) (sym (c .before .before .before .quorum .ensures) ∙ not-false _ (c .before .before .if2 .left)) (sym (c .before .higher .ensures) ∙ not-false _ (c .if3 .left))
 
 pub better-spec : {M : Type 1} → statement M
 better-spec =

@@ -3,8 +3,9 @@ use mathlib.Core.Path.{_∙_, sym}
 use mathlib.Core.Option.{none}
 use borrow.Author.Needs.{needs}
 use Rattle.wire.specs.Meaning.{statementOf}
+use Rattle.words.proofs.Statements.{other-view}
 use Rattle.store.specs.Decode.{statementAt}
-use Rattle.search.proofs.Statements.{other-view, read-conflict}
+use Rattle.search.proofs.Statements.{read-conflict}
 use Rattle.search.proofs.conflicts_at.Statement.{statement}
 use Rattle.search.proofs.conflicts_at.Tie as tie
 

@@ -1,21 +1,22 @@
 -- `search::highest` meets its contract: the highest of what was passed is known. Assumes nothing.
 use Prim.Native.Nat.{_-_, _≤_}
-use mathlib.Core.Path.{_≡_, _∙_}
+use mathlib.Core.Path.{_≡_, _∙_, ap}
 use native.Mathlib.Omega.{arith}
 use Rattle.rules.specs.Words as words
+use Rattle.rules.specs.Words.{certificateOf}
 use Rattle.settings.specs.Made.{settingsOf}
+use Rattle.words.specs.Meaning.{blockOf}
 use Rattle.store.specs.Layout.{tallyTable, countOf}
 use Rattle.store.specs.Decode.{rows, tallyAt, tallies, stateOf}
-use Rattle.store.specs.Meaning.{tallyOf}
 use Rattle.store.proofs.Loaded.{loaded-settings, loaded-tallies}
 use Rattle.search.proofs.Counts.{long, few-tallies}
-use Rattle.search.proofs.Tops.{from-genesis, highest-none, highest-step, highest-all}
+use Rattle.search.proofs.Tops.{highest-none, highest-step, highest-all}
 use Rattle.search.proofs.highest.Statement.{statement}
 use Rattle.search.proofs.highest.Tie as tie
 
 abbrev Inv-loop : tie.InvT-loop
 Inv-loop store view settings best₀ i₀ best i =
-    (i ≤ countOf tallyTable store) × (tallyOf best ≡ words.highest (stateOf store .settings) view (rows (tallyAt store) i (countOf tallyTable store - i)))
+    (i ≤ countOf tallyTable store) × (blockOf best ≡ words.highest (stateOf store .settings) view (rows (tallyAt store) i (countOf tallyTable store - i)))
 
 abbrev μ-loop : tie.MeasureT-loop
 μ-loop store view settings best₀ i₀ best i =
@@ -23,16 +24,15 @@ abbrev μ-loop : tie.MeasureT-loop
 
 load-requires : tie.Need-load-requires Inv-loop μ-loop
 load-requires c κs =
-    long (c .before .pre)
+    omega (arith, long (c .before .pre))
 
-zero-requires : tie.Need-zero-requires Inv-loop μ-loop
-zero-requires c κs =
-    tt
+genesis-requires : tie.Need-genesis-requires Inv-loop μ-loop
+genesis-requires c κs = tt
 
 loop-holds : tie.Need-loop-holds Inv-loop μ-loop
 loop-holds c =
     let e = loaded-tallies (c .before .before .load .result) (c .before .before .before .before .args .store .now) (c .before .before .load .ensures) in
-    (omega (arith, e), from-genesis (stateOf (c .before .before .before .before .args .store .now) .settings) (c .before .before .before .before .args .view) (c .zero .result) (c .zero .ensures) ∙ highest-none (stateOf (c .before .before .before .before .args .store .now) .settings) (c .before .before .before .before .args .view) (tallyAt (c .before .before .before .before .args .store .now)) (countOf tallyTable (c .before .before .before .before .args .store .now)) (c .before .before .load .result .tallies) (omega (arith, e)))
+    (omega (arith, e), c .genesis .ensures ∙ highest-none (stateOf (c .before .before .before .before .args .store .now) .settings) (c .before .before .before .before .args .view) (tallyAt (c .before .before .before .before .args .store .now)) (countOf tallyTable (c .before .before .before .before .args .store .now)) (c .before .before .load .result .tallies) (omega (arith, e)))
 
 sub-i : tie.Need-sub-i Inv-loop μ-loop
 sub-i c =
@@ -41,6 +41,9 @@ sub-i c =
 tally-at-requires : tie.Need-tally-at-requires Inv-loop μ-loop
 tally-at-requires c κs =
     (long (c .before .before .before .before .before .before .pre), omega (arith, few-tallies (c .before .before .before .before .before .before .pre)))
+
+certificate-requires : tie.Need-certificate-requires Inv-loop μ-loop
+certificate-requires c κs = tt
 
 better-requires : tie.Need-better-requires Inv-loop μ-loop
 better-requires c κs =
@@ -52,10 +55,11 @@ loop-less c =
 
 loop-again : tie.Need-loop-again Inv-loop μ-loop
 loop-again c =
-    let a = c .before .before .before .before .before .before .before .before .args in
+    let a = c .before .before .before .before .before .before .before .before .before .args in
     let b = a .store .now in
-    let l = c .before .before .before .loop in
-    (omega (arith, l .inv .0), highest-step (stateOf b .settings) (a .view) (tallyAt b) (countOf tallyTable b) (l .i) (c .before .before .loop-test .taken) (l .inv .0) (settingsOf (c .before .before .before .before .before .before .load .result .settings)) (tallyOf (c .before .tally-at .result)) (tallyOf (l .best)) (tallyOf (c .better .result)) (loaded-settings (c .before .before .before .before .before .before .load .result) b (c .before .before .before .before .before .before .load .ensures)) (c .before .tally-at .ensures) (l .inv .1) (c .better .ensures))
+    let l = c .before .before .before .before .loop in
+    let tally = c .before .certificate .ensures ∙ ap certificateOf (c .before .before .tally-at .ensures) in
+    (omega (arith, l .inv .0), highest-step (stateOf b .settings) (a .view) (tallyAt b) (countOf tallyTable b) (l .i) (c .before .before .before .loop-test .taken) (l .inv .0) (settingsOf (c .before .before .before .before .before .before .before .load .result .settings)) (blockOf (c .before .certificate .result)) (blockOf (l .best)) (blockOf (c .better .result)) (loaded-settings (c .before .before .before .before .before .before .before .load .result) b (c .before .before .before .before .before .before .before .load .ensures)) tally (l .inv .1) (c .better .ensures))
 
 returns : tie.Need-returns Inv-loop μ-loop
 unfolding tallies
@@ -70,10 +74,11 @@ highest-spec =
     Inv-loop
     μ-loop
     load-requires
-    zero-requires
+    genesis-requires
     loop-holds
     sub-i
     tally-at-requires
+    certificate-requires
     better-requires
     loop-less
     loop-again

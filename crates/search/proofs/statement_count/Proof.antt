@@ -7,7 +7,7 @@ use Rattle.search.proofs.statement_count.Tie as tie
 
 load-requires : tie.Need-load-requires
 load-requires c κs =
-    long (c .before .pre)
+    omega (arith, long (c .before .pre))
 
 returns : tie.Need-returns
 returns c =

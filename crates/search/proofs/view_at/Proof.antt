@@ -4,6 +4,7 @@ use mathlib.Core.Path.{_∙_, sym, ap}
 use native.Mathlib.Nat.{add-zero}
 use borrow.Author.Needs.{needs}
 use Rattle.fields.specs.Places.{number}
+use Rattle.rules.specs.Limits.{small}
 use Rattle.store.specs.Layout.{statementTable, placeOf}
 use Rattle.store.specs.Decode.{statementAt}
 use Rattle.search.proofs.view_at.Statement.{statement}
@@ -25,7 +26,7 @@ returns : tie.Need-returns
 unfolding statementAt
 returns c =
     let a = c .before .before .args in
-    c .get .ensures .0 ∙ ap (λ (at : ℕ). number (a .store .now) at 4) (sym (add-zero (placeOf statementTable (a .i))))
+    c .get .ensures .0 ∙ ap (λ (at : ℕ). number (a .store .now) at 4) (sym (add-zero (placeOf statementTable small (a .i))))
 
 pub view-at-spec : {M : Type 1} → statement M
 view-at-spec = tie.close (tie.spec mul-get add-get get-requires cast-result returns)

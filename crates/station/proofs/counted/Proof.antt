@@ -1,7 +1,9 @@
 -- `station::counted` meets its contract: it fits, or the station stops. Assumes nothing.
 use borrow.Author.Tests.{not-true, not-false}
 use Rattle.store.specs.Decode.{stateOf}
-use Rattle.store.specs.Meaning.{tallyOf}
+use Rattle.words.specs.Meaning.{blockOf}
+use Rattle.store.specs.Changes.{withVoters}
+use Rattle.store.specs.Meaning.{votersOf}
 use Rattle.station.proofs.Rooms.{tallied-answers, tallied-stops}
 use borrow.Author.Needs.{needs}
 use Rattle.station.proofs.counted.Statement.{statement}
@@ -19,7 +21,7 @@ same-length c = search needs
 returns : tie.Need-returns
 returns c =
     let a = c .before .before .before .before .before .before .before .before .before .before .args in
-    tallied-stops (tallyOf (a .tally)) (stateOf (a .store .now)) (c .before .before .before .before .before .before .before .tallied .ensures) (not-true _ (c .before .before .before .before .if1 .taken)) (c .before .before .stop .ensures)
+    tallied-stops (withVoters (votersOf (a .voters)) (blockOf (a .block))) (stateOf (a .store .now)) (c .before .before .before .before .before .before .before .tallied .ensures) (not-true _ (c .before .before .before .before .if1 .taken)) (c .before .before .stop .ensures)
 
 same-length-2 : tie.Need-same-length-2
 same-length-2 c = search needs
@@ -27,7 +29,7 @@ same-length-2 c = search needs
 returns-2 : tie.Need-returns-2
 returns-2 c =
     let a = c .before .before .before .before .before .before .args in
-    tallied-answers (tallyOf (a .tally)) (stateOf (a .store .now)) (c .before .before .before .tallied .ensures) (not-false _ (c .if1 .left))
+    tallied-answers (withVoters (votersOf (a .voters)) (blockOf (a .block))) (stateOf (a .store .now)) (c .before .before .before .tallied .ensures) (not-false _ (c .if1 .left))
 
 pub counted-spec : {M : Type 1} → statement M
 counted-spec =

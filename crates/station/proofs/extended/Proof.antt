@@ -9,7 +9,7 @@ use Rattle.station.proofs.extended.Tie as tie
 
 load-requires : tie.Need-load-requires
 load-requires c κs =
-    form-long _ (c .before .pre .form)
+    omega (arith, form-long _ (c .before .pre .form))
 
 top-requires : tie.Need-top-requires
 top-requires c κs = search needs

@@ -1,5 +1,5 @@
 -- `station::handled` meets its contract: by the kind of the message. Assumes nothing.
-use mathlib.Core.Path.{sym, ap}
+use native.Mathlib.Omega.{arith}
 use Rattle.wire.specs.Meaning.{messageOf}
 use Rattle.store.specs.Decode.{stateOf}
 use Rattle.station.proofs.Answers.{answers-is}
@@ -19,25 +19,27 @@ stated-requires c κs =
 enum-known-message-2 : tie.Need-enum-known-message-2
 enum-known-message-2 c = search needs
 
-voter-requires : tie.Need-voter-requires
-voter-requires c κs =
-    let p = c .before .before .before .before .before .pre in vote-author (p .0) (p .1) (c .before .message2 .given .1)
+cast-t27 : tie.Need-cast-t27
+cast-t27 c = search needs
 
 counted-requires : tie.Need-counted-requires
-counted-requires c κs = search needs
+counted-requires c κs =
+    let p = c .before .before .before .before .before .before .pre in
+    let author = vote-author (p .0) (p .1) (c .before .before .message2 .given .1) in
+    (p .0 .form, omega (arith, author))
 
 enum-known-message-3 : tie.Need-enum-known-message-3
 enum-known-message-3 c = search needs
 
-voter-requires-2 : tie.Need-voter-requires-2
-voter-requires-2 c κs =
+voter-requires : tie.Need-voter-requires
+voter-requires c κs =
     let p = c .before .before .before .before .before .pre in blame-author (p .0) (p .1) (c .before .message3 .given .1) .1
 
 blamed-requires : tie.Need-blamed-requires
 blamed-requires c κs =
     let p = c .before .before .before .before .before .before .before .before .pre in
     let t = blame-author (p .0) (p .1) (c .before .before .before .before .message3 .given .1) in
-    (p .0, t .0, rw (c .before .before .voter2 .ensures) (t .2), p .2)
+    (p .0, t .0, rw (c .before .before .voter .ensures) (t .2), p .2)
 
 enum-known-message-4 : tie.Need-enum-known-message-4
 enum-known-message-4 c = search needs
@@ -52,7 +54,9 @@ enum-known-message-5 : tie.Need-enum-known-message-5
 enum-known-message-5 c = search needs
 
 counted-requires-2 : tie.Need-counted-requires-2
-counted-requires-2 c κs = search needs
+counted-requires-2 c κs =
+    let p = c .before .before .before .before .before .before .pre in
+    (p .0 .form, tt)
 
 same-length : tie.Need-same-length
 same-length c = search needs
@@ -69,7 +73,8 @@ same-length-3 c = search needs
 
 returns-2 : tie.Need-returns-2
 returns-2 c =
-    let a = c .before .before .before .before .before .before .before .before .before .before .args in answers-is (vote-handled (stateOf (a .store .now)) (c .before .before .before .before .before .before .message2 .given .1) (c .before .before .before .before .voter .ensures)) (c .before .before .counted .ensures (a .out .now))
+    let a = c .before .before .before .before .before .before .before .before .before .args in
+    answers-is (vote-handled (stateOf (a .store .now)) (c .before .before .before .before .before .message2 .given .1)) (c .before .before .counted .ensures (a .out .now))
 
 same-length-4 : tie.Need-same-length-4
 same-length-4 c = search needs
@@ -79,7 +84,7 @@ same-length-5 c = search needs
 
 returns-3 : tie.Need-returns-3
 returns-3 c =
-    answers-is (blame-handled (stateOf (c .before .before .before .before .before .before .before .before .before .before .before .before .before .args .store .now)) (c .before .before .before .before .before .before .before .before .before .message3 .given .1) (c .before .before .before .before .before .before .before .voter2 .ensures)) (c .before .before .before .before .blamed .ensures)
+    answers-is (blame-handled (stateOf (c .before .before .before .before .before .before .before .before .before .before .before .before .before .args .store .now)) (c .before .before .before .before .before .before .before .before .before .message3 .given .1) (c .before .before .before .before .before .before .before .voter .ensures)) (c .before .before .before .before .blamed .ensures)
 
 same-length-6 : tie.Need-same-length-6
 same-length-6 c = search needs
@@ -105,10 +110,10 @@ handled-spec =
     enum-known-message
     stated-requires
     enum-known-message-2
-    voter-requires
+    cast-t27
     counted-requires
     enum-known-message-3
-    voter-requires-2
+    voter-requires
     blamed-requires
     enum-known-message-4
     blamed-requires-2

@@ -12,7 +12,7 @@ use Rattle.station.proofs.is_running.Tie as tie
 
 load-requires : tie.Need-load-requires
 load-requires c κs =
-    form-long _ (c .before .pre)
+    omega (arith, form-long _ (c .before .pre))
 
 enum-told : tie.Need-enum-told
 enum-told c = search needs

@@ -18,7 +18,7 @@ returns c =
 
 load-requires : tie.Need-load-requires
 load-requires c κs =
-    form-long _ (c .before .before .before .pre .form)
+    omega (arith, form-long _ (c .before .before .before .pre .form))
 
 cast-result : tie.Need-cast-result
 cast-result c = search needs

@@ -1,5 +1,6 @@
 -- `station::may_offer` meets its contract, test by test. Assumes nothing.
 use Rattle.fields.specs.Names.{nameOf}
+use native.Mathlib.Omega.{arith}
 use Rattle.store.proofs.Forms.{form-long}
 use Rattle.station.proofs.Offers.{may-is, some-stations}
 use borrow.Author.Needs.{needs}
@@ -8,7 +9,7 @@ use Rattle.station.proofs.may_offer.Tie as tie
 
 load-requires : tie.Need-load-requires
 load-requires c κs =
-    form-long _ (c .before .pre .form)
+    omega (arith, form-long _ (c .before .pre .form))
 
 is-in-requires : tie.Need-is-in-requires
 is-in-requires c κs = search needs

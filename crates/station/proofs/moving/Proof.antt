@@ -1,6 +1,8 @@
 -- `station::moving` meets its contract: three acts, each at the place after the one before. Assumes nothing.
+use mathlib.Core.Path.{ap}
 use native.Mathlib.Omega.{arith}
-use Rattle.station.proofs.Turns.{complained-formed, complained-end, complained-room, led-formed, led-end, moved}
+use Rattle.rules.specs.Limits.{mostStatements}
+use Rattle.station.proofs.Turns.{complained-formed, complained-end, complained-room, led-formed, led-end, led-size, moved}
 use borrow.Author.Needs.{needs}
 use Rattle.station.proofs.moving.Statement.{statement}
 use Rattle.station.proofs.moving.Tie as tie
@@ -17,7 +19,7 @@ slice-aggregate-enter c = search needs
 
 enter-requires : tie.Need-enter-requires
 enter-requires c κs =
-    let p = c .before .before .before .before .before .before .before .before .before .before .before .before .before .before .before .before .before .before .before .pre in let w = c .before .before .before .before .before .before .before .before .before .before .before .before .before .before .complain .ensures in let v = c .before .before .before .before .before .before .before .lead .ensures in (led-formed (p .0) w v, omega (arith, led-end (p .0) w v .0, led-end (p .0) w v .1, p .2), search needs)
+    let p = c .before .before .before .before .before .before .before .before .before .before .before .before .before .before .before .before .before .before .before .pre in let w = c .before .before .before .before .before .before .before .before .before .before .before .before .before .before .complain .ensures in let v = c .before .before .before .before .before .before .before .lead .ensures in (led-formed (p .0) w v, omega (arith, led-end (p .0) w v .0, led-end (p .0) w v .1, p .2, ap mostStatements (led-size (p .0) w v)), search needs)
 
 same-length : tie.Need-same-length
 same-length c = search needs

@@ -12,7 +12,7 @@ use Rattle.station.proofs.ticked.Tie as tie
 
 load-requires : tie.Need-load-requires
 load-requires c κs =
-    form-long _ (c .before .before .before .pre .0 .form)
+    omega (arith, form-long _ (c .before .before .before .pre .0 .form))
 
 cast-if1 : tie.Need-cast-if1
 cast-if1 c = search needs

@@ -1,13 +1,9 @@
 -- `join_at` meets its contract: the mask of a record changes. Assumes nothing.
-use Rattle.store.proofs.Changes.{put-voters}
-use Rattle.store.proofs.Forms.{form-long, form-tallies}
-use Rattle.store.specs.Meaning.{tallyOf}
-use Rattle.store.specs.Decode.{tallyAt}
-use Rattle.rules.specs.Words.{Tally, grown}
-use Rattle.rules.specs.Sizes.{joined}
 use native.Mathlib.Omega.{arith}
-use mathlib.Core.Path.{_≡_, ap, _∙_}
 use borrow.Author.Needs.{needs}
+use Rattle.store.specs.Meaning.{votersOf}
+use Rattle.store.proofs.Changes.{grown-at}
+use Rattle.store.proofs.Forms.{form-long, form-tallies}
 use Rattle.store.proofs.join_at.Statement.{statement}
 use Rattle.store.proofs.join_at.Tie as tie
 
@@ -16,57 +12,24 @@ tally-at-requires c κs =
     let start = c .before .before in
     (form-long _ (start .pre .0), omega (arith, form-tallies _ (start .pre .0), start .pre .1))
 
-grown-requires : tie.Need-grown-requires
-grown-requires c κs = search needs
+joined-requires : tie.Need-joined-requires
+joined-requires c κs = search needs
 
-mul-put : tie.Need-mul-put
-mul-put c =
-    let start = c .before .before .before .before .before in
-    omega (arith, form-tallies _ (start .pre .0), start .pre .1)
-
-add-put : tie.Need-add-put
-add-put c =
-    let start = c .before .before .before .before .before in
-    omega (arith, form-tallies _ (start .pre .0), start .pre .1)
-
-add-put-2 : tie.Need-add-put-2
-add-put-2 c =
-    let start = c .before .before .before .before .before in
-    omega (arith, form-tallies _ (start .pre .0), start .pre .1)
-
-cast-put : tie.Need-cast-put
-cast-put c = search needs
-
-put-requires : tie.Need-put-requires
-put-requires c κs =
-    let start = c .before .before .before .before .before .before in
-    omega (arith, form-long _ (start .pre .0), form-tallies _ (start .pre .0), start .pre .1)
+put-voters-requires : tie.Need-put-voters-requires
+put-voters-requires c κs = search needs
 
 same-length : tie.Need-same-length
 same-length c = search needs
 
 returns : tie.Need-returns
-unfolding tallyOf grown
 returns c =
     let after-put = c .before .before in
-    let after-grown = after-put .before .before .before in
-    let after-tally-at = after-grown .before in
+    let after-joined = after-put .before .before in
+    let after-tally-at = after-joined .before in
     let start = after-tally-at .before .before .before in
     let a = start .args in
-    let mask : after-grown .grown .result .mask ≡ joined (tallyAt (a .store .now) (a .i) .mask) (a .mask) =
-    ap (λ (t : Tally). t .mask) (after-grown .grown .ensures) ∙ ap (λ (t : Tally). joined (t .mask) (a .mask)) (after-tally-at .tally-at .ensures) in
-    rw (after-put .put .ensures, mask) (put-voters (a .store .now) (start .pre .0) (a .i) (a .mask) (start .pre .1) (start .fits .mask .fits))
+    grown-at (a .store .now) (start .pre .0) (a .i) (votersOf (a .voters)) (after-tally-at .tally-at .result) (after-joined .joined .result) (start .pre .1) (after-tally-at .tally-at .ensures) (after-joined .joined .ensures) (after-put .put-voters .ensures .0) (after-put .put-voters .ensures .1)
 
 pub join-at-spec : {M : Type 1} → statement M
 join-at-spec =
-    tie.close
-    (tie.spec
-    tally-at-requires
-    grown-requires
-    mul-put
-    add-put
-    add-put-2
-    cast-put
-    put-requires
-    same-length
-    returns)
+    tie.close (tie.spec tally-at-requires joined-requires put-voters-requires same-length returns)

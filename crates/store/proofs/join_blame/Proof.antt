@@ -3,7 +3,7 @@ use Rattle.fields.proofs.Laws.{number-lt}
 use lib.Bits.{or-lt}
 use Rattle.store.proofs.Changes.{put-blame}
 use Rattle.store.proofs.Forms.{form-long}
-use Rattle.store.specs.Decode.{blameAt}
+use Rattle.store.specs.Decode.{blameFor}
 use Rattle.rules.specs.Sizes.{joined}
 use native.Mathlib.Omega.{arith}
 use borrow.Author.Needs.{needs}
@@ -18,24 +18,23 @@ blame-at-requires c κs =
     let start = c .before .before in
     (form-long _ (start .pre .0), omega (arith, start .pre .1, start .pre .2))
 
-mul-put : tie.Need-mul-put
-mul-put c = search needs
-
-add-put : tie.Need-add-put
-add-put c = search needs
+blame-place-requires : tie.Need-blame-place-requires
+blame-place-requires c κs =
+    let start = c .before .before .before .before .before in
+    (form-long _ (start .pre .0), omega (arith, start .pre .1, start .pre .2))
 
 cast-put : tie.Need-cast-put
-unfolding blameAt
+unfolding blameFor
 cast-put c =
-    let after-slice-known = c .before .before .before in
+    let after-blame-at = c .before .before .before in
+    let after-slice-known = after-blame-at .before .before in
     let start = after-slice-known .before in
-    let l = or-lt 16 (c .before .blame-at .result) (start .args .mask) (rw (c .before .blame-at .ensures) (number-lt (start .args .store .now) (after-slice-known .slice-known .given) _ 2)) (start .fits .mask .fits) in
+    let l = or-lt 16 (after-blame-at .blame-at .result) (start .args .mask) (rw (after-blame-at .blame-at .ensures) (number-lt (start .args .store .now) (after-slice-known .slice-known .given) _ 2)) (start .fits .mask .fits) in
     omega arith
 
 put-requires : tie.Need-put-requires
 put-requires c κs =
-    let start = c .before .before .before .before in
-    omega (arith, form-long _ (start .pre .0), start .pre .1, start .pre .2)
+    omega (arith, c .blame-place .ensures .1)
 
 same-length : tie.Need-same-length
 same-length c = search needs
@@ -44,12 +43,13 @@ returns : tie.Need-returns
 unfolding joined
 returns c =
     let after-put = c .before .before in
-    let after-blame-at = after-put .before .before in
+    let after-blame-place = after-put .before in
+    let after-blame-at = after-blame-place .before .before .before in
     let start = after-blame-at .before .before .before in
     let a = start .args in
-    rw (after-put .put .ensures, after-blame-at .blame-at .ensures) (put-blame (a .store .now) (start .pre .0) (a .view) (a .mask) (start .pre .1) (start .pre .2) (start .fits .mask .fits))
+    rw (after-put .put .ensures, after-blame-place .blame-place .ensures .0, after-blame-at .blame-at .ensures) (put-blame (a .store .now) (start .pre .0) (a .view) (a .mask) (start .pre .1) (start .pre .2) (start .fits .mask .fits))
 
 pub join-blame-spec : {M : Type 1} → statement M
 join-blame-spec =
     tie.close
-    (tie.spec sub-i blame-at-requires mul-put add-put cast-put put-requires same-length returns)
+    (tie.spec sub-i blame-at-requires blame-place-requires cast-put put-requires same-length returns)

@@ -1,22 +1,24 @@
--- `tally_at` meets its contract: the record of place i. Assumes nothing.
-use Rattle.store.specs.Decode.{tallyAt}
+-- `tally_at` meets its contract: the numbers of a certificate are those of the record. Assumes nothing.
+use mathlib.Core.Path.{_∙_, ap}
 use borrow.Author.Needs.{needs}
+use Rattle.rules.specs.Words.{Certificate, opened}
+use Rattle.words.specs.Meaning.{blockOf}
+use Rattle.store.specs.Meaning.{tallyOf}
+use Rattle.store.specs.Decode.{tallyFor}
 use Rattle.store.proofs.tally_at.Statement.{statement}
 use Rattle.store.proofs.tally_at.Tie as tie
 
-mul-get-tally : tie.Need-mul-get-tally
-mul-get-tally c = search needs
+tally-place-requires : tie.Need-tally-place-requires
+tally-place-requires c κs = search needs
 
-add-get-tally : tie.Need-add-get-tally
-add-get-tally c = search needs
-
-get-tally-requires : tie.Need-get-tally-requires
-get-tally-requires c κs = search needs
+get-certificate-requires : tie.Need-get-certificate-requires
+get-certificate-requires c κs = search needs
 
 returns : tie.Need-returns
-unfolding tallyAt
+unfolding tallyFor tallyOf blockOf
 returns c =
-    c .get-tally .ensures
+    let after-place = c .before .before in
+    rw (← after-place .tally-place .ensures .0) (ap (λ (t : Certificate). opened t) (c .before .get-certificate .ensures))
 
 pub tally-at-spec : {M : Type 1} → statement M
-tally-at-spec = tie.close (tie.spec mul-get-tally add-get-tally get-tally-requires returns)
+tally-at-spec = tie.close (tie.spec tally-place-requires get-certificate-requires returns)

@@ -3,13 +3,15 @@ use Rattle.turns.proofs.Arriving.{read-linked, arrives-full, pair-insid
 use Rattle.turns.proofs.Moments.{view-of-loaded}
 use Rattle.store.proofs.Forms.{form-long, form-statements}
 use native.Mathlib.Omega.{arith}
+use Rattle.rules.proofs.Bounds.{statements-most, statements-some}
+use Rattle.store.specs.Layout.{sizeIn}
 use borrow.Author.Needs.{needs}
 use Rattle.turns.proofs.arrive.Statement.{statement}
 use Rattle.turns.proofs.arrive.Tie as tie
 
 load-requires : tie.Need-load-requires
 load-requires c κs =
-    form-long _ (c .before .before .before .before .pre .0 .form)
+    omega (arith, form-long _ (c .before .before .before .before .pre .0 .form))
 
 blame-full-requires : tie.Need-blame-full-requires
 blame-full-requires c κs =
@@ -20,7 +22,7 @@ quit-with-set-requires : tie.Need-quit-with-set-requires
 quit-with-set-requires c κs =
     let pre = c .before .before .before .before .before .before .before .before .before .before .pre in
     let load = c .before .before .before .before .before .load in
-    (pre .0, view-of-loaded (pre .0) (load .result) (load .ensures), omega (arith, pre .1))
+    (pre .0, view-of-loaded (pre .0) (load .result) (load .ensures), omega (arith, pre .1, statements-some (sizeIn (c .before .before .before .before .before .before .before .before .before .before .args .store .now))))
 
 same-length : tie.Need-same-length
 same-length c = search needs
@@ -69,7 +71,7 @@ quit-with-pair-requires c κs =
     let statement-at2 = c .before .before .statement-at2 in
     let k = pre .0 in
     let d = pair-inside (pre .0) (load .result) (load .ensures) (blame-full .result) (blame-full .ensures) (c .before .before .before .before .before .before .before .before .before .before .before .if1 .left) (find-pair .result) (find-pair .ensures) (found .given .0 .0) (found .given .0 .1 .0) (found .given .1) in
-    (k, read-linked k (found .given .0 .0) (statement-at .result) (d .0) (statement-at .ensures), read-linked k (found .given .0 .1 .0) (statement-at2 .result) (d .1) (statement-at2 .ensures), omega (arith, pre .1))
+    (k, read-linked k (found .given .0 .0) (statement-at .result) (d .0) (statement-at .ensures), read-linked k (found .given .0 .1 .0) (statement-at2 .result) (d .1) (statement-at2 .ensures), omega (arith, pre .1, statements-some (sizeIn (c .before .before .before .before .before .before .before .before .before .before .before .before .before .before .before .before .before .before .before .args .store .now))))
 
 enum-told : tie.Need-enum-told
 enum-told c = search needs
@@ -83,7 +85,8 @@ vote-in-order-requires c κs =
     let load = c .before .before .before .before .before .before .before .before .before .before .before .before .before .before .before .load in
     let o = c .before .before .before .before .before .in-order in
     let f = order-few (pre .0) (load .result) (load .ensures) _ (o .result) (o .ensures) in
-    record { formed = pre .0; few = f; long = omega (arith, f, o .kept .1 .1 .0, pre .2); inside = o .ensures .inside; space = omega (arith, f, pre .1) }
+    let m = statements-most (sizeIn (c .before .before .before .before .before .before .before .before .before .before .before .before .before .before .before .before .before .before .before .before .args .store .now)) in
+    record { formed = pre .0; few = omega (arith, f, m); long = omega (arith, f, m, o .kept .1 .1 .0, pre .2); inside = o .ensures .inside; space = omega (arith, f, pre .1) }
 
 same-length-3 : tie.Need-same-length-3
 same-length-3 c = search needs

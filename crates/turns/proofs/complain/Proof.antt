@@ -31,7 +31,7 @@ returns c =
 
 load-requires : tie.Need-load-requires
 load-requires c κs =
-    form-long _ (c .before .before .before .before .before .before .pre .0 .form)
+    omega (arith, form-long _ (c .before .before .before .before .before .before .pre .0 .form))
 
 cast-t15 : tie.Need-cast-t15
 cast-t15 c =

@@ -1,5 +1,5 @@
 -- `turns::enter` meets its contract: the view is entered, then the station arrives in it. Assumes nothing.
-use Rattle.turns.proofs.Arriving.{enter-not, enter-goes, entered-formed}
+use Rattle.turns.proofs.Arriving.{enter-not, enter-goes, entered-formed, entered-size}
 use Rattle.turns.proofs.Entering.{report-ends}
 use Rattle.turns.proofs.Parts.{works-still, works-then}
 use Rattle.acts.proofs.Works.{works-is}
@@ -7,7 +7,8 @@ use Rattle.rules.specs.Inputs.{arrive}
 use Rattle.outgoing.proofs.Writing.{says-length}
 use borrow.Author.Tests.{not-true, not-false}
 use native.Mathlib.Omega.{arith}
-use mathlib.Core.Path.{sym, _∙_}
+use mathlib.Core.Path.{sym, ap, _∙_}
+use Rattle.rules.specs.Limits.{mostStatements}
 use borrow.Author.Needs.{needs}
 use Rattle.turns.proofs.enter.Statement.{statement}
 use Rattle.turns.proofs.enter.Tie as tie
@@ -32,7 +33,7 @@ arrive-requires : tie.Need-arrive-requires
 arrive-requires c κs =
     let pre = c .before .before .before .before .before .before .before .before .before .before .before .before .before .before .before .before .pre in
     let w = c .before .before .before .before .before .before .before .entered .ensures in
-    (entered-formed (pre .0) (sym (c .before .before .before .before .before .before .before .before .before .before .before .enters-now .ensures) ∙ not-false _ (c .before .before .before .before .before .before .before .before .before .before .if1 .left)) w, omega (arith, report-ends _ w, says-length (w .says), pre .1), pre .2)
+    (entered-formed (pre .0) (sym (c .before .before .before .before .before .before .before .before .before .before .before .enters-now .ensures) ∙ not-false _ (c .before .before .before .before .before .before .before .before .before .before .if1 .left)) w, omega (arith, report-ends _ w, says-length (w .says), pre .1, ap mostStatements (entered-size _ w)), pre .2)
 
 same-length-2 : tie.Need-same-length-2
 same-length-2 c = search needs

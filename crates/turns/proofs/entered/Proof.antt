@@ -11,7 +11,7 @@ use Rattle.turns.proofs.entered.Tie as tie
 
 load-requires : tie.Need-load-requires
 load-requires c κs =
-    form-long _ (c .before .before .before .pre .0 .form)
+    omega (arith, form-long _ (c .before .before .before .pre .0 .form))
 
 add-view : tie.Need-add-view
 add-view c =

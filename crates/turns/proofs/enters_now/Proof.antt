@@ -4,7 +4,6 @@ use mathlib.Core.Bool.{_&&_}
 use mathlib.Core.Logic.{⊎-elim}
 use lib.Dec.{ltb}
 use denote.Enum.Declared.{tagOf}
-use Rattle.rules.specs.Limits.{lastView}
 use Rattle.store.proofs.Phase.{the-type}
 use Rattle.turns.proofs.Moments.{short-delay, enters-at, enters-never}
 use Rattle.store.proofs.Forms.{form-long}
@@ -15,7 +14,7 @@ use Rattle.turns.proofs.enters_now.Tie as tie
 
 load-requires : tie.Need-load-requires
 load-requires c κs =
-    form-long _ (c .before .pre .form)
+    omega (arith, form-long _ (c .before .pre .form))
 
 enum-known-phase : tie.Need-enum-known-phase
 enum-known-phase c = search needs
@@ -28,11 +27,14 @@ is-past-requires c κs =
 cast-result : tie.Need-cast-result
 cast-result c = search needs
 
+last-view-in-requires : tie.Need-last-view-in-requires
+last-view-in-requires c κs = search needs
+
 returns : tie.Need-returns
 returns c =
-    let load = c .before .before .before .before .before .before .load in
-    ap (ltb (load .result .view) lastView &&_) (c .before .is-past .ensures)
-    ∙ enters-at (c .before .before .before .before .before .before .before .before .pre) (load .result) (load .ensures) _ (c .before .before .before .phase .given .1)
+    let load = c .before .before .before .before .before .before .before .load in
+    (λ i. ltb (load .result .view) (c .last-view-in .ensures i) && c .before .before .is-past .ensures i)
+    ∙ enters-at (c .before .before .before .before .before .before .before .before .before .pre) (load .result) (load .ensures) _ (c .before .before .before .before .phase .given .1)
 
 returns-2 : tie.Need-returns-2
 returns-2 c =
@@ -42,4 +44,4 @@ returns-2 c =
 pub enters-now-spec : {M : Type 1} → statement M
 enters-now-spec =
     tie.close
-    (tie.spec load-requires enum-known-phase is-past-requires cast-result returns returns-2)
+    (tie.spec load-requires enum-known-phase is-past-requires cast-result last-view-in-requires returns returns-2)

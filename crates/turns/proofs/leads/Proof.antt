@@ -1,5 +1,6 @@
 -- `turns::leads` meets its contract, by the loaded numbers. Assumes nothing.
 use Rattle.turns.proofs.Moments.{some-stations, loaded-outside, loaded-leads}
+use native.Mathlib.Omega.{arith}
 use Rattle.store.proofs.Forms.{form-long}
 use borrow.Author.Tests.{not-true, not-false}
 use borrow.Author.Needs.{needs}
@@ -8,7 +9,7 @@ use Rattle.turns.proofs.leads.Tie as tie
 
 load-requires : tie.Need-load-requires
 load-requires c κs =
-    form-long _ (c .before .pre .form)
+    omega (arith, form-long _ (c .before .pre .form))
 
 is-in-requires : tie.Need-is-in-requires
 is-in-requires c κs = search needs

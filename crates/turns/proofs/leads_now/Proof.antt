@@ -17,7 +17,7 @@ returns c =
 
 load-requires : tie.Need-load-requires
 load-requires c κs =
-    form-long _ (c .before .before .before .pre .form)
+    omega (arith, form-long _ (c .before .before .before .pre .form))
 
 mul-is-past : tie.Need-mul-is-past
 mul-is-past c =

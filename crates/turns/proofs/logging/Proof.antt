@@ -1,11 +1,13 @@
 -- `turns::logging` meets its contract. The invariant: the names up to k are logged and reported. The measure is what is left. Assumes nothing.
 use Rattle.fields.specs.Names.{nameOf}
-use Rattle.turns.proofs.Names.{Logged, logged-none, logged-next, logged-count, logged-name, logged-ends, logged-done, committed-bytes}
+use Rattle.turns.proofs.Names.{enough-few, Logged, logged-none, logged-next, logged-size, logged-count, logged-name, logged-ends, logged-done, committed-bytes}
 use Rattle.store.proofs.Loaded.{loaded-logged}
 use Rattle.store.proofs.Forms.{form-long, form-statements}
 use native.Mathlib.Omega.{arith}
 use Prim.Native.Nat.{_+_, _-_, _≤_}
-use mathlib.Core.Path.{sym, _∙_}
+use mathlib.Core.Path.{ap}
+use Rattle.rules.specs.Limits.{mostStatements}
+use Rattle.turns.proofs.Parts.{same-long}
 use Rattle.outgoing.proofs.Writing.{says-length}
 use Rattle.turns.proofs.logging.Statement.{statement}
 use Rattle.turns.proofs.logging.Tie as tie
@@ -20,7 +22,7 @@ abbrev μ-loop : tie.MeasureT-loop
 
 load-requires : tie.Need-load-requires Inv-loop μ-loop
 load-requires c κs =
-    form-long _ (c .before .before .before .before .pre .form)
+    omega (arith, form-long _ (c .before .before .before .before .pre .form))
 
 loop-holds : tie.Need-loop-holds Inv-loop μ-loop
 loop-holds c =
@@ -29,10 +31,14 @@ loop-holds c =
     let e = loaded-logged (c .load .result) (a .store .now) (c .load .ensures) in
     (omega (arith, e, p .more), logged-none (a .store .now) (a .gained .now) (a .out .now) (a .at) (c .load .result .logged) e (p .form))
 
+mul-statement-at : tie.Need-mul-statement-at Inv-loop μ-loop
+mul-statement-at c =
+    omega (arith, enough-few (c .before .before .before .before .before .before .before .before .pre), c .before .loop-test .taken)
+
 shared-slice-read-statement-at : tie.Need-shared-slice-read-statement-at Inv-loop μ-loop
 shared-slice-read-statement-at c =
     let pre = c .before .before .before .before .before .before .before .before .before .pre in
-    omega (arith, pre .fits, pre .long, c .before .before .loop-test .taken)
+    omega (arith, enough-few pre, pre .long, c .before .before .loop-test .taken)
 
 cast-statement-at : tie.Need-cast-statement-at Inv-loop μ-loop
 cast-statement-at c =
@@ -44,20 +50,20 @@ statement-at-requires : tie.Need-statement-at-requires Inv-loop μ-loop
 statement-at-requires c κs =
     let pre = c .before .before .before .before .before .before .before .before .before .pre in
     let loop = c .before .before .before .loop in
-    (form-long _ (loop .inv .1 .left .form), omega (arith, pre .stored (loop .k) (loop .inv .1 .low) (c .before .before .loop-test .taken), form-statements _ (pre .form)))
+    (form-long _ (loop .inv .1 .left .form), omega (arith, pre .stored (loop .k) (loop .inv .1 .low) (c .before .before .loop-test .taken), form-statements _ (pre .form), ap mostStatements (logged-size _ _ _ _ (loop .inv .1))))
 
 append-name-requires : tie.Need-append-name-requires Inv-loop μ-loop
 append-name-requires c κs =
     let loop = c .before .before .before .before .before .before .loop in
-    ((loop .inv .1 .left .form), omega (arith, logged-count _ _ _ _ (loop .inv .1), c .before .before .before .before .before .loop-test .taken, c .before .before .before .before .before .before .before .before .before .before .before .before .pre .fits))
+    ((loop .inv .1 .left .form), omega (arith, logged-count _ _ _ _ (loop .inv .1), c .before .before .before .before .before .loop-test .taken, c .before .before .before .before .before .before .before .before .before .before .before .before .pre .fits, ap mostStatements (logged-size _ _ _ _ (loop .inv .1))))
 
 add-committed : tie.Need-add-committed Inv-loop μ-loop
 add-committed c =
-    omega (arith, c .before .before .before .before .before .before .before .before .before .loop-test .taken, c .before .before .before .before .before .before .before .before .before .before .before .before .before .before .before .before .pre .fits)
+    omega (arith, c .before .before .before .before .before .before .before .before .before .loop-test .taken, enough-few (c .before .before .before .before .before .before .before .before .before .before .before .before .before .before .before .before .pre))
 
 cast-committed : tie.Need-cast-committed Inv-loop μ-loop
 cast-committed c =
-    omega (arith, c .before .before .before .before .before .before .before .before .before .loop-test .taken, c .before .before .before .before .before .before .before .before .before .before .before .before .before .before .before .before .pre .fits)
+    omega (arith, c .before .before .before .before .before .before .before .before .before .loop-test .taken, enough-few (c .before .before .before .before .before .before .before .before .before .before .before .before .before .before .before .before .pre))
 
 committed-requires : tie.Need-committed-requires Inv-loop μ-loop
 committed-requires c κs =
@@ -68,7 +74,7 @@ committed-requires c κs =
 
 add-k : tie.Need-add-k Inv-loop μ-loop
 add-k c =
-    omega (arith, c .before .before .before .before .before .before .before .before .before .before .before .before .loop-test .taken, c .before .before .before .before .before .before .before .before .before .before .before .before .before .before .before .before .before .before .before .pre .fits)
+    omega (arith, c .before .before .before .before .before .before .before .before .before .before .before .before .loop-test .taken, enough-few (c .before .before .before .before .before .before .before .before .before .before .before .before .before .before .before .before .before .before .before .pre))
 
 loop-less : tie.Need-loop-less Inv-loop μ-loop
 loop-less c =
@@ -85,7 +91,7 @@ loop-again c =
 
 same-length : tie.Need-same-length Inv-loop μ-loop
 same-length c =
-    form-long _ (c .before .loop .inv .1 .left .form) ∙ sym (form-long _ (c .before .before .before .before .before .before .before .pre .form))
+    same-long (c .before .before .before .before .before .before .before .pre .form) (c .before .loop .inv .1 .left .form) (logged-size _ _ _ _ (c .before .loop .inv .1))
 
 same-length-2 : tie.Need-same-length-2 Inv-loop μ-loop
 same-length-2 c =
@@ -103,6 +109,7 @@ logging-spec =
     μ-loop
     load-requires
     loop-holds
+    mul-statement-at
     shared-slice-read-statement-at
     cast-statement-at
     statement-at-requires

@@ -11,7 +11,7 @@ use Rattle.turns.proofs.overdue.Tie as tie
 
 load-requires : tie.Need-load-requires
 load-requires c κs =
-    form-long _ (c .before .pre .form)
+    omega (arith, form-long _ (c .before .pre .form))
 
 is-in-requires : tie.Need-is-in-requires
 is-in-requires c κs = search needs

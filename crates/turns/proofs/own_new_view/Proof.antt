@@ -9,7 +9,7 @@ use Rattle.turns.proofs.own_new_view.Tie as tie
 
 load-requires : tie.Need-load-requires
 load-requires c κs =
-    form-long _ (c .before .pre .0 .form)
+    omega (arith, form-long _ (c .before .pre .0 .form))
 
 highest-requires : tie.Need-highest-requires
 highest-requires c κs = search needs

@@ -3,7 +3,9 @@ use Rattle.turns.proofs.Ballots.{Voted, voted-none, voted-done, voted-s
 use Rattle.store.proofs.Forms.{form-long, form-statements}
 use native.Mathlib.Omega.{arith}
 use Prim.Native.Nat.{_-_}
-use mathlib.Core.Path.{sym, _∙_}
+use mathlib.Core.Path.{ap}
+use Rattle.rules.specs.Limits.{mostStatements}
+use Rattle.turns.proofs.Parts.{same-long}
 use borrow.Author.Needs.{needs}
 use Rattle.turns.proofs.vote_in_order.Statement.{statement}
 use Rattle.turns.proofs.vote_in_order.Tie as tie
@@ -21,6 +23,9 @@ loop-holds c =
     let args = c .before .before .before .args in
     voted-none (args .store .now) (args .order .now) (args .out .now) (args .at) (args .count) (c .before .before .before .pre .formed)
 
+mul-place : tie.Need-mul-place Inv-loop μ-loop
+mul-place c = search needs
+
 shared-slice-read-place : tie.Need-shared-slice-read-place Inv-loop μ-loop
 shared-slice-read-place c =
     omega (arith, c .before .before .before .before .before .before .pre .long, c .before .loop-test .taken)
@@ -34,7 +39,7 @@ statement-at-requires : tie.Need-statement-at-requires Inv-loop μ-loop
 statement-at-requires c κs =
     let pre = c .before .before .before .before .before .before .before .pre in
     let loop = c .before .before .before .loop in
-    (form-long _ (loop .inv .formed .form), omega (arith, (pre .inside (loop .j) (c .before .before .loop-test .taken)), form-statements _ (pre .formed .form)))
+    (form-long _ (loop .inv .formed .form), omega (arith, (pre .inside (loop .j) (c .before .before .loop-test .taken)), form-statements _ (pre .formed .form), ap mostStatements (loop .inv .size)))
 
 own-block-requires : tie.Need-own-block-requires Inv-loop μ-loop
 own-block-requires c κs = search needs
@@ -70,7 +75,7 @@ loop-again c =
 
 same-length : tie.Need-same-length Inv-loop μ-loop
 same-length c =
-    form-long _ (c .before .loop .inv .formed .form) ∙ sym (form-long _ (c .before .before .before .before .before .pre .formed .form))
+    same-long (c .before .before .before .before .before .pre .formed .form) (c .before .loop .inv .formed .form) (c .before .loop .inv .size)
 
 same-length-2 : tie.Need-same-length-2 Inv-loop μ-loop
 same-length-2 c =
@@ -88,6 +93,7 @@ vote-in-order-spec =
     Inv-loop
     μ-loop
     loop-holds
+    mul-place
     shared-slice-read-place
     cast-place
     statement-at-requires

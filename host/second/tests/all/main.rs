@@ -1,5 +1,5 @@
-//! The second program held to 01, the rulings and recorded runs; one test program, so that it
-//! builds fast.
+//! The second program held to 01, to how docs/DECISIONS.md reads it, and to recorded runs; one test
+//! program, so that it builds fast.
 
 mod bench;
 mod common;

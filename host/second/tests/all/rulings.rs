@@ -1,5 +1,5 @@
-//! The rulings that show in what a station writes, by their numbers, and the order of things that
-//! 01 itself gives.
+//! How 01 is read where it can be read two ways, as far as it shows in what a station writes: ruling 3
+//! is number 3 of docs/DECISIONS.md. Then the order of things that 01 itself gives.
 
 use crate::common::*;
 use second::Phase;

@@ -1,14 +1,17 @@
 -- `clauses::view_allowed` meets its contract: its tests are the definition's. Assumes nothing.
-use mathlib.Core.Path.{refl}
+use borrow.Author.Needs.{needs}
 use Rattle.rules.specs.Lists.{within}
 use Rattle.rules.specs.Messages.{viewAllowed}
 use Rattle.allowed.proofs.clauses.view_allowed.Statement.{statement}
 use Rattle.allowed.proofs.clauses.view_allowed.Tie as tie
 
+last-view-requires : tie.Need-last-view-requires
+last-view-requires c κs = search needs
+
 returns : tie.Need-returns
 unfolding viewAllowed within
 returns c =
-    refl
+    rw (c .last-view .ensures)
 
 pub view-allowed-spec : {M : Type 1} → statement M
-view-allowed-spec = tie.close (tie.spec returns)
+view-allowed-spec = tie.close (tie.spec last-view-requires returns)

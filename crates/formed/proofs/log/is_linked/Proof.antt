@@ -5,6 +5,7 @@ use native.Mathlib.Omega.{arith}
 use Rattle.rules.specs.WellFormed.{linked}
 use Rattle.fields.specs.Names.{nameOf}
 use Rattle.store.specs.Decode.{rows, nameAt, statements, names}
+use Rattle.formed.proofs.Forms.{few-names}
 use Rattle.formed.proofs.Parts.{linked-end, linked-here, linked-next}
 use Rattle.formed.proofs.Walks.{rows-whole}
 use Rattle.formed.proofs.Searches.{place-found, place-missing}
@@ -32,10 +33,14 @@ name-at-requires : tie.Need-name-at-requires Inv-loop μ-loop
 name-at-requires c κs = search needs
 
 cast-height : tie.Need-cast-height Inv-loop μ-loop
-cast-height c = search needs
+cast-height c =
+    let few = few-names (c .before .before .before .before .before .pre .0) in
+    search needs
 
 add-height : tie.Need-add-height Inv-loop μ-loop
-add-height c = search needs
+add-height c =
+    let few = few-names (c .before .before .before .before .before .pre .0) in
+    search needs
 
 find-requires : tie.Need-find-requires Inv-loop μ-loop
 find-requires c κs = search needs

@@ -6,12 +6,13 @@ use lib.ListN.{length, length-set}
 use Rattle.formed.specs.Lent.{Marked}
 use Rattle.formed.proofs.SameMarks.{record-within, marked-more}
 use borrow.Author.Needs.{needs}
+use Rattle.rules.specs.Limits.{mostTalliesLarge}
 use Rattle.formed.proofs.marks.marks_of.Statement.{statement}
 use Rattle.formed.proofs.marks.marks_of.Tie as tie
 
 abbrev Inv-loop : tie.InvT-loop
 Inv-loop store base size count marks₀ i₀ marks i =
-    (i ≤ count) × (length marks ≡ 256) × Marked store base size i marks
+    (i ≤ count) × (length marks ≡ mostTalliesLarge) × Marked store base size i marks
 
 abbrev μ-loop : tie.MeasureT-loop
 μ-loop store base size count marks₀ i₀ marks i =

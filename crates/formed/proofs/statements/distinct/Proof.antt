@@ -1,9 +1,12 @@
 -- `formed::statements::distinct` meets its contract. Assumes nothing.
 use Prim.Native.Nat.{_-_}
 use mathlib.Core.Path.{_≡_, sym, ap, _∙_}
+use native.Mathlib.Omega.{arith}
+use lib.Dec.{lit≤}
 use Rattle.rules.specs.Words.{sameStatement}
 use Rattle.rules.specs.Lists.{distinct}
 use Rattle.store.specs.Decode.{rows, statementAt, statements}
+use Rattle.formed.proofs.Forms.{few-statements}
 use Rattle.formed.proofs.Walks.{rows-whole, distinct-end, distinct-here, distinct-next}
 use borrow.Author.Needs.{needs}
 use Rattle.formed.proofs.statements.distinct.Statement.{statement}
@@ -18,7 +21,9 @@ abbrev μ-loop : tie.MeasureT-loop
     count - i
 
 marks-of-requires : tie.Need-marks-of-requires Inv-loop μ-loop
-marks-of-requires c κs = search needs
+marks-of-requires c κs =
+    let k = c .before .pre in
+    (omega (arith, few-statements k), lit≤ tt, omega (arith, k .long, k .room))
 
 loop-holds : tie.Need-loop-holds Inv-loop μ-loop
 unfolding statements

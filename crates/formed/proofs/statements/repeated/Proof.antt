@@ -1,8 +1,10 @@
 -- `formed::statements::repeated` meets its contract. Assumes nothing.
 use mathlib.Core.Path.{sym, _∙_}
+use native.Mathlib.Omega.{arith}
 use borrow.Author.Tests.{not-true}
 use Rattle.rules.specs.Words.{sameStatement}
 use Rattle.wire.specs.Meaning.{statementOf}
+use Rattle.formed.proofs.Forms.{few-statements}
 use Rattle.formed.proofs.SameMarks.{statement-not-met}
 use Rattle.formed.proofs.Walks.{any-alike}
 use borrow.Author.Needs.{needs}
@@ -10,7 +12,7 @@ use Rattle.formed.proofs.statements.repeated.Statement.{statement}
 use Rattle.formed.proofs.statements.repeated.Tie as tie
 
 again-requires : tie.Need-again-requires
-again-requires c κs = search needs
+again-requires c κs = (c .before .pre .2, omega (arith, few-statements (c .before .pre .0)))
 
 returns : tie.Need-returns
 returns c =

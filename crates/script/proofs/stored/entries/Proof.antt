@@ -13,6 +13,9 @@ abbrev μ-loop : tie.MeasureT-loop
 loop-holds : tie.Need-loop-holds Inv-loop μ-loop
 loop-holds c = search needs
 
+most-statements-in-requires : tie.Need-most-statements-in-requires Inv-loop μ-loop
+most-statements-in-requires c κs = search needs
+
 entry-requires : tie.Need-entry-requires Inv-loop μ-loop
 entry-requires c κs = search needs
 
@@ -38,6 +41,7 @@ entries-spec =
     Inv-loop
     μ-loop
     loop-holds
+    most-statements-in-requires
     entry-requires
     add-i
     loop-less

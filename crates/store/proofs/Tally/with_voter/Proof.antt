@@ -1,11 +1,9 @@
 -- `Tally::with_voter` meets its contract: the mask of one station joins. Assumes nothing.
-use Rattle.store.specs.Meaning.{tallyOf}
-use Rattle.rules.specs.Words.{grown}
-use Rattle.rules.specs.Sizes.{only}
-use lib.Pow.{pow-lt}
-use native.Mathlib.Omega.{arith}
 use mathlib.Core.Path.{ap, _∙_}
 use borrow.Author.Needs.{needs}
+use Rattle.rules.specs.Words.{grown}
+use Rattle.store.specs.Meaning.{tallyOf}
+use Rattle.store.proofs.Sized.{voter-fits}
 use Rattle.store.proofs.Tally.with_voter.Statement.{statement}
 use Rattle.store.proofs.Tally.with_voter.Tie as tie
 
@@ -13,9 +11,8 @@ only-requires : tie.Need-only-requires
 only-requires c κs = search needs
 
 cast-grown : tie.Need-cast-grown
-unfolding only
 cast-grown c =
-    record { fits = rw (c .only .ensures) (pow-lt {j = 16} (omega arith)) }
+    record { fits = rw (c .only .ensures) (voter-fits _ (c .before .pre)) }
 
 grown-requires : tie.Need-grown-requires
 grown-requires c κs = search needs

@@ -3,6 +3,7 @@ use native.Mathlib.Numerals.{add-one}
 use Rattle.rules.proofs.Bytes.{pow-pos}
 use mathlib.Core.Path.{refl, sym, _∙_}
 use native.Mathlib.Omega.{arith}
+use Rattle.wire.specs.Fields.{numberOf, behind}
 use Rattle.wire.proofs.Reading.{stood}
 use borrow.Author.Needs.{needs}
 use Rattle.wire.proofs.reader.name_at.Statement.{statement}
@@ -26,8 +27,10 @@ add-t8 c =
     omega (arith, stood (start .args .s .now) (start .args .at) (start .args .tag) 32 (after-stands .stands .ensures) (c .before .if1 .taken))
 
 returns : tie.Need-returns
+unfolding numberOf behind
 returns c =
-    rw (sym (c .before .before .stands .ensures) ∙ c .before .if1 .taken) (record { value-is = c .get-name .ensures .0; next-is = refl; bound = c .get-name .ensures .1 })
+    let here = sym (c .before .before .stands .ensures) ∙ c .before .if1 .taken in
+    record { value-is = c .get-name .ensures .0 ∙ rw (here, numberOf); next-is = rw (here, behind); bound = c .get-name .ensures .1 }
 
 zero-requires : tie.Need-zero-requires
 zero-requires c κs = search needs
@@ -36,8 +39,10 @@ add-t10 : tie.Need-add-t10
 add-t10 c = search needs
 
 returns-2 : tie.Need-returns-2
+unfolding numberOf behind
 returns-2 c =
-    rw (sym (c .before .before .stands .ensures) ∙ c .before .if1 .left) (record { value-is = c .zero .ensures; next-is = add-one _; bound = rw (c .zero .ensures) (pow-pos 32) })
+    let gone = sym (c .before .before .stands .ensures) ∙ c .before .if1 .left in
+    record { value-is = c .zero .ensures ∙ rw (gone, numberOf); next-is = add-one _ ∙ rw (gone, behind); bound = rw (c .zero .ensures) (pow-pos 32) }
 
 pub name-at-spec : {M : Type 1} → statement M
 name-at-spec =

@@ -1,0 +1,15 @@
+-- `words::own_block` meets its contract. Assumes nothing.
+use mathlib.Core.Path.{refl}
+use Rattle.rules.specs.Words.{ownBlock}
+use Rattle.wire.specs.Meaning.{statementOf}
+use Rattle.words.specs.Meaning.{blockOf}
+use Rattle.words.proofs.own_block.Statement.{statement}
+use Rattle.words.proofs.own_block.Tie as tie
+
+returns : tie.Need-returns
+unfolding blockOf ownBlock statementOf
+returns c =
+    refl
+
+pub own-block-spec : {M : Type 1} → statement M
+own-block-spec = tie.close (tie.spec returns)
