@@ -1,0 +1,4 @@
+pub mod Inputs
+pub mod Records
+pub mod Judging
+pub mod Putting
