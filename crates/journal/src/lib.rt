@@ -7,15 +7,12 @@ use slots::Slot;
 
 // The place for the next record, and its number.
 enum Room {
-    Free {
-        records: u64,
-        place: usize,
-    },
+    Free { records: u64, place: usize },
     Nowhere,
 }
 
 // The first blank slot, if nothing before it stops a replay.
-fn room(journal: &[u8]) -> Room
+fn find_room(journal: &[u8]) -> Room
     ensures { λ r. ⌜ Found (now (journal .entry)) r ⌝ }
 {
     let count = journal.len() / slots::LENGTH;
@@ -58,7 +55,7 @@ pub extern "C" fn journal_write(journal: &mut [u8], kind: u64, input: &[u8]) -> 
         return slots::refuse(13);
     }
     if slots::is_input(kind, input) {
-        let Room::Free { records, place } = room(journal) else {
+        let Room::Free { records, place } = find_room(journal) else {
             return slots::refuse(13);
         };
         let at = place * slots::LENGTH;

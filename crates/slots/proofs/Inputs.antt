@@ -51,9 +51,10 @@ module _ (k : ℕ) (bs : List ℕ) where
   unfolding isInput
   input-fits h =
       let l = leb-true (length bs) mostInput (and-left (leb (length bs) mostInput) _ h) in
-      let t = and-right (leb (length bs) mostInput) _ h in
-      (by-bool (eqb k 1) (λ p. omega (arith, eqb-true k 1 p))
-      (λ p.
-      by-bool (eqb k 2) (λ q. omega (arith, eqb-true k 2 q))
-      (λ q. let u : (eqb k 3 && isReadable bs) ≡ true = rw (p, q) at t in omega (arith, eqb-true k 3 (and-left (eqb k 3) (isReadable bs) u)))),
-      l)
+      let t = and-right (leb (length bs) mostInput) _ h in (
+        by-bool (eqb k 1) (λ p. omega (arith, eqb-true k 1 p))
+            (λ p.
+            by-bool (eqb k 2) (λ q. omega (arith, eqb-true k 2 q))
+            (λ q. let u : (eqb k 3 && isReadable bs) ≡ true = rw (p, q) at t in omega (arith, eqb-true k 3 (and-left (eqb k 3) (isReadable bs) u)))),
+        l,
+      )

@@ -100,7 +100,7 @@ module _ (s : List ℕ) (n : length s ≡ slotLength) {z k m : ℕ} {i : Bool} (
     unfolding recordIn slotOf sequenceIn
     is-whole v h b =
         let parts : whole q k (take (z - 1) (drop inputPlace s)) ≡ whole (sequenceIn s) (kindIn s) (inputIn s) =
-          ap₂ (λ (x : ℕ) (y : List ℕ). whole x k y) o (sym (input-is s n (z - 1) size)) ∙ ap (λ (x : ℕ). whole (number s 3 4) x (inputIn s)) (f ∙ sym (kind-is s n (z - 1) size)) in
+        ap₂ (λ (x : ℕ) (y : List ℕ). whole x k y) o (sym (input-is s n (z - 1) size)) ∙ ap (λ (x : ℕ). whole (number s 3 4) x (inputIn s)) (f ∙ sym (kind-is s n (z - 1) size)) in
         record { is = parts ∙ sym (ap (chosen s) (compared ∙ v)); within = (h, b) }
 
 -- the whole slot

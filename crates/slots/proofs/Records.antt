@@ -63,8 +63,8 @@ record-wrote {s₁} {s₂} {s₃} {s₄} {s₅} {s₆} {s₇} s q k bs n hq hk h
     let c : Says s₅ (11 + l) pad s₆ 127 = rw (zeros w) at z in
     let d : Says s₆ 127 (0x5A ∷ []) s₇ 128 = put-says s₆ 127 1 0x5A (lit< tt) e₇ refl in
     let all : Says s 0 (first ++ (second ++ (pad ++ 0x5A ∷ []))) s₇ 128 =
-      says-both s 0 first (second ++ (pad ++ 0x5A ∷ [])) s₂ s₇ 7 128 a
-      (says-both s₂ 7 second (pad ++ 0x5A ∷ []) s₅ s₇ (11 + l) 128 b (says-both s₅ (11 + l) pad (0x5A ∷ []) s₆ s₇ 127 128 c d)) in
+    says-both s 0 first (second ++ (pad ++ 0x5A ∷ [])) s₂ s₇ 7 128 a
+    (says-both s₂ 7 second (pad ++ 0x5A ∷ []) s₅ s₇ (11 + l) 128 b (says-both s₅ (11 + l) pad (0x5A ∷ []) s₆ s₇ 127 128 c d)) in
     let len : length (first ++ (second ++ (pad ++ 0x5A ∷ []))) ≡ 128 = length-record q k bs hb in
     all .out ∙ wrote-prefix s (first ++ (second ++ (pad ++ 0x5A ∷ []))) (omega arith)
     ∙ ap ((first ++ (second ++ (pad ++ 0x5A ∷ []))) ++_) (drop-of-length-le s {i = length (first ++ (second ++ (pad ++ 0x5A ∷ [])))} (omega arith))
