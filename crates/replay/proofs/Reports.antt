@@ -12,6 +12,7 @@ use lib.Dec.{leb, ltb, eqb}
 use borrow.Author.Tests.{eqb-true, ltb-true, leb-true, lt-ltb, le-ltb, lt-leb, le-leb}
 use Rattle.rules.specs.Limits.{leastOut}
 use Rattle.rules.specs.Lists.{unbe}
+use Rattle.rules.specs.Words.{State}
 use Rattle.rules.specs.WellFormed.{wellFormed}
 use Rattle.rules.proofs.Bytes.{length-unbe}
 use Rattle.rules.proofs.Truths.{and-2, and-4}
@@ -110,7 +111,7 @@ head-wrote c p n t ps hc hp hn h =
 
 module _ (j b o t : List ℕ) where
   -- an answer by its two tests
-  abbrev answered : Bool → Option _ → Replayed
+  abbrev answered : Bool → Option State → Replayed
   answered x d = elim x [ false ↦ replayed (1 * 2 ^ 32) b o t | true ↦ elim d [ none ↦ replayed (2 * 2 ^ 32) b o t | some s ↦ reported (replayFrom 0 0 b o (slotsOf j)) t ] ]
 
   pub no-lengths : {y : Bool} {r : ℕ} → y ≡ hasLengths j b o t → y ≡ false → r ≡ 1 * 2 ^ 32 → replayed r b o t ≡ replaying j b o t
@@ -130,9 +131,6 @@ module _ (j b o t : List ℕ) where
       abbrev w : Replay
       w = replayFrom 0 0 b o (slotsOf j)
 
-      abbrev parts : _
-      parts = lengths-parts j b o t e f
-
       parts-of : (b′ ≡ w .store) × (o′ ≡ w .out) × (t′ ≡ wrote t 12 (placesBytes (w .torn))) × (x .torn ≡ length (w .torn)) × (x .records ≡ w .records) × (x .place ≡ w .place) × (x .stopped ≡ w .stopped)
       unfolding ended endOf
       parts-of =
@@ -148,10 +146,10 @@ module _ (j b o t : List ℕ) where
           let d = lengths-parts j b o t e f in
           let l : 12 + length ps ≤ length t = omega (arith, n, k .torn, k .place, d .2, p .3) in
           let whole : reportBytes w ≡ unbe 4 (x .records) ++ (unbe 4 (x .place) ++ (unbe 4 (x .torn) ++ ps)) =
-            ap₂ (λ (c y : ℕ). unbe 4 c ++ (unbe 4 y ++ (unbe 4 (length (w .torn)) ++ ps))) (sym (p .4)) (sym (p .5))
-            ∙ ap (λ (y : ℕ). unbe 4 (x .records) ++ (unbe 4 (x .place) ++ (unbe 4 y ++ ps))) (sym (p .3)) in
+          ap₂ (λ (c y : ℕ). unbe 4 c ++ (unbe 4 y ++ (unbe 4 (length (w .torn)) ++ ps))) (sym (p .4)) (sym (p .5))
+          ∙ ap (λ (y : ℕ). unbe 4 (x .records) ++ (unbe 4 (x .place) ++ (unbe 4 y ++ ps))) (sym (p .3)) in
           let size : length (unbe 4 (x .records) ++ (unbe 4 (x .place) ++ (unbe 4 (x .torn) ++ ps))) ≡ 12 + length ps =
-            omega (arith, length-append (unbe 4 (x .records)) (unbe 4 (x .place) ++ (unbe 4 (x .torn) ++ ps)), length-append (unbe 4 (x .place)) (unbe 4 (x .torn) ++ ps), length-append (unbe 4 (x .torn)) ps, length-unbe 4 (x .records), length-unbe 4 (x .place), length-unbe 4 (x .torn)) in
+          omega (arith, length-append (unbe 4 (x .records)) (unbe 4 (x .place) ++ (unbe 4 (x .torn) ++ ps)), length-append (unbe 4 (x .place)) (unbe 4 (x .torn) ++ ps), length-append (unbe 4 (x .torn)) ps, length-unbe 4 (x .records), length-unbe 4 (x .place), length-unbe 4 (x .torn)) in
           h ∙ ap (λ (y : List ℕ). put (put (put y 0 4 (x .records)) 4 4 (x .place)) 8 4 (x .torn)) (p .2)
           ∙ head-wrote (x .records) (x .place) (x .torn) t ps (omega (arith, k .records, k .place, d .1)) (omega (arith, k .place, d .1)) (omega (arith, k .torn, k .place, d .1)) l
           ∙ ap₂ (λ (y : List ℕ) (i : ℕ). y ++ drop i t) (sym whole) (sym size ∙ ap length (sym whole))

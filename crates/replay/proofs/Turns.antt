@@ -45,7 +45,7 @@ at-skip p n t v h =
     let count : n + 1 + length (v .torn) ≡ n + suc (length (v .torn)) = omega arith in
     let place : 12 + 4 * (n + 1) ≡ 12 + 4 * n + length (unbe 4 p) = omega (arith, length-unbe 4 p) in
     let bytes : wrote (put t (12 + 4 * n) 4 p) (12 + 4 * (n + 1)) ps ≡ wrote t (12 + 4 * n) (unbe 4 p ++ ps) =
-      ap₂ (λ (l : List ℕ) (x : ℕ). wrote l x ps) (put-wrote t (12 + 4 * n) 4 p h) place ∙ sym (wrote-append t (12 + 4 * n) (unbe 4 p) ps) in
+    ap₂ (λ (l : List ℕ) (x : ℕ). wrote l x ps) (put-wrote t (12 + 4 * n) 4 p h) place ∙ sym (wrote-append t (12 + 4 * n) (unbe 4 p) ps) in
     ap₂ (λ (x : ℕ) (l : List ℕ). record { stopped = v .stopped; records = v .records; place = v .place; torn = x; store = v .store; out = v .out; report = l }) count bytes
 
 -- the input of a whole record, in its slot and in the journal

@@ -83,7 +83,11 @@ fn replay_slots(journal: &[u8], store: &mut [u8], out: &mut [u8], report: &mut [
                     torn,
                 };
             }
-            Slot::Whole { sequence, kind, length } => {
+            Slot::Whole {
+                sequence,
+                kind,
+                length,
+            } => {
                 if sequence != records {
                     return Ending {
                         stopped: true,
@@ -146,7 +150,12 @@ fn write_head(report: &mut [u8], records: u64, place: u64, torn: u64)
 
 // Hands the input of each whole record of a journal to the station, and reports what was read.
 #[no_mangle]
-pub extern "C" fn journal_replay(journal: &[u8], store: &mut [u8], out: &mut [u8], report: &mut [u8]) -> u64
+pub extern "C" fn journal_replay(
+    journal: &[u8],
+    store: &mut [u8],
+    out: &mut [u8],
+    report: &mut [u8],
+) -> u64
     ensures { λ r. ⌜ replayed r (now (store .exit)) (now (out .exit)) (now (report .exit)) ≡ replaying (now (journal .entry)) (now (store .entry)) (now (out .entry)) (now (report .entry)) ⌝ }
 {
     if has_lengths(journal, store, out, report) {

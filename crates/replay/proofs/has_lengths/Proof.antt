@@ -1,42 +1,38 @@
+-- `replay::has_lengths` meets its contract, length by length. Assumes nothing.
+use native.Mathlib.Omega.{arith}
+use Rattle.journal.proofs.Rooms.{slot-count}
+use Rattle.replay.proofs.Reports.{no-store, no-out, too-long, by-report}
 use borrow.Author.Needs.{needs}
 use Rattle.replay.proofs.has_lengths.Statement.{statement}
 use Rattle.replay.proofs.has_lengths.Tie as tie
-use Rattle.replay.proofs.has_lengths.Reads as reads
-use Rattle.replay.proofs.has_lengths.Lts as lts
-use Rattle.store.proofs.is_whole.Reads as is-whole-reads
-use Rattle.store.proofs.least_out_in.Reads as least-out-in-reads
 
--- src/lib.rt:124:8
 is-whole-requires : tie.Need-is-whole-requires
 is-whole-requires c κs = search needs
 
--- src/lib.rt:125:24
 least-out-in-requires : tie.Need-least-out-in-requires
 least-out-in-requires c κs = search needs
 
--- src/lib.rt:126:13
 returns : tie.Need-returns
-returns c = ?
+returns c =
+    let a = c .before .before .before .before .before .before .before .before .args in no-out (a .journal .now) (a .store .now) (a .out .now) (a .report .now) (c .before .before .before .is-whole .ensures) (c .before .before .if1 .taken) (omega (arith, c .if2 .taken, c .before .least-out-in .ensures))
 
--- src/lib.rt:130:13
 returns-2 : tie.Need-returns-2
-returns-2 c = ?
+returns-2 c =
+    let a = c .before .before .before .before .before .before .before .before .before .args in too-long (a .journal .now) (a .store .now) (a .out .now) (a .report .now) (c .before .before .before .before .is-whole .ensures) (c .before .before .before .if1 .taken) (omega (arith, c .before .if2 .left, c .before .before .least-out-in .ensures)) (slot-count (a .journal .now)) (c .if3 .taken)
 
--- src/lib.rt:132:21
 mul-result : tie.Need-mul-result
 mul-result c = search needs
 
--- src/lib.rt:132:16
 add-result : tie.Need-add-result
 add-result c = search needs
 
--- src/lib.rt:132:9
 returns-3 : tie.Need-returns-3
-returns-3 c = ?
+returns-3 c =
+    let a = c .before .before .before .before .before .before .before .before .before .args in by-report (a .journal .now) (a .store .now) (a .out .now) (a .report .now) (c .before .before .before .before .is-whole .ensures) (c .before .before .before .if1 .taken) (omega (arith, c .before .if2 .left, c .before .before .least-out-in .ensures)) (slot-count (a .journal .now)) (c .if3 .left)
 
--- src/lib.rt:121:1
 returns-4 : tie.Need-returns-4
-returns-4 c = ?
+returns-4 c =
+    let a = c .before .before .before .before .before .before .args in no-store (a .journal .now) (a .store .now) (a .out .now) (a .report .now) (c .before .is-whole .ensures) (c .if1 .left)
 
 pub has-lengths-spec : {M : Type 1} → statement M
 has-lengths-spec =

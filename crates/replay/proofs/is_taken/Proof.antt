@@ -2,25 +2,19 @@
 use Rattle.replay.proofs.Untaken.{taken-zero, taken-six, taken-seven, taken-other}
 use Rattle.replay.proofs.is_taken.Statement.{statement}
 use Rattle.replay.proofs.is_taken.Tie as tie
-use Rattle.replay.proofs.is_taken.Reads as reads
-use Rattle.replay.proofs.is_taken.Lts as lts
 
--- src/lib.rt:26:9
 returns : tie.Need-returns
 returns c =
     taken-zero _ (c .if1 .taken)
 
--- src/lib.rt:29:9
 returns-2 : tie.Need-returns-2
 returns-2 c =
     taken-six _ (c .if2 .taken)
 
--- src/lib.rt:32:9
 returns-3 : tie.Need-returns-3
 returns-3 c =
     taken-seven _ (c .if3 .taken)
 
--- src/lib.rt:21:1
 returns-4 : tie.Need-returns-4
 returns-4 c =
     taken-other _ (c .before .before .if1 .left) (c .before .if2 .left) (c .if3 .left)

@@ -11,12 +11,6 @@ use Rattle.replay.specs.Meaning.{endOf}
 use borrow.Author.Needs.{needs}
 use Rattle.replay.proofs.replay_slots.Statement.{statement}
 use Rattle.replay.proofs.replay_slots.Tie as tie
-use Rattle.replay.proofs.replay_slots.Reads as reads
-use Rattle.replay.proofs.replay_slots.Lts as lts
-use Rattle.fields.proofs.put.Reads as put-reads
-use Rattle.replay.proofs.hand.Reads as hand-reads
-use Rattle.replay.proofs.is_taken.Reads as is-taken-reads
-use Rattle.slots.proofs.judge.Reads as judge-reads
 
 abbrev Inv-loop : tie.InvT-loop
 Inv-loop journal store₀ out₀ report₀ count records₀ place₀ torn₀ store out report records place torn =
@@ -26,52 +20,40 @@ Inv-loop journal store₀ out₀ report₀ count records₀ place₀ torn₀ sto
 abbrev μ-loop : tie.MeasureT-loop
 μ-loop journal store₀ out₀ report₀ count records₀ place₀ torn₀ store out report records place torn = count - place
 
--- src/lib.rt:59:5
 loop-holds : tie.Need-loop-holds Inv-loop μ-loop
 loop-holds c =
     let a = c .before .before .before .before .args in (search needs, search needs, search needs, refl, refl, refl, at-start (a .journal .now) (a .store .now) (a .out .now) (a .report .now))
 
--- src/lib.rt:60:18
 mul-at : tie.Need-mul-at Inv-loop μ-loop
 mul-at c = search needs
 
--- src/lib.rt:61:19
 add-end : tie.Need-add-end Inv-loop μ-loop
 add-end c = search needs
 
--- src/lib.rt:62:28
 sub-judge : tie.Need-sub-judge Inv-loop μ-loop
 sub-judge c = search needs
 
--- src/lib.rt:62:28
 part-judge-start : tie.Need-part-judge-start Inv-loop μ-loop
 part-judge-start c = search needs
 
--- src/lib.rt:62:28
 part-judge-end : tie.Need-part-judge-end Inv-loop μ-loop
 part-judge-end c = search needs
 
--- src/lib.rt:62:15
 judge-requires : tie.Need-judge-requires Inv-loop μ-loop
 judge-requires c κs = search needs
 
--- src/lib.rt:64:17
 enum-told : tie.Need-enum-told Inv-loop μ-loop
 enum-told c = search needs
 
--- src/lib.rt:64:17
 same-length : tie.Need-same-length Inv-loop μ-loop
 same-length c = search needs
 
--- src/lib.rt:64:17
 same-length-2 : tie.Need-same-length-2 Inv-loop μ-loop
 same-length-2 c = search needs
 
--- src/lib.rt:64:17
 same-length-3 : tie.Need-same-length-3 Inv-loop μ-loop
 same-length-3 c = search needs
 
--- src/lib.rt:64:17
 returns : tie.Need-returns Inv-loop μ-loop
 returns c =
     let a = c .before .before .before .before .before .before .before .before .before .before .args in
@@ -80,19 +62,15 @@ returns c =
     let s = part-held j (l .place) {m = (l .place * 128 + 128) - l .place * 128} (c .before .before .judge .ensures) (omega arith) in
     record { is = at-blank j _ (l .records) (l .place) (length j / 128) (l .torn) (l .store) (l .out) (l .report) (l .inv .6) (c .before .before .before .before .loop-test .taken) _ s (c .enum-told .given .1); bounded = record { records = l .inv .1; torn = l .inv .2; place = omega (arith, slot-count j, l .inv .0) } }
 
--- src/lib.rt:72:29
 enum-told-2 : tie.Need-enum-told-2 Inv-loop μ-loop
 enum-told-2 c = search needs
 
--- src/lib.rt:72:42
 mul-put : tie.Need-mul-put Inv-loop μ-loop
 mul-put c = search needs
 
--- src/lib.rt:72:37
 add-put : tie.Need-add-put Inv-loop μ-loop
 add-put c = search needs
 
--- src/lib.rt:72:17
 put-requires : tie.Need-put-requires Inv-loop μ-loop
 put-requires c κs =
     let a = c .before .before .before .before .before .before .before .before .before .before .before .args in
@@ -100,45 +78,42 @@ put-requires c κs =
     let j = a .journal .now in
     omega (arith, slot-count j, c .before .before .before .before .before .before .before .before .before .before .before .pre .1, l .inv .2, l .inv .5, c .before .before .before .before .before .loop-test .taken)
 
--- src/lib.rt:73:17
 add-torn : tie.Need-add-torn Inv-loop μ-loop
 add-torn c = search needs
 
--- src/lib.rt:74:17
 add-place : tie.Need-add-place Inv-loop μ-loop
 add-place c = search needs
 
--- src/lib.rt:59:5
 loop-less : tie.Need-loop-less Inv-loop μ-loop
 loop-less c = search needs
 
--- src/lib.rt:59:5
 loop-again : tie.Need-loop-again Inv-loop μ-loop
 loop-again c =
     let a = c .before .before .before .before .before .before .before .before .before .before .before .before .before .before .args in
     let l = c .before .before .before .before .before .before .before .before .before .loop in
     let j = a .journal .now in
-    let s = part-held j (l .place) {m = (l .place * 128 + 128) - l .place * 128} (c .before .before .before .before .before .before .judge .ensures) (omega arith) in
-    (omega arith, omega arith, omega arith, l .inv .3, l .inv .4, omega (arith, c .before .before .put .kept .0, l .inv .5),
-    at-torn j _ (l .records) (l .place) (length j / 128) (l .torn) (l .store) (l .out) (l .report) (l .inv .6) (c .before .before .before .before .before .before .before .before .loop-test .taken) _ s (c .before .before .before .before .enum-told2 .given .1) (omega (arith, slot-count j, c .before .before .before .before .before .before .before .before .before .before .before .before .before .before .pre .0, c .before .before .before .before .before .before .before .before .loop-test .taken)) (c .before .before .put .ensures))
+    let s = part-held j (l .place) {m = (l .place * 128 + 128) - l .place * 128} (c .before .before .before .before .before .before .judge .ensures) (omega arith) in (
+      omega arith,
+      omega arith,
+      omega arith,
+      l .inv .3,
+      l .inv .4,
+      omega (arith, c .before .before .put .kept .0, l .inv .5),
+      at-torn j _ (l .records) (l .place) (length j / 128) (l .torn) (l .store) (l .out) (l .report) (l .inv .6) (c .before .before .before .before .before .before .before .before .loop-test .taken) _ s (c .before .before .before .before .enum-told2 .given .1) (omega (arith, slot-count j, c .before .before .before .before .before .before .before .before .before .before .before .before .before .before .pre .0, c .before .before .before .before .before .before .before .before .loop-test .taken)) (c .before .before .put .ensures),
+    )
 
--- src/lib.rt:78:17
 enum-told-3 : tie.Need-enum-told-3 Inv-loop μ-loop
 enum-told-3 c = search needs
 
--- src/lib.rt:78:17
 same-length-4 : tie.Need-same-length-4 Inv-loop μ-loop
 same-length-4 c = search needs
 
--- src/lib.rt:78:17
 same-length-5 : tie.Need-same-length-5 Inv-loop μ-loop
 same-length-5 c = search needs
 
--- src/lib.rt:78:17
 same-length-6 : tie.Need-same-length-6 Inv-loop μ-loop
 same-length-6 c = search needs
 
--- src/lib.rt:78:17
 returns-2 : tie.Need-returns-2 Inv-loop μ-loop
 returns-2 c =
     let a = c .before .before .before .before .before .before .before .before .before .before .args in
@@ -147,23 +122,18 @@ returns-2 c =
     let s = part-held j (l .place) {m = (l .place * 128 + 128) - l .place * 128} (c .before .before .judge .ensures) (omega arith) in
     record { is = at-bad j _ (l .records) (l .place) (length j / 128) (l .torn) (l .store) (l .out) (l .report) (l .inv .6) (c .before .before .before .before .loop-test .taken) _ s (c .enum-told3 .given .1); bounded = record { records = l .inv .1; torn = l .inv .2; place = omega (arith, slot-count j, l .inv .0) } }
 
--- src/lib.rt:85:27
 enum-known-sequence : tie.Need-enum-known-sequence Inv-loop μ-loop
 enum-known-sequence c = search needs
 
--- src/lib.rt:87:21
 same-length-7 : tie.Need-same-length-7 Inv-loop μ-loop
 same-length-7 c = search needs
 
--- src/lib.rt:87:21
 same-length-8 : tie.Need-same-length-8 Inv-loop μ-loop
 same-length-8 c = search needs
 
--- src/lib.rt:87:21
 same-length-9 : tie.Need-same-length-9 Inv-loop μ-loop
 same-length-9 c = search needs
 
--- src/lib.rt:87:21
 returns-3 : tie.Need-returns-3 Inv-loop μ-loop
 returns-3 c =
     let a = c .before .before .before .before .before .before .before .before .before .before .before .before .args in
@@ -172,49 +142,38 @@ returns-3 c =
     let s = part-held j (l .place) {m = (l .place * 128 + 128) - l .place * 128} (c .before .before .before .before .judge .ensures) (omega arith) in
     record { is = at-other j _ (l .records) (l .place) (length j / 128) (l .torn) (l .store) (l .out) (l .report) (l .inv .6) (c .before .before .before .before .before .before .loop-test .taken) _ s (c .before .before .sequence .given .1) (c .if1 .taken); bounded = record { records = l .inv .1; torn = l .inv .2; place = omega (arith, slot-count j, l .inv .0) } }
 
--- src/lib.rt:94:28
 add-from : tie.Need-add-from Inv-loop μ-loop
 add-from c = search needs
 
--- src/lib.rt:95:26
 add-to : tie.Need-add-to Inv-loop μ-loop
 add-to c =
     omega (arith, whole-within (c .before .before .before .before .judge .ensures .within) (c .before .before .sequence .given .1))
 
--- src/lib.rt:96:41
 sub-hand : tie.Need-sub-hand Inv-loop μ-loop
 sub-hand c = search needs
 
--- src/lib.rt:96:41
 part-hand-start : tie.Need-part-hand-start Inv-loop μ-loop
 part-hand-start c = search needs
 
--- src/lib.rt:96:41
 part-hand-end : tie.Need-part-hand-end Inv-loop μ-loop
 part-hand-end c =
     omega (arith, whole-within (c .before .before .before .before .judge .ensures .within) (c .before .before .sequence .given .1))
 
--- src/lib.rt:96:21
 hand-requires : tie.Need-hand-requires Inv-loop μ-loop
 hand-requires c κs = search needs
 
--- src/lib.rt:97:20
 is-taken-requires : tie.Need-is-taken-requires Inv-loop μ-loop
 is-taken-requires c κs = search needs
 
--- src/lib.rt:98:21
 add-records : tie.Need-add-records Inv-loop μ-loop
 add-records c = search needs
 
--- src/lib.rt:99:21
 add-place-2 : tie.Need-add-place-2 Inv-loop μ-loop
 add-place-2 c = search needs
 
--- src/lib.rt:59:5
 loop-less-2 : tie.Need-loop-less-2 Inv-loop μ-loop
 loop-less-2 c = search needs
 
--- src/lib.rt:59:5
 loop-again-2 : tie.Need-loop-again-2 Inv-loop μ-loop
 loop-again-2 c =
     let a = c .before .before .before .before .before .before .before .before .before .before .before .before .before .before .before .before .before .before .before .before .before .before .args in
@@ -222,23 +181,25 @@ loop-again-2 c =
     let j = a .journal .now in
     let s = part-held j (l .place) {m = (l .place * 128 + 128) - l .place * 128} (c .before .before .before .before .before .before .before .before .before .before .before .before .before .before .judge .ensures) (omega arith) in
     let m = c .before .before .before .before .before .before .before .before .before .before .before .before .sequence .given .0 .1 .1 .0 in
-    let e = input-part j (l .place) m ((l .place * 128 + 11 + m) - (l .place * 128 + 11)) (whole-within (c .before .before .before .before .before .before .before .before .before .before .before .before .before .before .judge .ensures .within) (c .before .before .before .before .before .before .before .before .before .before .before .before .sequence .given .1)) (omega arith) in
-    (omega arith, omega arith, omega arith, omega (arith, c .before .before .before .before .before .before .hand .kept .1 .1 .0, l .inv .3), omega (arith, c .before .before .before .before .before .before .hand .kept .1 .1 .1 .0, l .inv .4), l .inv .5,
-    at-taken j _ (l .records) (l .place) (length j / 128) (l .torn) (l .store) (l .out) (l .report) (l .inv .6) (c .before .before .before .before .before .before .before .before .before .before .before .before .before .before .before .before .loop-test .taken) _ s (c .before .before .before .before .before .before .before .before .before .before .before .before .sequence .given .1) (c .before .before .before .before .before .before .hand .ensures) (c .before .before .before .before .before .before .before .before .before .before .if1 .left) e (c .before .is-taken .ensures) (c .if2 .taken))
+    let e = input-part j (l .place) m ((l .place * 128 + 11 + m) - (l .place * 128 + 11)) (whole-within (c .before .before .before .before .before .before .before .before .before .before .before .before .before .before .judge .ensures .within) (c .before .before .before .before .before .before .before .before .before .before .before .before .sequence .given .1)) (omega arith) in (
+      omega arith,
+      omega arith,
+      omega arith,
+      omega (arith, c .before .before .before .before .before .before .hand .kept .1 .1 .0, l .inv .3),
+      omega (arith, c .before .before .before .before .before .before .hand .kept .1 .1 .1 .0, l .inv .4),
+      l .inv .5,
+      at-taken j _ (l .records) (l .place) (length j / 128) (l .torn) (l .store) (l .out) (l .report) (l .inv .6) (c .before .before .before .before .before .before .before .before .before .before .before .before .before .before .before .before .loop-test .taken) _ s (c .before .before .before .before .before .before .before .before .before .before .before .before .sequence .given .1) (c .before .before .before .before .before .before .hand .ensures) (c .before .before .before .before .before .before .before .before .before .before .if1 .left) e (c .before .is-taken .ensures) (c .if2 .taken),
+    )
 
--- src/lib.rt:102:17
 same-length-10 : tie.Need-same-length-10 Inv-loop μ-loop
 same-length-10 c = search needs
 
--- src/lib.rt:102:17
 same-length-11 : tie.Need-same-length-11 Inv-loop μ-loop
 same-length-11 c = search needs
 
--- src/lib.rt:102:17
 same-length-12 : tie.Need-same-length-12 Inv-loop μ-loop
 same-length-12 c = search needs
 
--- src/lib.rt:102:17
 returns-4 : tie.Need-returns-4 Inv-loop μ-loop
 returns-4 c =
     let a = c .before .before .before .before .before .before .before .before .before .before .before .before .before .before .before .before .before .before .before .before .before .before .args in
@@ -249,19 +210,15 @@ returns-4 c =
     let e = input-part j (l .place) m ((l .place * 128 + 11 + m) - (l .place * 128 + 11)) (whole-within (c .before .before .before .before .before .before .before .before .before .before .before .before .before .before .judge .ensures .within) (c .before .before .before .before .before .before .before .before .before .before .before .before .sequence .given .1)) (omega arith) in
     record { is = at-untaken j _ (l .records) (l .place) (length j / 128) (l .torn) (l .store) (l .out) (l .report) (l .inv .6) (c .before .before .before .before .before .before .before .before .before .before .before .before .before .before .before .before .loop-test .taken) _ s (c .before .before .before .before .before .before .before .before .before .before .before .before .sequence .given .1) (c .before .before .before .before .before .before .hand .ensures) (c .before .before .before .before .before .before .before .before .before .before .if1 .left) e (c .before .is-taken .ensures) (c .if2 .left); bounded = record { records = l .inv .1; torn = l .inv .2; place = omega (arith, slot-count j, l .inv .0) } }
 
--- src/lib.rt:51:1
 same-length-13 : tie.Need-same-length-13 Inv-loop μ-loop
 same-length-13 c = search needs
 
--- src/lib.rt:51:1
 same-length-14 : tie.Need-same-length-14 Inv-loop μ-loop
 same-length-14 c = search needs
 
--- src/lib.rt:51:1
 same-length-15 : tie.Need-same-length-15 Inv-loop μ-loop
 same-length-15 c = search needs
 
--- src/lib.rt:51:1
 returns-5 : tie.Need-returns-5 Inv-loop μ-loop
 returns-5 c =
     let a = c .before .before .before .before .before .before .args in
