@@ -1,0 +1,4 @@
+pub mod OneForm
+pub mod Places
+pub mod Stored
+pub mod Tries
