@@ -2,3 +2,5 @@ pub mod OneForm
 pub mod Places
 pub mod Stored
 pub mod Tries
+pub mod Replays
+pub mod Cuts

@@ -5,7 +5,7 @@ use mathlib.Core.Bool.{Bool, true, false}
 use mathlib.Core.List.{List, [], _∷_}
 use lib.ListN.{length, replicate}
 use lib.Dec.{eqb}
-use Rattle.slots.specs.Slots.{slotLength, Slot, blank, torn, whole}
+use Rattle.slots.specs.Slots.{slotLength, Slot, blank, torn, bad, whole}
 use Rattle.replay.specs.Replay.{handed, isTaken, Replay}
 use Rattle.cuts.specs.Disk.{Try}
 
@@ -79,3 +79,11 @@ replayOf c p ts n b o =
 -- a replay that was not stopped
 unfoldable pub calm : Replay → Replay
 calm v = record { stopped = false; records = v .records; place = v .place; torn = v .torn; store = v .store; out = v .out }
+
+-- no slot is blank
+abbrev pub Filled : List Slot → Type 0
+Filled [] = Unit
+Filled (blank ∷ ss) = ⊥
+Filled (torn ∷ ss) = Filled ss
+Filled (bad ∷ ss) = Filled ss
+Filled (whole q k bs ∷ ss) = Filled ss
