@@ -1,5 +1,5 @@
 -- Power cuts: what the calls on a journal make of a disk after any tries and cuts. Assumes nothing.
-use Prim.Native.Nat.{ℕ, zero, suc, _+_, _*_, _^_, _<_, _≤_}
+use Prim.Native.Nat.{ℕ, zero, suc, _+_, _*_, _^_, _<_}
 use mathlib.Core.Path.{_≡_, refl, sym, ap, ap₂, _∙_}
 use mathlib.Core.Bool.{Bool, true, false, _&&_}
 use mathlib.Core.List.{List, [], _∷_, _++_}
@@ -17,7 +17,7 @@ use Rattle.slots.specs.Slots.{slotLength, isInput, recordBytes, Written, writte
 use Rattle.slots.proofs.Inputs.{input-fits}
 use Rattle.slots.proofs.Records.{length-record}
 use Rattle.journal.specs.Journal.{slotCount, slotAt, slotsFrom, slotsOf, withSlot, Room, free, nowhere, roomFrom, roomIn, isShort, placing, writing}
-use Rattle.replay.specs.Replay.{Replayed, replayed, reported, replayFrom, hasLengths, replaying}
+use Rattle.replay.specs.Replay.{replayed, reported, replayFrom, hasLengths, replaying}
 use Rattle.cuts.specs.Disk.{Try, Proper, tryIn, trying, tryAll, Zeroed}
 use Rattle.cuts.specs.After.{isUntouched, isComplete, completed, AllTaken, replayOf, Filled}
 use Rattle.cuts.proofs.Places.{length-slot}

@@ -1,4 +1,3 @@
-pub mod OneForm
 pub mod Places
 pub mod Stored
 pub mod Tries

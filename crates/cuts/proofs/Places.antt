@@ -1,13 +1,13 @@
 -- Slots of a journal after one of them was replaced. Assumes nothing.
 use Prim.Native.Nat.{ℕ, zero, suc, _+_, _-_, _*_, _/_, _<_, _≤_}
 use mathlib.Core.Path.{_≡_, refl, sym, ap, ap₂, _∙_}
-use mathlib.Core.List.{List, [], _∷_, _++_, append-assoc}
+use mathlib.Core.List.{List, _∷_, _++_, append-assoc}
 use native.Mathlib.Omega.{arith}
-use native.Mathlib.Nat.{add-zero, add-suc, suc-add}
+use native.Mathlib.Nat.{add-zero, suc-add}
 use lib.ListN.{length, take, drop, length-append, length-drop, take-append-drop}
 use lib.Seq.{length-take-le, take-at, drop-at, drop-append-le, take-append-le, drop-append-add, drop-drop}
-use Rattle.slots.specs.Slots.{slotLength, judged, Slot}
-use Rattle.journal.specs.Journal.{slotCount, slotAt, withSlot, slotsFrom, slotsOf}
+use Rattle.slots.specs.Slots.{slotLength, judged}
+use Rattle.journal.specs.Journal.{slotCount, slotAt, withSlot, slotsFrom}
 
 -- a slot's place lies within the journal
 pub slot-within : (j : List ℕ) (p : ℕ) → p < slotCount j → p * slotLength + slotLength ≤ length j

@@ -1,5 +1,5 @@
 -- What a replay makes of the slots that tries and cuts left, and what a stopped one leaves. Assumes nothing.
-use Prim.Native.Nat.{ℕ, zero, suc, _+_, _<_, _≤_}
+use Prim.Native.Nat.{ℕ, zero, suc, _+_, _≤_}
 use mathlib.Core.Path.{_≡_, refl, sym, ap, ap₂, _∙_, subst}
 use mathlib.Core.Bool.{Bool, true, false, _&&_}
 use mathlib.Core.List.{List, [], _∷_}
@@ -12,6 +12,7 @@ use Rattle.slots.specs.Slots.{Slot, blank, torn, bad, whole}
 use Rattle.replay.specs.Replay.{handed, isTaken, Replay, ends, skipping, replayFrom}
 use Rattle.cuts.specs.Disk.{Try}
 use Rattle.cuts.specs.After.{isUntouched, isComplete, laid, completed, tornPlaces, used, storeAfter, outAfter, AllTaken, replayOf, calm}
+use Rattle.cuts.proofs.Tries.{lays}
 
 -- ---- the slots that tries left
 
@@ -57,11 +58,6 @@ module _ (c p k : ℕ) (bs b o : List ℕ) where
 
 -- what a try adds, by how far it went
 module _ (a : Try) (ts : List Try) (n : ℕ) {x y : Bool} (e : isUntouched a ≡ x) (f : isComplete a ≡ y) where
-  laid-is : (c : ℕ) → laid c (a ∷ ts) (suc n)
-      ≡ elim x [ true ↦ laid c ts (suc n) | false ↦ elim y [ true ↦ whole c (a .kind) (a .input) ∷ laid (suc c) ts n | false ↦ torn ∷ laid c ts n ] ]
-  unfolding laid
-  laid-is c = ap₂ (λ (x y : Bool). elim x [ true ↦ laid c ts (suc n) | false ↦ elim y [ true ↦ whole c (a .kind) (a .input) ∷ laid (suc c) ts n | false ↦ torn ∷ laid c ts n ] ]) e f
-
   pub completed-is : completed (a ∷ ts) (suc n)
       ≡ elim x [ true ↦ completed ts (suc n) | false ↦ elim y [ true ↦ (a .kind, a .input) ∷ completed ts n | false ↦ completed ts n ] ]
   unfolding completed
@@ -98,7 +94,7 @@ replay-laid (a ∷ ts) c p (suc n) b o w =
     by-bool (isUntouched a)
     (λ e.
     let cs = completed-is a ts n e refl in
-    ap (replayFrom c p b o) (laid-is a ts n e refl c) ∙ replay-laid ts c p (suc n) b o (subst (λ l. AllTaken l b o) cs w)
+    ap (replayFrom c p b o) (lays c a ts n e refl) ∙ replay-laid ts c p (suc n) b o (subst (λ l. AllTaken l b o) cs w)
     ∙ sym (same-result c p b o cs (used-is a ts n e refl) (torn-is a ts n e refl p)))
     (λ e.
     by-bool (isComplete a)
@@ -106,12 +102,12 @@ replay-laid (a ∷ ts) c p (suc n) b o w =
     let cs = completed-is a ts n e f in
     let v = subst (λ l. AllTaken l b o) cs w in
     let x = handed (a .kind) (a .input) b o in
-    ap (replayFrom c p b o) (laid-is a ts n e f c) ∙ replay-whole c p (a .kind) (a .input) b o (laid (suc c) ts n) (v .0)
+    ap (replayFrom c p b o) (lays c a ts n e f) ∙ replay-whole c p (a .kind) (a .input) b o (laid (suc c) ts n) (v .0)
     ∙ replay-laid ts (suc c) (suc p) n (x .store) (x .out) (v .1) ∙ whole-result c p (a .kind) (a .input) b o (completed ts n) (used ts n) (tornPlaces ts n (suc p))
     ∙ sym (same-result c p b o cs (used-is a ts n e f) (torn-is a ts n e f p)))
     (λ f.
     let cs = completed-is a ts n e f in
-    ap (replayFrom c p b o) (laid-is a ts n e f c) ∙ replay-torn c p b o (laid c ts n)
+    ap (replayFrom c p b o) (lays c a ts n e f) ∙ replay-torn c p b o (laid c ts n)
     ∙ ap (skipping p) (replay-laid ts c (suc p) n b o (subst (λ l. AllTaken l b o) cs w)) ∙ torn-result c p b o (completed ts n) (used ts n) (tornPlaces ts n (suc p))
     ∙ sym (same-result c p b o cs (used-is a ts n e f) (torn-is a ts n e f p))))
 

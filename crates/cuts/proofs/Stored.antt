@@ -1,22 +1,21 @@
 -- A record stored byte by byte into a blank slot, up to a cut: the slot is blank, torn or whole. Assumes nothing.
-use Prim.Native.Nat.{ℕ, zero, suc, _+_, _-_, _*_, _^_, _<_, _≤_}
-use mathlib.Core.Path.{_≡_, refl, sym, ap, ap₂, _∙_}
-use mathlib.Core.Bool.{Bool, true, false}
-use mathlib.Core.List.{List, [], _∷_}
+use Prim.Native.Nat.{ℕ, zero, suc, _-_, _^_, _<_, _≤_}
+use mathlib.Core.Path.{_≡_, refl, sym, ap, _∙_}
+use mathlib.Core.Bool.{true, false}
+use mathlib.Core.List.{List}
 use mathlib.Core.Logic.{⊎-elim}
 use native.Mathlib.Omega.{arith}
 use native.Mathlib.Nat.{eq-or-lt-of-le}
 use lib.ListN.{length, getD, set, length-set}
 use lib.Seq.{getD-set-same, getD-set-other, ext-getD}
-use lib.Dec.{eqb, lit<}
+use lib.Dec.{lit<}
 use borrow.Author.Tests.{eqb-true, ne-eqb}
-use Rattle.rules.proofs.Tests.{by-bool, no-bool}
 use Rattle.fields.specs.Places.{number}
-use Rattle.slots.specs.Slots.{slotLength, mostInput, isInput, recordBytes, isBlank, isEnded, judged, Slot, blank, torn, bad, whole}
+use Rattle.slots.specs.Slots.{slotLength, mostInput, isInput, recordBytes, isBlank, isEnded, judged, blank, torn, whole}
 use Rattle.slots.proofs.Inputs.{input-fits}
 use Rattle.slots.proofs.Records.{length-record}
 use Rattle.cuts.specs.Disk.{storing}
-use Rattle.cuts.proofs.OneForm.{judged-torn, blank-only, zero-byte, not-blank, first-byte, reads-back}
+use Rattle.slots.proofs.OneForm.{judged-torn, blank-only, zero-byte, not-blank, first-byte, reads-back}
 
 pub length-storing : (n : ℕ) (r s : List ℕ) → length (storing n r s) ≡ length s
 unfolding storing

@@ -1,24 +1,20 @@
 -- After any tries and cuts the slots are those that the tries laid: no completed record is lost, invented, repeated or reordered. Assumes nothing.
 use Prim.Native.Nat.{ℕ, zero, suc, _+_, _*_, _^_, _<_, _≤_}
-use mathlib.Core.Path.{_≡_, refl, sym, ap, ap₂, _∙_, subst}
-use mathlib.Core.Bool.{Bool, true, false, _&&_}
-use mathlib.Core.List.{List, [], _∷_, _++_, append-assoc, append-nil}
+use mathlib.Core.Path.{_≡_, refl, sym, ap, ap₂, _∙_}
+use mathlib.Core.Bool.{Bool, true, false}
+use mathlib.Core.List.{List, [], _∷_, _++_, append-assoc}
 use native.Mathlib.Omega.{arith}
-use native.Mathlib.Nat.{add-zero}
 use lib.ListN.{length, take, drop, replicate, take-append-drop}
 use lib.Seq.{drop-drop}
-use lib.Dec.{eqb}
-use borrow.Author.Tests.{eqb-true, eqb-false, eq-eqb}
+use borrow.Author.Tests.{eqb-true, eqb-false}
 use Rattle.rules.proofs.Tests.{by-bool, eqb-self}
 use Rattle.rules.proofs.Searches.{All}
-use Rattle.slots.specs.Slots.{slotLength, isInput, recordBytes, judged, Slot, blank, torn, bad, whole, written}
-use Rattle.slots.proofs.Records.{length-record}
-use Rattle.slots.proofs.Inputs.{input-fits}
-use Rattle.journal.specs.Journal.{slotCount, slotAt, withSlot, slotsFrom, slotsOf, free, nowhere, Room, roomFrom, roomIn, isShort, placing, writing}
+use Rattle.slots.specs.Slots.{slotLength, recordBytes, judged, Slot, blank, torn, whole}
+use Rattle.journal.specs.Journal.{slotCount, slotAt, withSlot, slotsFrom, slotsOf, free, nowhere, Room, roomFrom, roomIn}
 use Rattle.cuts.specs.Disk.{Try, Proper, storing, tryIn, trying, tryAll, Zeroed}
 use Rattle.cuts.specs.After.{isUntouched, isComplete, laid}
 use Rattle.cuts.proofs.Places.{length-slot, count-with, slot-here, slot-before, slot-behind, slots-same, slots-split}
-use Rattle.cuts.proofs.Stored.{length-storing, stored-all, stored-some, stored-whole}
+use Rattle.cuts.proofs.Stored.{length-storing, stored-some, stored-whole}
 
 -- slots in use, with so many records in them, and blank ones behind
 record Ready (j : List ℕ) (ls : List Slot) (c p n : ℕ) : Type 0 where
@@ -135,11 +131,11 @@ module _ (a : Try) (w : Proper a) {j : List ℕ} {ls : List Slot} (c p n : ℕ) 
       (let z = eqb-false (a .stored) 0 t in omega (arith, z)) (let z = eqb-false (a .stored) slotLength u in omega (arith, z, w .cut))
 
 -- the three clauses of what is laid
-lays : (c : ℕ) (a : Try) (ts : List Try) (n : ℕ) (x y : Bool) → isUntouched a ≡ x → isComplete a ≡ y
+pub lays : (c : ℕ) (a : Try) (ts : List Try) (n : ℕ) {x y : Bool} → isUntouched a ≡ x → isComplete a ≡ y
     → laid c (a ∷ ts) (suc n)
     ≡ elim x [ true ↦ laid c ts (suc n) | false ↦ elim y [ true ↦ whole c (a .kind) (a .input) ∷ laid (suc c) ts n | false ↦ torn ∷ laid c ts n ] ]
 unfolding laid
-lays c a ts n x y e f =
+lays c a ts n e f =
     ap₂ (λ (x y : Bool). elim x [ true ↦ laid c ts (suc n) | false ↦ elim y [ true ↦ whole c (a .kind) (a .input) ∷ laid (suc c) ts n | false ↦ torn ∷ laid c ts n ] ]) e f
 
 tried-nowhere : (a : Try) {j : List ℕ} {ls : List Slot} {c p : ℕ} → Ready j ls c p zero → trying a j ≡ j
@@ -159,15 +155,15 @@ laid-all (a ∷ ts) w {j} {ls} c p (suc n) r h =
     ∙ by-bool (isUntouched a)
     (λ t.
     ap (λ (y : List ℕ). slotsOf (tryAll ts y)) (untouched a (w .0) c p n r h t) ∙ laid-all ts (w .1) c p (suc n) r h
-    ∙ ap (ls ++_) (sym (lays c a ts n true (isComplete a) t refl)))
+    ∙ ap (ls ++_) (sym (lays c a ts n t refl)))
     (λ t.
     by-bool (isComplete a)
     (λ u.
     laid-all ts (w .1) (suc c) (suc p) n (filled-whole r x l (a .kind) (a .input) (complete a (w .0) c p n r h u)) short
-    ∙ append-assoc ls (whole c (a .kind) (a .input) ∷ []) (laid (suc c) ts n) ∙ ap (ls ++_) (sym (lays c a ts n false true t u)))
+    ∙ append-assoc ls (whole c (a .kind) (a .input) ∷ []) (laid (suc c) ts n) ∙ ap (ls ++_) (sym (lays c a ts n t u)))
     (λ u.
     laid-all ts (w .1) c (suc p) n (filled-torn r x l (cut a (w .0) c p n r h t u)) short
-    ∙ append-assoc ls (torn ∷ []) (laid c ts n) ∙ ap (ls ++_) (sym (lays c a ts n false false t u))))
+    ∙ append-assoc ls (torn ∷ []) (laid c ts n) ∙ ap (ls ++_) (sym (lays c a ts n t u))))
 
 -- ---- from zeroed slots
 

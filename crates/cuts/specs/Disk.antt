@@ -5,7 +5,7 @@ use mathlib.Core.Bool.{true}
 use mathlib.Core.List.{List, [], _∷_}
 use lib.ListN.{set, getD, replicate}
 use Prim.Native.Nat.{_≤_}
-use Rattle.slots.specs.Slots.{slotLength, isInput, recordBytes, Slot, blank}
+use Rattle.slots.specs.Slots.{slotLength, isInput, recordBytes, blank}
 use Rattle.journal.specs.Journal.{slotAt, withSlot, slotCount, slotsOf, Room, free, nowhere, roomIn}
 
 -- a try to write an input: its kind, its bytes, and how many bytes of its record are stored when the power is cut; all of them if it isn't

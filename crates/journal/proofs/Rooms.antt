@@ -1,5 +1,5 @@
 -- Looking for the place of the next record, slot by slot. Assumes nothing.
-use Prim.Native.Nat.{ℕ, zero, suc, _+_, _-_, _*_, _/_, _<_, _≤_}
+use Prim.Native.Nat.{ℕ, suc, _+_, _-_, _*_, _/_, _<_, _≤_}
 use mathlib.Core.Path.{_≡_, refl, sym, ap, ap₂, _∙_}
 use mathlib.Core.Bool.{Bool, true, false}
 use mathlib.Core.List.{List, [], _∷_}
@@ -9,12 +9,12 @@ use lib.ListN.{length, take, drop}
 use lib.Dec.{eqb}
 use borrow.Author.Tests.{eq-eqb, ne-eqb}
 use Rattle.slots.specs.Slots as slots
-use Rattle.slots.specs.Slots.{slotLength, judged, blank, torn, bad, whole}
+use Rattle.slots.specs.Slots.{slotLength, judged, whole}
 use Rattle.slots.specs.Meaning.{slotOf, Judged}
 use Rattle.slots.specs.declared.Slot.{Slot}
 use Rattle.slots.specs.declared.Slot.the-variants.{Blank, Torn, Bad, Whole}
 use Rattle.journal.specs.Journal as journal
-use Rattle.journal.specs.Journal.{slotCount, slotAt, slotsFrom, slotsOf, roomFrom, roomIn, free, nowhere}
+use Rattle.journal.specs.Journal.{slotCount, slotAt, slotsFrom, slotsOf, roomFrom, roomIn, nowhere}
 use Rattle.journal.specs.Meaning.{roomOf, Found}
 use Rattle.journal.specs.declared.Room.the-variants.{Free, Nowhere}
 

@@ -1,16 +1,15 @@
 -- Writing a record into a journal: what each answer leaves. Assumes nothing.
-use Prim.Native.Nat.{ℕ, zero, suc, _+_, _-_, _*_, _/_, _^_, _<_, _≤_}
-use mathlib.Core.Path.{_≡_, refl, sym, ap, ap₂, _∙_, subst}
+use Prim.Native.Nat.{ℕ, _+_, _-_, _*_, _/_, _^_, _<_, _≤_}
+use mathlib.Core.Path.{_≡_, sym, ap, ap₂, _∙_, subst}
 use mathlib.Core.Bool.{Bool, true, false, _&&_}
-use mathlib.Core.List.{List, [], _∷_, _++_}
+use mathlib.Core.List.{List, _++_}
 use native.Mathlib.Omega.{arith}
 use lib.ListN.{length, take, drop}
-use lib.Dec.{ltb, eqb}
 use borrow.Author.Tests.{lt-ltb, le-ltb}
 use borrow.Rule.Slice.PartMut.{post-is}
 use Rattle.slots.specs.Slots.{slotLength, mostInput, isInput, recordBytes, Written, written}
 use Rattle.slots.proofs.Inputs.{input-fits}
-use Rattle.journal.specs.Journal.{slotCount, withSlot, roomIn, free, nowhere, isShort, placing, writing}
+use Rattle.journal.specs.Journal.{slotCount, withSlot, roomIn, isShort, placing, writing}
 use Rattle.journal.specs.Meaning.{roomOf, Within, Found}
 use Rattle.journal.specs.declared.Room.{Room}
 use Rattle.journal.specs.declared.Room.the-variants.{Free, Nowhere}

@@ -1,21 +1,21 @@
 -- The lengths that a replay asks for, its report, and what the call leaves. Assumes nothing.
-use Prim.Native.Nat.{ℕ, zero, suc, _+_, _-_, _*_, _/_, _^_, _<_, _≤_}
+use Prim.Native.Nat.{ℕ, suc, _+_, _-_, _*_, _^_, _<_, _≤_}
 use mathlib.Core.Path.{_≡_, refl, sym, ap, ap₂, _∙_}
-use mathlib.Core.Bool.{Bool, true, false, _&&_, and-false}
-use mathlib.Core.List.{List, [], _∷_, _++_, append-assoc}
+use mathlib.Core.Bool.{Bool, true, false, _&&_}
+use mathlib.Core.List.{List, [], _∷_, _++_}
 use mathlib.Core.Option.{Option, none, some}
 use native.Mathlib.Omega.{arith}
 use native.Mathlib.Nat.{add-suc}
 use lib.ListN.{length, drop, set, length-append, length-drop}
 use lib.Seq.{drop-drop, drop-set-add}
-use lib.Dec.{leb, ltb, eqb}
+use lib.Dec.{leb, eqb}
 use borrow.Author.Tests.{eqb-true, ltb-true, leb-true, lt-ltb, le-ltb, lt-leb, le-leb}
 use Rattle.rules.specs.Limits.{leastOut}
 use Rattle.rules.specs.Lists.{unbe}
 use Rattle.rules.specs.Words.{State}
 use Rattle.rules.specs.WellFormed.{wellFormed}
 use Rattle.rules.proofs.Bytes.{length-unbe}
-use Rattle.rules.proofs.Truths.{and-2, and-4}
+use Rattle.rules.proofs.Truths.{and-4}
 use Rattle.fields.specs.Places.{put}
 use Rattle.outgoing.specs.Wrote.{wrote}
 use Rattle.outgoing.proofs.Writing.{wrote-append, wrote-prefix, put-wrote, length-wrote}
@@ -24,7 +24,7 @@ use Rattle.store.specs.Decode.{decode, stateOf, hasForm}
 use Rattle.formed.proofs.Whole.{formed-decoded, unformed-decoded}
 use Rattle.journal.specs.Journal.{slotCount, slotsOf, isShort}
 use Rattle.replay.specs.Replay.{Replay, replayFrom, told, placesBytes, reportBytes, reportLength, Replayed, replayed, reported, hasLengths, replaying}
-use Rattle.replay.specs.Meaning.{Ended, ended, endOf, Bounded, Replays}
+use Rattle.replay.specs.Meaning.{Ended, ended, endOf, Replays}
 use Rattle.replay.specs.declared.Ending.{Ending}
 
 -- ---- lengths

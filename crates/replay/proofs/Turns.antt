@@ -1,8 +1,8 @@
 -- A replay, slot by slot: what it will have come to stays the same. Assumes nothing.
-use Prim.Native.Nat.{ℕ, zero, suc, _+_, _-_, _*_, _/_, _^_, _<_, _≤_}
-use mathlib.Core.Path.{_≡_, refl, sym, ap, ap₂, _∙_, subst}
+use Prim.Native.Nat.{ℕ, suc, _+_, _-_, _*_, _/_, _^_, _<_, _≤_}
+use mathlib.Core.Path.{_≡_, sym, ap, ap₂, _∙_, subst}
 use mathlib.Core.Bool.{Bool, true, false, _&&_}
-use mathlib.Core.List.{List, [], _∷_, _++_}
+use mathlib.Core.List.{List, _∷_, _++_}
 use native.Mathlib.Omega.{arith}
 use native.Mathlib.Nat.{add-zero}
 use native.Mathlib.Numerals.{add-one}
@@ -17,13 +17,12 @@ use Rattle.fields.specs.Places.{put}
 use Rattle.outgoing.specs.Wrote.{wrote}
 use Rattle.outgoing.proofs.Writing.{wrote-append, put-wrote}
 use Rattle.slots.specs.Slots as slots
-use Rattle.slots.specs.Slots.{slotLength, mostInput, judged, blank, torn, bad, whole}
+use Rattle.slots.specs.Slots.{slotLength, mostInput, judged, torn, whole}
 use Rattle.slots.specs.Meaning.{inputPlace, slotOf, Within}
 use Rattle.slots.specs.declared.Slot.{Slot}
 use Rattle.slots.specs.declared.Slot.the-variants.{Blank, Torn, Bad, Whole}
 use Rattle.journal.specs.Journal.{slotCount, slotAt, slotsFrom, slotsOf}
 use Rattle.journal.proofs.Rooms.{slots-step, slots-end, slot-count}
-use Rattle.calls.specs.Calls.{Called, Gives}
 use Rattle.replay.specs.Replay.{handed, isTaken, Replay, ends, skipping, replayFrom, placesBytes}
 use Rattle.replay.specs.Meaning.{Hands, Ended, ended, endOf}
 use Rattle.replay.specs.declared.Ending.{Ending}

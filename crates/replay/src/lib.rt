@@ -1,12 +1,10 @@
 // Replaying a journal: the input of each whole record goes to the station's exported calls, in order.
 ghost use mathlib.Core.Path.{_≡_};
-ghost use mathlib.Core.Bool.{_&&_};
 ghost use Prim.Native.Nat.{_+_, _*_, _^_, _≤_, _<_};
 ghost use lib.ListN.{length};
-ghost use lib.Dec.{eqb, leb};
 ghost use Rattle.fields.specs.Places.{put};
 ghost use Rattle.journal.specs.Journal.{slotCount};
-ghost use Rattle.replay.specs.Replay.{isTaken, told, reportLength, hasLengths, replaying, replayed};
+ghost use Rattle.replay.specs.Replay.{isTaken, reportLength, hasLengths, replaying, replayed};
 ghost use Rattle.replay.specs.Meaning.{Hands, Replays};
 use slots::Slot;
 

@@ -1,6 +1,6 @@
 -- What is an input, test by test. Assumes nothing.
 use Prim.Native.Nat.{ℕ, _<_, _≤_}
-use mathlib.Core.Path.{_≡_, refl, sym, ap, _∙_}
+use mathlib.Core.Path.{_≡_, sym, ap, _∙_}
 use mathlib.Core.Bool.{Bool, true, false, _&&_, and-false}
 use mathlib.Core.List.{List}
 use mathlib.Core.Option.{none, some}
@@ -9,7 +9,7 @@ use lib.ListN.{length}
 use lib.Dec.{leb, eqb}
 use borrow.Author.Tests.{eqb-true, ne-eqb, leb-true, le-leb, lt-leb}
 use Rattle.rules.specs.Messages.{read}
-use Rattle.rules.proofs.Tests.{by-bool, no-bool, and-left, and-right}
+use Rattle.rules.proofs.Tests.{by-bool, and-left, and-right}
 use Rattle.wire.specs.Meaning.{readOf, messageOf}
 use Rattle.wire.specs.declared.Message.{Message}
 use Rattle.wire.specs.declared.Read.{Read}

@@ -1,12 +1,12 @@
 -- Judging a slot by its places is what the slot holds. Assumes nothing.
-use Prim.Native.Nat.{ℕ, zero, suc, _+_, _-_, _*_, _^_, _<_, _≤_, min}
-use mathlib.Core.Path.{_≡_, refl, sym, ap, ap₂, _∙_}
-use mathlib.Core.Bool.{Bool, true, false, _&&_, and-false}
-use mathlib.Core.List.{List, [], _∷_}
+use Prim.Native.Nat.{ℕ, suc, _-_, _^_, _<_, _≤_}
+use mathlib.Core.Path.{_≡_, sym, ap, ap₂, _∙_}
+use mathlib.Core.Bool.{Bool, true, false, _&&_}
+use mathlib.Core.List.{List, _∷_}
 use native.Mathlib.Omega.{arith}
 use lib.ListN.{length, take, drop, getD, length-take, length-drop}
-use lib.Seq.{drop-cons, length-take-le}
-use lib.Dec.{leb, eqb}
+use lib.Seq.{drop-cons}
+use lib.Dec.{eqb}
 use borrow.Author.Tests.{eq-eqb, ne-eqb}
 use Rattle.fields.specs.Places.{number}
 use Rattle.slots.specs.Slots as slots
@@ -17,10 +17,10 @@ use Rattle.slots.specs.declared.Slot.the-variants.{Blank, Torn, Bad, Who
 use Rattle.slots.proofs.Inputs.{too-long, other-input}
 
 -- a slot ending in 5A, by its test; a slot, by its two tests
-abbrev chosen : List ℕ → Bool → slots.Slot
+abbrev pub chosen : List ℕ → Bool → slots.Slot
 chosen s b = elim b [ false ↦ bad | true ↦ whole (sequenceIn s) (kindIn s) (inputIn s) ]
 
-abbrev sorted : List ℕ → Bool → Bool → slots.Slot
+abbrev pub sorted : List ℕ → Bool → Bool → slots.Slot
 sorted s b c = elim b [ true ↦ blank | false ↦ elim c [ false ↦ torn | true ↦ recordIn s ] ]
 
 -- a slot whose input isn't one is bad

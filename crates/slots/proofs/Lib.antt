@@ -2,3 +2,4 @@ pub mod Inputs
 pub mod Records
 pub mod Judging
 pub mod Putting
+pub mod OneForm

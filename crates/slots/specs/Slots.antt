@@ -1,6 +1,5 @@
 -- 02, request 1: the bytes of a journal's record, what a slot of 128 bytes holds, and what writing one record answers. Assumes nothing.
 use Prim.Native.Nat.{ℕ, _-_, _*_, _^_}
-use mathlib.Core.Path.{_≡_}
 use mathlib.Core.Bool.{Bool, true, false, _&&_}
 use mathlib.Core.List.{List, [], _∷_, _++_}
 use mathlib.Core.Option.{none, some}

@@ -1,6 +1,6 @@
 -- `journal::find_room` meets its contract: what is looked for from a slot on is what is looked for from the first on. Assumes nothing.
-use Prim.Native.Nat.{ℕ, _+_, _-_, _*_, _≤_}
-use mathlib.Core.Path.{_≡_, refl}
+use Prim.Native.Nat.{_+_, _-_, _*_, _≤_}
+use mathlib.Core.Path.{_≡_}
 use native.Mathlib.Omega.{arith}
 use Rattle.journal.specs.Journal.{slotCount, slotsFrom, roomFrom, roomIn}
 use Rattle.journal.proofs.Rooms.{slot-count, part-held, room-starts, room-ends, at-blank, at-torn, at-bad, at-other, at-next}

@@ -1,6 +1,4 @@
 -- `slots::write_record` meets its contract: the parts are written in their order. Assumes nothing.
-use mathlib.Core.Path.{_∙_, ap}
-use native.Mathlib.Omega.{arith}
 use Rattle.slots.proofs.Records.{record-wrote}
 use borrow.Author.Needs.{needs}
 use Rattle.slots.proofs.write_record.Statement.{statement}

@@ -8,26 +8,20 @@ use lib.ListN.{length, take, drop, getD, set, replicate, length-append, length-r
 use lib.Seq.{getD-at, take-append-seam}
 use lib.Dec.{eqb, lit<, lit≤}
 use borrow.Author.Tests.{eqb-true, eq-eqb, ne-eqb}
-use Rattle.rules.specs.Lists.{be, unbe}
+use Rattle.rules.specs.Lists.{unbe}
 use Rattle.rules.specs.Messages.{field}
 use Rattle.rules.proofs.Bytes.{be-unbe, length-unbe}
 use Rattle.rules.proofs.Tests.{by-bool, no-bool, eqb-self, and-left, and-right}
 use Rattle.fields.specs.Places.{number, put, Bytes}
 use Rattle.fields.proofs.Laws.{number-lt, bytes-put, bytes-set}
-use Rattle.fields.proofs.Lists.{number-head, number-tail, number-append-left, number-append-right, bytes-take, bytes-drop, same-list}
+use Rattle.fields.proofs.Lists.{number-tail, number-append-left, number-append-right, bytes-take, bytes-drop, same-list}
 use Rattle.wire.proofs.Reading.{be-number}
 use Rattle.outgoing.specs.Wrote.{wrote}
 use Rattle.outgoing.proofs.Writing.{length-field}
-use Rattle.slots.specs.Slots.{slotLength, mostInput, isInput, recordBytes, isBlank, isEnded, sequenceIn, valueIn, kindIn, inputIn, isRecord, recordIn, judged, Slot, blank, torn, bad, whole}
+use Rattle.slots.specs.Slots.{slotLength, mostInput, isInput, recordBytes, isBlank, isEnded, sequenceIn, valueIn, kindIn, inputIn, isRecord, recordIn, judged, blank, torn, bad, whole}
 use Rattle.slots.proofs.Inputs.{input-fits}
 use Rattle.slots.proofs.Records.{length-record, record-wrote}
-
--- a slot ending in 5A, by its test; a slot, by its two tests
-abbrev chosen : List ℕ → Bool → Slot
-chosen s b = elim b [ false ↦ bad | true ↦ whole (sequenceIn s) (kindIn s) (inputIn s) ]
-
-abbrev sorted : List ℕ → Bool → Bool → Slot
-sorted s b c = elim b [ true ↦ blank | false ↦ elim c [ false ↦ torn | true ↦ recordIn s ] ]
+use Rattle.slots.proofs.Judging.{chosen, sorted}
 
 pub judged-blank : (s : List ℕ) → isBlank s ≡ true → judged s ≡ blank
 unfolding judged
