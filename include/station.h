@@ -17,6 +17,7 @@
  *    8  tick at clock 4,000,000,000                                                          phase: stopped, clock
  *    9  offer not to be taken                                                                nothing changes
  *   10  bad settings for a fresh store                                                       nothing changes
+ *   13  journal: no slot left, no input, or a slot that stops a replay                       see the journal's calls
  *
  * Order: 1, 2, 3, then 4, 5, 6 for messages; 9, 6 for offers; 8, 7, 6 for ticks. A fresh store: 1, then 10.
  */
@@ -39,6 +40,10 @@
 #define STATION_LOG 21124
 #define STATION_LOG_LARGE 84548
 
+/* The length of a journal's slot, and the least length of a replay's report for so many slots. */
+#define JOURNAL_SLOT_LENGTH 128
+#define JOURNAL_REPORT_LENGTH(slots) (12 + 4 * (size_t)(slots))
+
 #define STATION_REFUSAL(result) ((uint32_t)((uint64_t)(result) >> 32))
 #define STATION_COUNT(result) ((uint32_t)(result))
 
@@ -58,6 +63,23 @@ uint64_t station_tick(uint8_t *store, size_t store_len, uint8_t *out, size_t out
 
 /* Offers the station, should it be the leader, a block name of 32 bytes to propose. Refusals 1, 2, 3, 6 and 9. */
 uint64_t station_offer(uint8_t *store, size_t store_len, const uint8_t *name, size_t name_len, uint8_t *out, size_t out_len);
+
+/* The journal (docs/JOURNAL.md). An input's kind is 1 for a tick, with no bytes; 2 for an offer, with the name's 32; 3 for a
+ * message, with the message's. */
+
+/* Writes the record of an input into one slot that is blank, under a number. Done: count 128. Refusal 1 for a slot not of
+ * 128 bytes; 13, with nothing written, for a slot not blank, a number of 2^32 or more, or what is no input. */
+uint64_t journal_put(uint8_t *slot, size_t slot_len, uint64_t sequence, uint64_t kind, const uint8_t *input, size_t input_len);
+
+/* Writes the record of an input into a journal's first blank slot. Done: the count is the slot's place. Refusal 13, with
+ * nothing written: no slot is blank, a slot before it stops a replay, it is no input, or there are 2^32 slots or more. */
+uint64_t journal_write(uint8_t *journal, size_t journal_len, uint64_t kind, const uint8_t *input, size_t input_len);
+
+/* Hands the input of each whole record to the station. Done: the count is the number of records. Refusals 1 (also for a report
+ * below 12 + 4 bytes for each slot, and for 2^32 slots or more) and 2; 13 with the place as count where a slot stops it, and
+ * then the store holds the state of the records before it. On 0 and 13 the report has the number of records, the place where
+ * reading ended, the number of torn slots before it and their places, 4 bytes each, big-endian. */
+uint64_t journal_replay(const uint8_t *journal, size_t journal_len, uint8_t *store, size_t store_len, uint8_t *out, size_t out_len, uint8_t *report, size_t report_len);
 
 #ifdef __cplusplus
 }

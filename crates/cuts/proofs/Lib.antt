@@ -1,0 +1,5 @@
+pub mod Places
+pub mod Stored
+pub mod Tries
+pub mod Replays
+pub mod Cuts

@@ -1,0 +1,2 @@
+pub mod Disk
+pub mod After

@@ -1,0 +1,3 @@
+pub mod Untaken
+pub mod Turns
+pub mod Reports

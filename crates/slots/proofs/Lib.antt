@@ -1,0 +1,5 @@
+pub mod Inputs
+pub mod Records
+pub mod Judging
+pub mod Putting
+pub mod OneForm
