@@ -1,0 +1,3 @@
+pub mod Shown
+pub mod Bytes
+pub mod Called
