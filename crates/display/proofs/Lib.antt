@@ -1,3 +1,4 @@
 pub mod Shown
 pub mod Bytes
 pub mod Called
+pub mod Numbers
