@@ -2,3 +2,4 @@ pub mod Shown
 pub mod Bytes
 pub mod Called
 pub mod Numbers
+pub mod Still
