@@ -3,3 +3,4 @@ pub mod Bytes
 pub mod Called
 pub mod Numbers
 pub mod Still
+pub mod Entered
