@@ -1,23 +1,27 @@
 -- A waiting station that a tick takes into its next view votes at that clock for all that it shows, so that each has 2D+1 ticks left. Assumes nothing.
 use mathlib.Core.Path.{_≡_, refl, sym, ap, subst, _∙_}
-use Prim.Native.Nat.{ℕ, suc, _+_, _*_}
+use Prim.Native.Nat.{ℕ, suc, _+_, _-_, _*_}
 use native.Mathlib.Omega.{arith}
 use mathlib.Core.Bool.{Bool, true, false, not, _&&_}
 use mathlib.Core.List.{List, [], _∷_, _++_, List·Memᴰ as Mem, List·Memᴰ·head, List·Memᴰ·tail, List·Memᴰ·not-nil}
 use mathlib.Core.Logic.{_⊎_, inl, inr}
 use mathlib.Core.Option.{Option, none, some, Option·some-injective}
-use borrow.Author.Tests.{not-true}
+use lib.IntN.{pos, subℕ}
+use borrow.Author.Tests.{not-true, le-ltb}
 use Rattle.rules.specs.Lists.{any, alter, distinct}
+use Rattle.rules.specs.Sizes.{Settings}
 use Rattle.rules.specs.Words.{Statement, sameStatement, inView, waiting, stopped, State}
 use Rattle.rules.specs.Inputs.{Work, saying, _▸_, withPhase, withClock, withTables, withLog, entering, isIn, quit, belowLock, noted, votedFor, voting, blameFull, due, commits, logging, overdue, complain, leads, leadsNow, lead, entersNow, entered, current, pair, inOrder, votingAll, arrive, enter, ticked}
 use Rattle.rules.specs.Refusals.{done, running, tick}
+use Rattle.rules.specs.Display.{Shown, dueClock, shown, display}
 use Rattle.rules.proofs.Tests.{by-bool, by-option, no-bool, no-some}
 use Rattle.rules.proofs.Truths.{and-2}
 use Rattle.rules.proofs.Searches.{by-mem, any-mem}
 use Rattle.rules.proofs.Statements.{same-like, same-sym, same-cong, noted-same, mem-in, in-keep, in-order}
 use Rattle.rules.proofs.Moves.{arrived, counted, logAfter, voting-low, voting-high, arrive-full, arrive-pair, arrive-clean, ticked-none, ticked-some, tick-done}
-use Rattle.rules.proofs.Kept.{no-phase, votingAll-fixed}
+use Rattle.rules.proofs.Kept.{no-phase, in-true, votingAll-fixed}
 use Rattle.kept.proofs.Lists.{distinct-alter}
+use Rattle.display.proofs.Shown.{shown-parts, shows}
 
 -- ---- votes
 
@@ -76,6 +80,28 @@ votes-all (y ∷ ys) s x o n m =
     high (inl e) = inl e
     high (inr (t, e)) = first e (noted-or y x (s .clock) (s .statements) o t)
 
+voted-now : (s : State) (x : Statement) → x .view ≡ s .view → VotedOr (s .clock) x (s .statements) (inOrder (current s)) → x .voted ≡ some (s .clock)
+unfolding current
+voted-now s x v (inl e) = e
+voted-now s x v (inr (m, e)) = no-bool (sym (in-order (sameStatement x) (current s) ∙ in-keep (s .view) x (s .statements) v (mem-in (s .statements) x m)) ∙ e)
+
+ahead : (c k : ℕ) → subℕ (c + k) c ≡ pos k
+ahead c k = let e : c + k - c ≡ k = omega arith in rw (le-ltb (c + k) c (omega arith), e)
+
+-- the votes of an entry: all that is shown is due 2D+1 ticks later
+votes-left : (s : State) → distinct sameStatement (s .statements) ≡ true → (z : Shown) → Mem z (display (votingAll (inOrder (current s)) s .now)) → z .ticksLeft ≡ pos (2 * s .settings .D + 1)
+unfolding display shown dueClock
+votes-left s o z m =
+    let t = votingAll (inOrder (current s)) s .now in
+    let k = shows t (t .statements) z m in
+    let x = k .what in
+    let (n, i, g) = shown-parts t x (k .may) in
+    let ((sg, ck, lg), ph, vw, lk) = votingAll-fixed (inOrder (current s)) s in
+    let v = voted-now s x (in-true (x .view) t i .1 ∙ vw) (votes-all (inOrder (current s)) s x o n (k .stored)) in
+    let c : k .vote ≡ s .clock = Option·some-injective (k .vote) (s .clock) (sym (k .voted) ∙ v) in
+    let d : k .vote + 2 * t .settings .D + 1 ≡ t .clock + (2 * s .settings .D + 1) = omega (arith, c, ck, ap (λ (r : Settings). r .D) sg) in
+    ap (λ (r : Shown). r .ticksLeft) (k .is) ∙ ap (λ (r : ℕ). subℕ r (t .clock)) d ∙ ahead (t .clock) (2 * s .settings .D + 1)
+
 -- ---- the tick
 
 module _ (s : State) (q : ℕ) (w : s .phase ≡ waiting q) where
@@ -113,3 +139,8 @@ module _ (s : State) (q : ℕ) (w : s .phase ≡ waiting q) (e : tick s .next .p
       let g : k ≡ (logging l t ▸ complain ▸ lead ▸ enter) = Option·some-injective _ _ (sym f ∙ ticked-some s l c) in
       let h : tick s .next ≡ enter u .now = ap (λ (r : _). r .next) d ∙ ap (λ (r : Work). r .now) g ∙ rw (complain-waits u q w, lead-waits u q w) in
       (l, h ∙ enter-votes u q w (sym (ap (λ (r : State). r .phase) h) ∙ e))
+
+  -- each that is shown has 2D+1 ticks left
+  pub entered-left : distinct sameStatement (s .statements) ≡ true → (z : Shown) → Mem z (display (tick s .next)) → z .ticksLeft ≡ pos (2 * s .settings .D + 1)
+  unfolding counted withClock withLog entering
+  entered-left o z m = let (l, f) = tick-enters in votes-left (arrived (withLog l (counted s))) o z (subst (λ (r : State). Mem z (display r)) f m)

@@ -4,3 +4,4 @@ pub mod Called
 pub mod Numbers
 pub mod Still
 pub mod Entered
+pub mod Ticks

@@ -22,7 +22,7 @@ use Rattle.rules.proofs.Kept.{no-phase, waiting-clock, enters-at}
 use Rattle.display.proofs.Shown.{not-voted, new-view-none, shown-append, shown-one}
 
 -- nothing comes from outside in a tick
-abbrev nobody : Outside
+abbrev pub nobody : Outside
 nobody = record { given = λ m. ⊥; offers = λ b m. ⊥ }
 
 led-only : (s : State) (m : Message) → Origin nobody s m → m ≡ ownNewView s
