@@ -5,3 +5,4 @@ pub mod Numbers
 pub mod Still
 pub mod Entered
 pub mod Ticks
+pub mod Between

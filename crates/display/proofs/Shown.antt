@@ -80,6 +80,16 @@ shows s (x ∷ xs) z m =
     later : Shows s xs z → Shows s (x ∷ xs) z
     later k = record { what = k .what; vote = k .vote; stored = List·Memᴰ·tail (k .stored); voted = k .voted; may = k .may; is = k .is }
 
+pub shown-mem : (s : State) (xs : List Statement) (x : Statement) (c : ℕ) → Mem x xs → x .voted ≡ some c → isShown s x ≡ true → Mem (shown s x c) (showingAll s xs)
+unfolding showingAll
+shown-mem s (y ∷ ys) x c m v e =
+    by-mem m (λ q. rw (← q, is-shown s x c v e) (List·Memᴰ·head refl))
+    (λ t. behind (showing s y) (shown-mem s ys x c t v e))
+  where
+    behind : {z : Shown} {zs : List Shown} (ws : List Shown) → Mem z zs → Mem z (ws ++ zs)
+    behind [] n = n
+    behind (w ∷ ws) n = List·Memᴰ·tail (behind ws n)
+
 -- ---- "a waiting or stopped station shows none"
 
 pub outside-none : (s : State) → ((v : ℕ) → isIn v s ≡ false) → (xs : List Statement) → showingAll s xs ≡ []

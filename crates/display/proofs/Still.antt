@@ -51,7 +51,7 @@ same-shown s t p v c g l [] = refl
 same-shown s t p v c g l (x ∷ xs) = rw (same-one s t p v c g l x, same-shown s t p v c g l xs)
 
 -- a statement that was not voted for is stored
-stored-shown : (s : State) (x : Statement) → x .voted ≡ none → display (stored x s) ≡ display s
+pub stored-shown : (s : State) (x : Statement) → x .voted ≡ none → display (stored x s) ≡ display s
 unfolding display stored withTables
 stored-shown s x n =
     shown-append (stored x s) (s .statements) (x ∷ []) ∙ ap (showingAll (stored x s) (s .statements) ++_) (shown-one (stored x s) x ∙ not-voted (stored x s) x n)
@@ -72,11 +72,11 @@ voted-shown : (s : State) (x : Statement) → x .isNewView ≡ true → display 
 unfolding display votedFor withTables
 voted-shown s x n = noted-shown (votedFor x s) x (s .clock) n (s .statements) ∙ same-shown s (votedFor x s) refl refl refl refl refl (s .statements)
 
-blamed-shown : (s : State) (v m : ℕ) → display (blamed v m s) ≡ display s
+pub blamed-shown : (s : State) (v m : ℕ) → display (blamed v m s) ≡ display s
 unfolding display blamed withBlames
 blamed-shown s v m = same-shown s (blamed v m s) refl refl refl refl refl (s .statements)
 
-joined-shown : (s : State) (ts : _) → display (withTables (s .statements) ts s) ≡ display s
+pub joined-shown : (s : State) (ts : _) → display (withTables (s .statements) ts s) ≡ display s
 unfolding display withTables
 joined-shown s ts = same-shown s (withTables (s .statements) ts s) refl refl refl refl refl (s .statements)
 
