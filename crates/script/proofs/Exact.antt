@@ -7,6 +7,6 @@ use Rattle.rules.specs.Limits.{small, lastView, mostStatements, mostTallies}
 use Rattle.store.specs.Layout.{storeLength, sizeIn}
 use Rattle.store.proofs.Forms.{sized}
 
-pub exact-long : (b : List ℕ) → length b ≡ 35_972 → length b ≡ storeLength (sizeIn b)
+pub exact-long : (b : List ℕ) → length b ≡ 25_220 → length b ≡ storeLength (sizeIn b)
 unfolding lastView mostStatements mostTallies
 exact-long b e = e ∙ ap storeLength (sym (sized small b e))
