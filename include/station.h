@@ -18,7 +18,8 @@
  *    9  offer not to be taken                                                                nothing changes
  *   10  bad settings for a fresh store                                                       nothing changes
  *
- * Order: 1, 2, 3, then 4, 5, 6 for messages; 9, 6 for offers; 8, 7, 6 for ticks. A fresh store: 1, then 10.
+ * Order: 1, 2, 3, then 4, 5, 6 for messages; 9, 6 for offers; 8, 7, 6 for ticks. A fresh store: 1, then 10. The display:
+ * 1, then 2.
  */
 #ifndef STATION_H
 #define STATION_H
@@ -58,6 +59,12 @@ uint64_t station_tick(uint8_t *store, size_t store_len, uint8_t *out, size_t out
 
 /* Offers the station, should it be the leader, a block name of 32 bytes to propose. Refusals 1, 2, 3, 6 and 9. */
 uint64_t station_offer(uint8_t *store, size_t store_len, const uint8_t *name, size_t name_len, uint8_t *out, size_t out_len);
+
+/* A number for a wall display. For each propose voted for in the view now held and not yet in the log, by place in the
+ * store, a field of 47 bytes: 13 00 2C (hex), height (4), name (32), and the ticks left until its commit is due (8, two's
+ * complement). 0 is due on the tick just given, below 0 is overdue. A waiting or stopped station shows none. The store is
+ * only read. Refusals 1 and 2. */
+uint64_t station_display(const uint8_t *store, size_t store_len, uint8_t *out, size_t out_len);
 
 #ifdef __cplusplus
 }
