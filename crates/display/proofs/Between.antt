@@ -1,26 +1,26 @@
 -- Between two ticks: what is shown below 1 still lacks an ancestor among the statements of the last tick. So it holds of every state that
 -- calls from a fresh store leave. Assumes nothing.
 use mathlib.Core.Path.{_≡_, refl, sym, ap, subst, _∙_}
-use Prim.Native.Nat.{ℕ, suc, _+_, _*_}
+use Prim.Native.Nat.{ℕ, _+_, _*_}
 use native.Mathlib.Omega.{arith}
-use mathlib.Core.Bool.{Bool, true, false, not, _&&_}
-use mathlib.Core.List.{List, [], _∷_, _++_, List·Memᴰ as Mem, List·Memᴰ·head, List·Memᴰ·tail, List·Memᴰ·not-nil}
+use mathlib.Core.Bool.{Bool, true, false, _&&_}
+use mathlib.Core.List.{List, [], _∷_, List·Memᴰ as Mem, List·Memᴰ·head, List·Memᴰ·tail, List·Memᴰ·not-nil}
 use mathlib.Core.Logic.{_⊎_, inl, inr}
-use mathlib.Core.Option.{Option, none, some, Option·some-injective}
-use lib.IntN.{ℤ, pos, subℕ}
+use mathlib.Core.Option.{none, some, Option·some-injective}
+use lib.IntN.{pos}
 use lib.Signed.{leZ}
 use Rattle.rules.specs.Lists.{first, any, alter}
 use Rattle.rules.specs.Sizes.{Settings, only}
 use Rattle.rules.specs.Messages.{Message, newView, propose, vote, blame, blameSet, status, read, allowed, Effect}
 use Rattle.rules.specs.Words.{Statement, sameStatement, conflict, Certificate, Cause, full, State, fresh}
-use Rattle.rules.specs.Inputs.{Work, saying, withPhase, withTables, withBlames, isIn, quit, belowLock, noted, votedFor, voting, certificateJoined, stored, statement, tallied, blamed, blameFull, blaming, handled, offered}
-use Rattle.rules.specs.Refusals.{Outcome, done, refused, stopping, hasRoom, ifRoom, running, step, offer, tick}
+use Rattle.rules.specs.Inputs.{Work, saying, withPhase, withTables, isIn, quit, belowLock, noted, votedFor, voting, certificateJoined, stored, statement, tallied, blamed, blameFull, blaming, handled, offered}
+use Rattle.rules.specs.Refusals.{done, refused, stopping, hasRoom, ifRoom, running, step, offer, tick}
 use Rattle.rules.specs.WellFormed.{wellFormed}
-use Rattle.rules.specs.Display.{Shown, isLogged, isShown, dueClock, shown, showing, showingAll, display}
-use Rattle.rules.proofs.Tests.{by-bool, by-option, no-bool, no-some}
+use Rattle.rules.specs.Display.{Shown, isShown, dueClock, shown, showingAll, display}
+use Rattle.rules.proofs.Tests.{by-bool, by-option, no-bool}
 use Rattle.rules.proofs.Searches.{by-mem}
 use Rattle.rules.proofs.Moves.{voting-low, voting-high}
-use Rattle.display.proofs.Shown.{not-voted, not-shown, is-shown, Shows, shows, shown-mem, waiting-shows-none, stopped-shows-none}
+use Rattle.display.proofs.Shown.{Shows, shows, shown-mem, waiting-shows-none, stopped-shows-none}
 use Rattle.display.proofs.Numbers.{not-come}
 use Rattle.display.proofs.Still.{stored-shown, blamed-shown, joined-shown}
 use Rattle.display.proofs.Ticks.{Lacks, below-one-lacks}

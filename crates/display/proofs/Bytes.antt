@@ -1,15 +1,15 @@
 -- What is shown, in bytes: the number of the vote says who is shown, one field follows another, and the out buffer has room for all. Assumes nothing.
 use mathlib.Core.Path.{_≡_, refl, sym, ap, ap₂, subst, _∙_}
-use Prim.Native.Nat.{ℕ, zero, suc, _+_, _-_, _*_, _^_, _<_, _≤_}
-use mathlib.Core.Bool.{Bool, true, false, not, _&&_, and-true, cond}
+use Prim.Native.Nat.{ℕ, suc, _+_, _-_, _*_, _^_, _<_, _≤_}
+use mathlib.Core.Bool.{Bool, true, false, not, _&&_}
 use mathlib.Core.List.{List, [], _∷_, _++_, append-assoc, append-nil}
 use mathlib.Core.Option.{Option, none, some}
 use native.Mathlib.Omega.{arith}
 use native.Mathlib.Nat.{zero-add}
-use lib.Dec.{leb, ltb, eqb, lit<, lit≤}
+use lib.Dec.{leb, eqb, lit<, lit≤}
 use lib.ListN.{length, getD, length-append}
 use lib.IntN.{subℕ}
-use borrow.Author.Tests.{eq-eqb, le-leb, lt-leb, lt-ltb, le-ltb}
+use borrow.Author.Tests.{le-leb, lt-leb, lt-ltb, le-ltb}
 use Rattle.rules.specs.Limits.{Size, small, large, mostStatements, leastOut}
 use Rattle.rules.specs.Lists.{unbe, within}
 use Rattle.rules.specs.Messages.{field}
@@ -22,8 +22,8 @@ use Rattle.fields.specs.Places.{put}
 use Rattle.wire.specs.Fields.{head}
 use Rattle.outgoing.specs.Wrote.{Says}
 use Rattle.outgoing.proofs.Writing.{says-none, says-both, put-says, field-says, length-field}
-use Rattle.store.specs.Layout.{statementTable, logTable, sizeIn, countOf}
-use Rattle.store.specs.Decode.{voteNumber, rows, statementAt, nameAt, statements, names, stateFrom, stateOf}
+use Rattle.store.specs.Layout.{statementTable, logTable, countOf}
+use Rattle.store.specs.Decode.{rows, statementAt, nameAt, statements, names, stateFrom, stateOf}
 use Rattle.store.specs.Meaning.{courseOf, Loads}
 use Rattle.store.specs.declared.Station.{Station}
 use Rattle.store.proofs.Loaded.{loaded-phase, loaded-view, loaded-clock}
@@ -34,7 +34,7 @@ use Rattle.fields.specs.Names.{nameOf}
 use Rattle.commit.specs.Chains.{voteIf, voteIn}
 use Rattle.commit.proofs.Readers.{height-of, name-of}
 use Rattle.commit.proofs.Ticks.{delay-is}
-use Rattle.display.proofs.Shown.{not-voted, not-shown, is-shown, shown-append, shown-one, not-in-shows-none}
+use Rattle.display.proofs.Shown.{not-voted, not-shown, is-shown, shown-append, shown-one}
 
 -- the out buffer has room for every stored statement
 pub display-fits : (z : Size) → 47 * mostStatements z ≤ leastOut z

@@ -1,5 +1,5 @@
 -- The call by its cases: refused for the lengths, refused for the store, or what the state shows. Assumes nothing.
-use Prim.Native.Nat.{ℕ, _+_, _*_, _^_, _≤_, _<_}
+use Prim.Native.Nat.{ℕ, _*_, _^_, _≤_, _<_}
 use mathlib.Core.Path.{_≡_, refl, sym, ap, _∙_}
 use mathlib.Core.Bool.{Bool, true, false, not, _&&_, and-false}
 use mathlib.Core.List.{List}
@@ -8,7 +8,7 @@ use native.Mathlib.Nat.{zero-add}
 use lib.ListN.{length}
 use lib.Dec.{leb, eqb}
 use borrow.Author.Tests.{eqb-true, le-leb, lt-leb, not-true, not-false}
-use Rattle.rules.specs.Limits.{mostStatements, leastOut}
+use Rattle.rules.specs.Limits.{leastOut}
 use Rattle.rules.specs.WellFormed.{wellFormed}
 use Rattle.rules.specs.Display.{display, entries}
 use Rattle.rules.proofs.Tests.{and-left}
@@ -16,7 +16,7 @@ use Rattle.fields.specs.Places.{Bytes}
 use Rattle.outgoing.specs.Wrote.{Says}
 use Rattle.outgoing.proofs.Writing.{wrote-prefix}
 use Rattle.store.specs.Layout.{statementTable, storeLength, sizeIn, countOf}
-use Rattle.store.specs.Decode.{rows, statementAt, statements, stateFrom, stateOf, hasForm, Form}
+use Rattle.store.specs.Decode.{statementAt, statements, stateFrom, stateOf, hasForm, Form}
 use Rattle.store.proofs.Forms.{form-statements}
 use Rattle.store.proofs.Rows.{rows-length}
 use Rattle.formed.proofs.Whole.{formed-decoded, unformed-decoded}

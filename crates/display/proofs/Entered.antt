@@ -1,24 +1,24 @@
 -- A waiting station that a tick takes into its next view votes at that clock for all that it shows, so that each has 2D+1 ticks left. Assumes nothing.
 use mathlib.Core.Path.{_≡_, refl, sym, ap, subst, _∙_}
-use Prim.Native.Nat.{ℕ, suc, _+_, _-_, _*_}
+use Prim.Native.Nat.{ℕ, _+_, _-_, _*_}
 use native.Mathlib.Omega.{arith}
-use mathlib.Core.Bool.{Bool, true, false, not, _&&_}
-use mathlib.Core.List.{List, [], _∷_, _++_, List·Memᴰ as Mem, List·Memᴰ·head, List·Memᴰ·tail, List·Memᴰ·not-nil}
+use mathlib.Core.Bool.{true, false, not}
+use mathlib.Core.List.{List, [], _∷_, List·Memᴰ as Mem, List·Memᴰ·head, List·Memᴰ·tail, List·Memᴰ·not-nil}
 use mathlib.Core.Logic.{_⊎_, inl, inr}
-use mathlib.Core.Option.{Option, none, some, Option·some-injective}
+use mathlib.Core.Option.{some, Option·some-injective}
 use lib.IntN.{pos, subℕ}
 use borrow.Author.Tests.{not-true, le-ltb}
 use Rattle.rules.specs.Lists.{any, alter, distinct}
 use Rattle.rules.specs.Sizes.{Settings}
-use Rattle.rules.specs.Words.{Statement, sameStatement, inView, waiting, stopped, State}
-use Rattle.rules.specs.Inputs.{Work, saying, _▸_, withPhase, withClock, withTables, withLog, entering, isIn, quit, belowLock, noted, votedFor, voting, blameFull, due, commits, logging, overdue, complain, leads, leadsNow, lead, entersNow, entered, current, pair, inOrder, votingAll, arrive, enter, ticked}
+use Rattle.rules.specs.Words.{Statement, sameStatement, inView, waiting, State}
+use Rattle.rules.specs.Inputs.{Work, saying, _▸_, withPhase, withClock, withTables, withLog, entering, isIn, quit, belowLock, noted, votedFor, blameFull, due, commits, logging, overdue, complain, leads, leadsNow, lead, entersNow, entered, current, pair, inOrder, votingAll, enter}
 use Rattle.rules.specs.Refusals.{done, running, tick}
 use Rattle.rules.specs.Display.{Shown, dueClock, shown, display}
 use Rattle.rules.proofs.Tests.{by-bool, by-option, no-bool, no-some}
 use Rattle.rules.proofs.Truths.{and-2}
 use Rattle.rules.proofs.Searches.{by-mem, any-mem}
 use Rattle.rules.proofs.Statements.{same-like, same-sym, same-cong, noted-same, mem-in, in-keep, in-order}
-use Rattle.rules.proofs.Moves.{arrived, counted, logAfter, voting-low, voting-high, arrive-full, arrive-pair, arrive-clean, ticked-none, ticked-some, tick-done}
+use Rattle.rules.proofs.Moves.{arrived, counted, voting-low, voting-high, arrive-full, arrive-pair, arrive-clean, ticked-none, ticked-some, tick-done}
 use Rattle.rules.proofs.Kept.{no-phase, in-true, votingAll-fixed}
 use Rattle.kept.proofs.Lists.{distinct-alter}
 use Rattle.display.proofs.Shown.{shown-parts, shows}

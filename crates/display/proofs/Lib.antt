@@ -6,3 +6,4 @@ pub mod Still
 pub mod Entered
 pub mod Ticks
 pub mod Between
+pub mod ReadBack

@@ -1,11 +1,11 @@
 -- Ticks left as an integer: it falls by one with each tick, is at most zero where the due clock has come, and its eight bytes read back,
 -- below zero too. Assumes nothing.
-use mathlib.Core.Path.{_≡_, refl, sym, ap, _∙_}
+use mathlib.Core.Path.{_≡_, refl, ap, _∙_}
 use Prim.Native.Nat.{ℕ, zero, suc, _+_, _-_, _^_, _≤_, _<_}
 use native.Mathlib.Omega.{arith}
 use mathlib.Core.Bool.{true, false}
 use lib.Dec.{leb, ltb}
-use lib.IntN.{ℤ, pos, negsuc, predℤ, subℕ}
+use lib.IntN.{pos, negsuc, predℤ, subℕ}
 use lib.Signed.{leZ}
 use borrow.Author.Tests.{lt-ltb, le-ltb, ltb-true, ltb-false, leb-true}
 use Rattle.rules.specs.Lists.{be, unbe}

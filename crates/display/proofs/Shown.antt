@@ -1,17 +1,14 @@
 -- Who is shown: by the statement's own vote and the log; one list after another; nothing of a station that is in no view. Assumes nothing.
 use mathlib.Core.Path.{_≡_, refl, sym, ap, _∙_}
-use Prim.Native.Nat.{ℕ, suc, _+_, _-_, _*_}
+use Prim.Native.Nat.{ℕ, _+_, _-_}
 use mathlib.Core.Bool.{Bool, true, false, not, _&&_}
 use mathlib.Core.List.{List, [], _∷_, _++_, append-assoc, append-nil, List·Memᴰ as Mem, List·Memᴰ·head, List·Memᴰ·tail, List·Memᴰ·not-nil}
-use mathlib.Core.Option.{Option, none, some}
-use native.Mathlib.Omega.{arith}
-use lib.Dec.{eqb}
-use lib.IntN.{subℕ}
+use mathlib.Core.Option.{none, some}
 use borrow.Author.Tests.{not-true}
 use Rattle.rules.specs.Words.{Statement, Phase, Cause, inView, waiting, stopped, State}
 use Rattle.rules.specs.Inputs.{isIn}
-use Rattle.rules.specs.Display.{Shown, isLogged, isShown, dueClock, shown, showing, showingAll, display}
-use Rattle.rules.proofs.Tests.{by-bool, by-option, no-bool}
+use Rattle.rules.specs.Display.{Shown, isLogged, isShown, shown, showing, showingAll, display}
+use Rattle.rules.proofs.Tests.{by-bool, by-option}
 use Rattle.rules.proofs.Truths.{and-3}
 use Rattle.rules.proofs.Searches.{by-mem}
 

@@ -1,20 +1,18 @@
 -- What a tick does after its commits leaves the display as it is, while the station stays in its view: blames and tallies are not shown,
 -- and all that is stored then is the leader's own new-view. Assumes nothing.
 use mathlib.Core.Path.{_≡_, refl, sym, ap, _∙_}
-use Prim.Native.Nat.{ℕ, suc, _+_, _*_}
+use Prim.Native.Nat.{ℕ, _+_}
 use native.Mathlib.Omega.{arith}
-use mathlib.Core.Bool.{Bool, true, false, not, _&&_}
+use mathlib.Core.Bool.{true}
 use mathlib.Core.List.{List, [], _∷_, _++_, append-nil}
 use mathlib.Core.Logic.{_⊎_, inl, inr}
-use mathlib.Core.Option.{none, some}
-use lib.Dec.{eqb}
-use lib.IntN.{subℕ}
+use mathlib.Core.Option.{none}
 use Rattle.rules.specs.Lists.{alter}
 use Rattle.rules.specs.Messages.{Message, kind, Effect}
-use Rattle.rules.specs.Words.{Statement, message, sameStatement, inView, waiting, stopped, State}
+use Rattle.rules.specs.Words.{Statement, message, sameStatement, inView, waiting, State}
 use Rattle.rules.specs.Inputs.{withPhase, withClock, withTables, withBlames, withLog, entering, isIn, noted, votedFor, stored, blamed, ownNewView}
 use Rattle.rules.specs.Refusals.{running, tick}
-use Rattle.rules.specs.Display.{Shown, isLogged, isShown, dueClock, shown, showing, showingAll, display}
+use Rattle.rules.specs.Display.{Shown, isShown, dueClock, shown, showing, showingAll, display}
 use Rattle.rules.proofs.Tests.{by-bool}
 use Rattle.rules.proofs.Statements.{same-like}
 use Rattle.rules.proofs.Moves.{Outside, Origin, handed, led, made, Move, joins, stores, passes, casts, clashes, accuses, fills, complains, entersFull, entersPair, enters, Moves, here, more, counted, logAfter, tick-moves}

@@ -4,32 +4,32 @@ use mathlib.Core.Path.{_≡_, refl, sym, ap, ap₂, subst, _∙_}
 use Prim.Native.Nat.{ℕ, zero, suc, _+_, _-_, _*_, _≤_, _<_}
 use native.Mathlib.Omega.{arith}
 use native.Mathlib.Nat.{zero-add, suc-add}
-use mathlib.Core.Bool.{Bool, true, false, not, _&&_}
-use mathlib.Core.List.{List, [], _∷_, _++_, append-assoc, append-nil, IsPrefix, List·Memᴰ as Mem, List·Memᴰ·head, List·Memᴰ·tail, List·Memᴰ·not-nil}
+use mathlib.Core.Bool.{true, false}
+use mathlib.Core.List.{List, [], _∷_, _++_, append-assoc, IsPrefix, List·Memᴰ as Mem, List·Memᴰ·head, List·Memᴰ·tail, List·Memᴰ·not-nil}
 use mathlib.Core.Logic.{_⊎_, inl, inr}
-use mathlib.Core.Option.{Option, none, some, Option·some-injective}
+use mathlib.Core.Option.{none, some, Option·some-injective}
 use lib.Dec.{leb, eqb}
-use lib.IntN.{ℤ, pos, predℤ, subℕ}
+use lib.IntN.{ℤ, pos, predℤ}
 use lib.Signed.{leZ}
 use lib.ListN.{length, getD, drop, length-append, List·getD-append}
 use lib.Seq.{getD-append-seam}
-use borrow.Author.Tests.{leb-true, le-leb, lt-leb, eqb-true, eq-eqb, not-true}
+use borrow.Author.Tests.{leb-true, le-leb, lt-leb, eqb-true, eq-eqb}
 use Rattle.rules.specs.Lists.{first, within}
-use Rattle.rules.specs.Messages.{Message, Effect, toAll, toOne, committed}
+use Rattle.rules.specs.Messages.{Effect, committed}
 use Rattle.rules.specs.Words.{Statement, Phase, inView, waiting, stopped, State}
-use Rattle.rules.specs.Inputs.{withClock, withLog, isIn, isBlock, chainTo, chain, due, commits, reports}
+use Rattle.rules.specs.Inputs.{withClock, withLog, isIn, isBlock, chainTo, chain, due, reports}
 use Rattle.rules.specs.Refusals.{refused, running, tick}
 use Rattle.rules.specs.WellFormed.{wellFormed}
 use Rattle.rules.specs.Display.{Shown, isLogged, isShown, dueClock, shown, showing, showingAll, display}
-use Rattle.rules.proofs.Tests.{by-bool, by-option, no-bool, no-some, eqb-self}
-use Rattle.rules.proofs.Truths.{and-2, and-3, both}
+use Rattle.rules.proofs.Tests.{by-bool, by-option, no-bool, no-some}
+use Rattle.rules.proofs.Truths.{and-3}
 use Rattle.rules.proofs.Searches.{by-mem, all-of}
-use Rattle.rules.proofs.Moves.{Outside, Moves, counted, logAfter, news, tick-moves}
-use Rattle.rules.proofs.Kept.{by-phase, no-phase, in-true, moves-fixed}
-use Rattle.rules.proofs.Commits.{Committed, commits-some, facts-due, moves-messages}
+use Rattle.rules.proofs.Moves.{Moves, counted, logAfter, news, tick-moves}
+use Rattle.rules.proofs.Kept.{by-phase, in-true, moves-fixed}
+use Rattle.rules.proofs.Commits.{commits-some, facts-due, moves-messages}
 use Rattle.kept.proofs.WellFormed.{parts}
 use Rattle.kept.proofs.Facts.{statement-of}
-use Rattle.display.proofs.Shown.{not-voted, not-shown, is-shown, shown-parts, Shows, shows, waiting-shows-none, stopped-shows-none}
+use Rattle.display.proofs.Shown.{not-voted, not-shown, is-shown, shown-parts, shows, waiting-shows-none, stopped-shows-none}
 use Rattle.display.proofs.Numbers.{left-falls, due-come}
 use Rattle.display.proofs.Still.{nobody, tick-still}
 use Rattle.display.proofs.Entered.{entered-left}

@@ -2,7 +2,7 @@
 // The store is only read, and every byte left in the out buffer is said.
 ghost use mathlib.Core.Path.{_≡_};
 ghost use mathlib.Core.List.{_++_};
-ghost use Prim.Native.Nat.{_+_, _^_, _≤_, _<_};
+ghost use Prim.Native.Nat.{_+_, _≤_, _<_};
 ghost use lib.ListN.{length};
 ghost use lib.IntN.{subℕ};
 ghost use Rattle.rules.specs.Limits.{leastOut};

@@ -1,10 +1,9 @@
 -- The wall display evaluated: the values at -1, 0 and 1 and at both clock ends, who is shown and who isn't, the order, the bytes. Assumes nothing.
 use mathlib.Core.Path.{_≡_, refl}
 use Prim.Native.Nat.{ℕ, _+_, _-_, _^_}
-use mathlib.Core.Bool.{Bool, true, false, not, _&&_}
+use mathlib.Core.Bool.{Bool, true, false, _&&_}
 use mathlib.Core.List.{List, [], _∷_, _++_}
 use mathlib.Core.Option.{Option, none, some}
-use lib.ListN.{length}
 use lib.Dec.{eqb}
 use lib.IntN.{ℤ, pos, negsuc, negℤ}
 use Rattle.rules.specs.Limits.{lastClock}
@@ -12,8 +11,8 @@ use Rattle.rules.specs.Lists.{unbe}
 use Rattle.rules.specs.Messages.{newView, propose, blameSet, committed}
 use Rattle.rules.specs.Words.{Statement, waiting, stopped, full, State, fresh}
 use Rattle.rules.specs.Inputs.{withPhase, withClock, withTables, withLog}
-use Rattle.rules.specs.Script.{Line, _⇒_, idle, holds, ticks, hears, bytes, says, refuses, sameList, failing, goes, group, station, block, child}
-use Rattle.rules.specs.Display.{Shown, isLogged, display, twos, signed, entries}
+use Rattle.rules.specs.Script.{Line, _⇒_, idle, holds, ticks, hears, bytes, says, sameList, failing, group, station, block, child}
+use Rattle.rules.specs.Display.{Shown, display, twos, signed, entries}
 
 sameInteger : ℤ → ℤ → Bool
 sameInteger (pos a) (pos b) = eqb a b

@@ -1,6 +1,6 @@
 -- `display::show_all` meets its contract. The invariant: the statements before place i are shown. The measure is what is left. Assumes nothing.
 use Prim.Native.Nat.{ℕ, _-_, _≤_}
-use mathlib.Core.Path.{_≡_, sym, ap, _∙_}
+use mathlib.Core.Path.{_≡_, ap, _∙_}
 use mathlib.Core.List.{[], _∷_}
 use native.Mathlib.Omega.{arith}
 use denote.Enum.Declared.{tagOf}
