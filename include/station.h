@@ -19,7 +19,8 @@
  *   10  bad settings for a fresh store                                                       nothing changes
  *   13  journal: no slot left, no input, or a slot that stops a replay                       see the journal's calls
  *
- * Order: 1, 2, 3, then 4, 5, 6 for messages; 9, 6 for offers; 8, 7, 6 for ticks. A fresh store: 1, then 10.
+ * Order: 1, 2, 3, then 4, 5, 6 for messages; 9, 6 for offers; 8, 7, 6 for ticks. A fresh store: 1, then 10. The display:
+ * 1, then 2.
  */
 #ifndef STATION_H
 #define STATION_H
@@ -80,6 +81,12 @@ uint64_t journal_write(uint8_t *journal, size_t journal_len, uint64_t kind, cons
  * then the store holds the state of the records before it. On 0 and 13 the report has the number of records, the place where
  * reading ended, the number of torn slots before it and their places, 4 bytes each, big-endian. */
 uint64_t journal_replay(const uint8_t *journal, size_t journal_len, uint8_t *store, size_t store_len, uint8_t *out, size_t out_len, uint8_t *report, size_t report_len);
+
+/* A number for a wall display. For each propose voted for in the view now held and not yet in the log, by place in the
+ * store, a field of 47 bytes: 13 00 2C (hex), height (4), name (32), and the ticks left until its commit is due (8, two's
+ * complement). 0 is due on the tick just given, below 0 is overdue. A waiting or stopped station shows none. The store is
+ * only read. Refusals 1 and 2. */
+uint64_t station_display(const uint8_t *store, size_t store_len, uint8_t *out, size_t out_len);
 
 #ifdef __cplusplus
 }

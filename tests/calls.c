@@ -69,6 +69,16 @@ static uint64_t ticks(int count)
     return answer;
 }
 
+static uint64_t display(void) { return station_display(store, row->store, out, row->out); }
+
+static int64_t left(size_t i) /* the ticks left of a propose on the display */
+{
+    uint64_t value = 0;
+    for (size_t k = 39; k < 47; k++)
+        value = value << 8 | out[47 * i + k];
+    return (int64_t)value;
+}
+
 static void fresh(uint64_t own) { EXPECT(station_fresh(store, row->store, 3, 2, own) == 0); }
 
 static void keep(void)
@@ -99,6 +109,7 @@ static void store_lengths(void)
         wrong += station_tick(store, length, out, sizeof out) != refusal(1);
         wrong += station_step(store, length, name, 0, out, sizeof out) != refusal(1);
         wrong += station_offer(store, length, name, 32, out, sizeof out) != refusal(1);
+        wrong += station_display(store, length, out, sizeof out) != refusal(1);
     }
     EXPECT(wrong == 0 && untouched());
 }
@@ -118,6 +129,7 @@ static void lengths(void) /* 1 */
         wrong += station_tick(store, row->store, out, length) != refusal(1);
         wrong += station_step(store, row->store, name, 0, out, length) != refusal(1);
         wrong += station_offer(store, row->store, name, 32, out, length) != refusal(1);
+        wrong += station_display(store, row->store, out, length) != refusal(1);
     }
     EXPECT(wrong == 0);
     EXPECT(station_offer(store, row->store, name, 31, out, row->out) == refusal(1));
@@ -135,6 +147,7 @@ static void not_well_formed(void) /* 2 */
         EXPECT(tick() == refusal(2));
         EXPECT(station_step(store, row->store, name, 32, out, row->out) == refusal(2));
         EXPECT(station_offer(store, row->store, name, 32, out, row->out) == refusal(2));
+        EXPECT(station_display(store, row->store, out, row->out) == refusal(2));
         EXPECT(untouched());
     }
 }
@@ -182,8 +195,10 @@ static void full_statements(void)
     for (uint32_t i = 0; i < row->statements; i++)
         EXPECT(propose(1, i + 1, i + 1, i, 1) == 160);
     EXPECT(propose(1, 1, 1, 0, 1) == 0);
+    EXPECT(display() == 47 * row->statements);
     keep();
     stops_full(propose(1, row->statements + 1, row->statements + 1, row->statements, 1));
+    EXPECT(display() == 0 && untouched());
 }
 
 /* From view to view by blame sets; nothing is entered after the last. */
@@ -230,6 +245,26 @@ static void offers(void) /* 9, then 0 */
     EXPECT(station_offer(store, row->store, name, 32, out, row->out) == 160);
 }
 
+/* From 5 ticks left to 2 overdue, while the parent is missing; by place; none once committed, none while waiting. */
+static void shown(void)
+{
+    fresh(2);
+    keep();
+    EXPECT(display() == 0 && untouched());
+    EXPECT(propose(1, 2, 79, 77, 1) == 160);
+    for (int k = 0; k < 7; k++) {
+        keep();
+        EXPECT(display() == 47 && memcmp(kept, store, sizeof store) == 0 && out[47] == 0x77);
+        EXPECT(memcmp(out, "\x13\x00\x2c\x00\x00\x00\x02", 7) == 0 && out[38] == 79 && left(0) == 5 - k);
+        EXPECT(tick() == 0);
+    }
+    EXPECT(propose(1, 1, 77, 0, 1) == 160);
+    EXPECT(display() == 94 && out[38] == 79 && left(0) == -2 && out[47 + 38] == 77 && left(1) == 5);
+    EXPECT(tick() == 78 && display() == 0);
+    EXPECT(propose(1, 3, 80, 79, 1) == 160 && display() == 47);
+    EXPECT(blame_set(1, 3) == 19 && display() == 0);
+}
+
 static void settings(void) /* 10 */
 {
     fresh(0);
@@ -255,6 +290,7 @@ static void every(void)
     split();
     clock_end();
     offers();
+    shown();
     settings();
 }
 

@@ -3,10 +3,10 @@
      replay [-l] [-d SEED] FILE..
 
    With -l the stores are large ones, else small.
-   A run is lines `fresh N D OWN`, `tick`, `step HEX`, `offer HEX`, each followed by `= NUMBER HEX`, the refusal number and
-   the bytes written (`-` for none). Every call is made twice, on equal stores and on out buffers of other lengths and
+   A run is lines `fresh N D OWN`, `tick`, `step HEX`, `offer HEX`, `display`, each followed by `= NUMBER HEX`, the refusal
+   number and the bytes written (`-` for none). Every call is made twice, on equal stores and on out buffers of other lengths and
    contents; looked at are the answer, the bytes written, that nothing else is written, and that a refusal but 6, 7 and 8
-   leaves the store. With -d every call is made first on a copy of the store with some bytes damaged: the answer must be 2
+   leaves the store, as a display does. With -d every call is made first on a copy of the store with some bytes damaged: the answer must be 2
    and change nothing, or keep the same rules. The last line is 'N inputs, M differ'; the exit is 0 exactly when M is 0. */
 #include <stdint.h>
 #include <stdio.h>
@@ -18,7 +18,7 @@
 enum { MARGIN = 64, LONGER = 1000, LINE = 1 << 18 };
 
 struct input {
-    char what; /* f t s o */
+    char what; /* f t s o d */
     uint64_t n, d, own;
     uint8_t bytes[LINE / 2];
     size_t length;
@@ -67,6 +67,7 @@ static uint64_t call(struct place *p, const struct input *in)
     case 'f': return station_fresh(p->store, row->store, in->n, in->d, in->own);
     case 't': return station_tick(p->store, row->store, p->out, p->out_length);
     case 's': return station_step(p->store, row->store, in->bytes, in->length, p->out, p->out_length);
+    case 'd': return station_display(p->store, row->store, p->out, p->out_length);
     default: return station_offer(p->store, row->store, in->bytes, in->length, p->out, p->out_length);
     }
 }
@@ -102,6 +103,8 @@ static const char *made(struct place *p, const struct input *in, size_t out_leng
     int same = memcmp(stored, p->store, row->store) == 0;
     if (number != 0 && (number < 6 || number > 8) && !same)
         return "a refusal that changes the store";
+    if (in->what == 'd' && !same)
+        return "a display that changes the store";
     if (number >= 6 && number <= 8 && same)
         return "a stop that leaves the store";
     return NULL;
@@ -158,7 +161,7 @@ static int replay(const char *name)
             sscanf(line, "fresh %lu %lu %lu", &in.n, &in.d, &in.own);
         else if (line[0] == 's' || line[0] == 'o')
             in.length = unhex(strchr(line, ' ') + 1, in.bytes);
-        if (strchr("ftso", line[0])) {
+        if (strchr("ftsod", line[0])) {
             in.what = line[0];
             continue;
         }

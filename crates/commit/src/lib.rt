@@ -82,7 +82,7 @@ fn walk(store: &[u8], count: usize, i: usize, chain: &mut [u16]) -> usize
 }
 
 // The number of the own vote for statement i, if it is a propose of the view; else 0.
-fn vote_in(store: &[u8], i: usize, view: u32) -> u32
+pub fn vote_in(store: &[u8], i: usize, view: u32) -> u32
     requires { ⌜ (length (now store) ≡ storeLength (sizeIn (now store))) × (i < mostStatements (sizeIn (now store))) ⌝ }
     ensures { λ r. ⌜ r ≡ voteIn view (statementAt (now (store .entry)) i) ⌝ }
 {

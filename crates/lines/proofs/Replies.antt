@@ -16,13 +16,13 @@ use Rattle.outgoing.specs.Wrote.{wrote}
 use Rattle.outgoing.specs.Wrote as written
 use Rattle.outgoing.proofs.Writing.{length-wrote}
 use Rattle.lines.specs.Words.{bytes, word, rest, noWord, pairs, isBytes}
-use Rattle.lines.specs.Script.{Got, got, wrong, onto, reads, fieldOf, freshened, ticked, alone, hex, Meaning, blank, fresh, tick, message, offer, log, state, bad, meant, spoken, Order, orders, ordered, lineOf}
+use Rattle.lines.specs.Script.{Got, got, wrong, onto, reads, fieldOf, freshened, ticked, alone, hex, Meaning, blank, fresh, tick, message, offer, log, state, display, bad, meant, spoken, Order, orders, ordered, lineOf}
 use Rattle.lines.specs.Places.{Lists, placed, Field, ended, readsAt}
 use Rattle.lines.specs.Answers.{answer, fill, left, filled, Reads, Says, given, HexAt, hexPlace, HexRead}
 use Rattle.lines.specs.declared.Flaw.{Flaw}
 use Rattle.lines.specs.declared.Flaw.the-variants as flaw
 use Rattle.lines.specs.declared.Line.{Line}
-use Rattle.lines.specs.declared.Line.the-variants.{Blank, Fresh, Tick, Message, Offer, Log, State, Bad}
+use Rattle.lines.specs.declared.Line.the-variants.{Blank, Fresh, Tick, Message, Offer, Log, State, Display, Bad}
 use Rattle.lines.specs.declared.parts.Place.{Place}
 use Rattle.lines.specs.declared.parts.Place.the-variants.{At, Wrong}
 use Rattle.lines.proofs.Fields.{small-is, ends-none, ends-extra}
@@ -65,24 +65,24 @@ of-picked w s k (nothing p q) = q ∙ sym (ap (λ (n : ℕ). meansOf n s) p)
 of-picked w s k (picked i p q) = q ∙ sym (ap (λ (n : ℕ). meansOf n s) (p ∙ ap suc (zero-add i)))
 
 -- the table as the code has it
-pub first-words : Lists (firsts orders) (bytes "new-view propose vote blame blame-set status fresh tick message offer log state")
+pub first-words : Lists (firsts orders) (bytes "new-view propose vote blame blame-set status fresh tick message offer log state display")
 unfolding firsts orders bytes word rest noWord
 first-words =
-    (refl, refl, (refl, refl, (refl, refl, (refl, refl, (refl, refl, (refl, refl, (refl, refl, (refl, refl, (refl, refl, (refl, refl, (refl, refl, (refl, refl, refl))))))))))))
+    (refl, refl, (refl, refl, (refl, refl, (refl, refl, (refl, refl, (refl, refl, (refl, refl, (refl, refl, (refl, refl, (refl, refl, (refl, refl, (refl, refl, (refl, refl, refl)))))))))))))
 
 module _ (s : List ℕ) where
   pub line-blank : noWord s ≡ true → lineOf s ≡ blank
   unfolding lineOf
   line-blank e = rw (e, lineOf)
 
-  pub line-order : (k : ℕ) → noWord s ≡ false → ((ws : List (List ℕ)) → Lists ws (bytes "new-view propose vote blame blame-set status fresh tick message offer log state") → k ≡ placed 1 ws (word s))
+  pub line-order : (k : ℕ) → noWord s ≡ false → ((ws : List (List ℕ)) → Lists ws (bytes "new-view propose vote blame blame-set status fresh tick message offer log state display") → k ≡ placed 1 ws (word s))
       → lineOf s ≡ meansOf k (rest s)
   unfolding lineOf
   line-order k e h =
       let p : k ≡ placed 1 (firsts orders) (word s) = h (firsts orders) first-words in
       rw (e, lineOf) (of-picked (word s) (rest s) k (rw (← p) at (pick orders (word s) (rest s) 0)))
 
-means-none : (k : ℕ) (s : List ℕ) → 12 < k → meansOf k s ≡ bad flaw.Word
+means-none : (k : ℕ) (s : List ℕ) → 13 < k → meansOf k s ≡ bad flaw.Word
 unfolding meansOf meanings orders
 means-none zero s h = absurd (omega arith)
 means-none (suc i) s h = List·getD-eq-default (meanings orders s) (bad flaw.Word) {n = i} (omega arith)
@@ -90,9 +90,9 @@ means-none (suc i) s h = List·getD-eq-default (meanings orders s) (bad flaw.Wor
 next : (n k : ℕ) → n < k → (k ≡ suc n → ⊥) → suc n < k
 next n k h e = omega (arith, e)
 
-pub means-other : (k : ℕ) (s : List ℕ) → 6 < k → (k ≡ 7 → ⊥) → (k ≡ 8 → ⊥) → (k ≡ 9 → ⊥) → (k ≡ 10 → ⊥) → (k ≡ 11 → ⊥) → (k ≡ 12 → ⊥) → meansOf k s ≡ bad flaw.Word
-means-other k s h a b c d e f =
-    means-none k s (next 11 k (next 10 k (next 9 k (next 8 k (next 7 k (next 6 k h a) b) c) d) e) f)
+pub means-other : (k : ℕ) (s : List ℕ) → 6 < k → (k ≡ 7 → ⊥) → (k ≡ 8 → ⊥) → (k ≡ 9 → ⊥) → (k ≡ 10 → ⊥) → (k ≡ 11 → ⊥) → (k ≡ 12 → ⊥) → (k ≡ 13 → ⊥) → meansOf k s ≡ bad flaw.Word
+means-other k s h a b c d e f g =
+    means-none k s (next 12 k (next 11 k (next 10 k (next 9 k (next 8 k (next 7 k (next 6 k h a) b) c) d) e) f) g)
 
 pub means-spoken : (k : ℕ) → 1 ≤ k → k ≤ 6 → (s : List ℕ) → meansOf k s ≡ spoken k s
 unfolding meansOf meanings orders
@@ -112,6 +112,7 @@ answer-fits n (offer bs) =
     by-bool (leb (length bs) n) (λ e. rw (e, answer) (leb-true (length bs) n e)) (λ e. rw (e, answer) (omega arith))
 answer-fits n log = omega arith
 answer-fits n state = omega arith
+answer-fits n display = omega arith
 answer-fits n (bad f) = omega arith
 
 length-fill : (o bs : List ℕ) → length (fill o bs) ≡ length o
@@ -127,6 +128,7 @@ length-left o (message bs) = length-fill o bs
 length-left o (offer bs) = length-fill o bs
 length-left o log = refl
 length-left o state = refl
+length-left o display = refl
 length-left o (bad f) = refl
 
 pub answered : (m : Meaning) (o o′ : List ℕ) (r : Line) → r ≡ answer (length o) m → o′ ≡ left o m → Reads m o o′ r
@@ -199,6 +201,10 @@ module _ (m : Meaning) where
   pub says-state : m ≡ state → Says m State
   unfolding answer left
   says-state e = rw e (record { is = λ _. refl; still = λ _. refl })
+
+  pub says-display : m ≡ display → Says m Display
+  unfolding answer left
+  says-display e = rw e (record { is = λ _. refl; still = λ _. refl })
 
   pub says-blank : m ≡ blank → Says m Blank
   unfolding answer left

@@ -11,7 +11,7 @@ use Rattle.rules.specs.Script.{sameList}
 use Rattle.rules.proofs.Tests.{by-bool, by-option}
 use Rattle.outgoing.proofs.Writing.{length-write-most}
 use Rattle.lines.specs.Words.{word, rest, noWord, pairs, isBytes}
-use Rattle.lines.specs.Script.{says, flawOf, fieldOf, unlabelled, Got, got, wrong, onto, reads, Meaning, blank, fresh, tick, message, offer, log, state, bad, meant, spoken, freshened, ticked, alone, hexed, Order, orders, ordered, lineOf}
+use Rattle.lines.specs.Script.{says, flawOf, fieldOf, unlabelled, Got, got, wrong, onto, reads, Meaning, blank, fresh, tick, message, offer, log, state, display, bad, meant, spoken, freshened, ticked, alone, hexed, Order, orders, ordered, lineOf}
 use Rattle.lines.specs.Answers.{answer, Reads}
 use Rattle.lines.specs.declared.Flaw.{Flaw}
 use Rattle.lines.specs.declared.Flaw.the-variants as flaw
@@ -33,6 +33,7 @@ Short (message bs) = length bs ≤ 2048
 Short (offer bs) = length bs ≤ 2048
 Short log = Unit
 Short state = Unit
+Short display = Unit
 Short (bad f) = f ≡ flaw.Long → ⊥
 
 abbrev Plain : Got → Type 0
@@ -142,7 +143,7 @@ orders-short = (
                     hex-short offer (λ bs h. h),
                     (
                       alone-short log tt,
-                      (alone-short state tt, tt),
+                      (alone-short state tt, (alone-short display tt, tt)),
                     ),
                   ),
                 ),
@@ -171,6 +172,7 @@ answer-short (message bs) o p h e = let z : Message (length bs) ≡ Bad flaw.Lon
 answer-short (offer bs) o p h e = let z : Offer (length bs) ≡ Bad flaw.Long = sym (offer-good bs o (omega arith)) ∙ e in cc
 answer-short log o p h e = cc
 answer-short state o p h e = cc
+answer-short display o p h e = cc
 answer-short (bad f) o p h e = let z : f ≡ flaw.Long = cc in absurd (p z)
 
 pub never-long : (s o o′ : List ℕ) (r : Line) → length s ≤ 4096 → 2048 ≤ length o → Reads (lineOf s) o o′ r → r ≡ Bad flaw.Long → ⊥

@@ -7,12 +7,14 @@ use lib.ListN.{length, drop}
 use lib.Dec.{leb}
 use Rattle.outgoing.specs.Wrote.{wrote}
 use Rattle.lines.specs.Words.{word, pairs}
-use Rattle.lines.specs.Script.{Got, got, wrong, hex, Meaning, blank, fresh, tick, message, offer, log, state, bad}
+use Rattle.lines.specs.Script.{Got, got, wrong, hex, Meaning, blank, fresh, tick, message, offer, log, state, display, bad}
 use Rattle.lines.specs.declared.Flaw.the-variants.{Long}
 use Rattle.lines.specs.declared.parts.Place.{Place}
 use Rattle.lines.specs.declared.parts.Place.the-variants.{At, Wrong}
 use Rattle.lines.specs.declared.Line.{Line}
-use Rattle.lines.specs.declared.Line.the-variants.{Blank, Fresh, Tick, Message, Offer, Log, State, Bad}
+use Rattle.lines.specs.declared.Line.the-variants.{Blank, Fresh, Tick, Message, Offer, Log, State, Display, Bad}
+use Rattle.lines.specs.declared.Asked.{Asked}
+use Rattle.lines.specs.declared.Asked.the-variants as asked
 
 -- the answer to a line that means m, with a buffer of so much room, and what it leaves of the buffer
 unfoldable pub answer : ℕ → Meaning → Line
@@ -23,6 +25,7 @@ answer room (message bs) = elim (leb (length bs) room) [ true ↦ Message (lengt
 answer room (offer bs) = elim (leb (length bs) room) [ true ↦ Offer (length bs) | false ↦ Bad Long ]
 answer room log = Log
 answer room state = State
+answer room display = Display
 answer room (bad f) = Bad f
 
 -- the bytes of a message or an offered name stand at the buffer's start, if there is room; all else is as it was
@@ -39,6 +42,7 @@ left o (message bs) = fill o bs
 left o (offer bs) = fill o bs
 left o log = o
 left o state = o
+left o display = o
 left o (bad f) = o
 
 -- a line that leaves the buffer alone, whatever its room
@@ -46,14 +50,15 @@ pub record Says (m : Meaning) (r : Line) : Type 0 where
   pub is : (room : ℕ) → r ≡ answer room m
   pub still : (o : List ℕ) → left o m ≡ o
 
--- a message or an offered name of these bytes; the log or the state
+-- a message or an offered name of these bytes; the log, the state or the display
 abbrev pub given : Bool → List ℕ → Meaning
 given true bs = offer bs
 given false bs = message bs
 
-abbrev pub asked : Bool → Meaning
-asked true = state
-asked false = log
+abbrev pub askedOf : Asked → Meaning
+askedOf asked.Log = log
+askedOf asked.State = state
+askedOf asked.Display = display
 
 -- a word of hex and no other, or what is wrong; how many bytes it says, where there is room, and what they leave of the buffer
 abbrev pub HexAt : List ℕ → ℕ → Place → Type 0
@@ -81,6 +86,7 @@ filled (Message k) = k
 filled (Offer k) = k
 filled Log = 0
 filled State = 0
+filled Display = 0
 filled (Bad f) = 0
 
 -- reading a line that means m into the buffer o leaves the buffer o′ and answers r

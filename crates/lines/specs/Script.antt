@@ -104,6 +104,7 @@ pub data Meaning : Type 0 where
   offer : List ℕ → Meaning
   log : Meaning
   state : Meaning
+  display : Meaning
   bad : Flaw → Meaning
 
 unfoldable pub meant : (List ℕ → Meaning) → Got → Meaning
@@ -160,6 +161,7 @@ orders =
     ∷ order "offer" (hexed offer)
     ∷ order "log" (alone log)
     ∷ order "state" (alone state)
+    ∷ order "display" (alone display)
     ∷ []
 
 -- the order of a first word, "a line that is none of these is said to be so"

@@ -5,7 +5,7 @@ ghost use mathlib.Core.Path.{_≡_};
 ghost use Prim.Native.Nat.{_≤_};
 ghost use lib.ListN.{length, drop};
 ghost use Rattle.lines.specs.Script.{lineOf, spoken, freshened, ticked, hex, hexed, alone};
-ghost use Rattle.lines.specs.Answers.{Reads, Says, HexAt, HexRead, given, asked};
+ghost use Rattle.lines.specs.Answers.{Reads, Says, HexAt, HexRead, given, askedOf};
 
 mod kinds;
 mod parts;
@@ -34,7 +34,15 @@ pub enum Line {
     Offer { len: usize },
     Log,
     State,
+    Display,
     Bad(Flaw),
+}
+
+// What a line of one word asks for.
+enum Asked {
+    Log,
+    State,
+    Display,
 }
 
 // Reads a line: any bytes, any buffer.
@@ -48,7 +56,7 @@ pub fn read_line(line: &[u8], bytes: &mut [u8]) -> Line
         return Line::Blank;
     }
     let kind = text::which(
-        b"new-view propose vote blame blame-set status fresh tick message offer log state",
+        b"new-view propose vote blame blame-set status fresh tick message offer log state display",
         &line[start..at],
     );
     match kind {
@@ -57,24 +65,26 @@ pub fn read_line(line: &[u8], bytes: &mut [u8]) -> Line
         8 => tick(line, at),
         9 => hexed(line, at, false, bytes),
         10 => hexed(line, at, true, bytes),
-        11 => alone(line, at, false),
-        12 => alone(line, at, true),
+        11 => alone(line, at, Asked::Log),
+        12 => alone(line, at, Asked::State),
+        13 => alone(line, at, Asked::Display),
         _ => Line::Bad(Flaw::Word),
     }
 }
 
-// A line of one word: whether it asks for the state, or for the log.
-fn alone(line: &[u8], at: usize, state: bool) -> Line
+// A line of one word.
+fn alone(line: &[u8], at: usize, asked: Asked) -> Line
     requires { ⌜ at ≤ length (now line) ⌝ }
-    ensures { λ r. ⌜ Says (alone (asked state) (drop at (now (line .entry)))) r ⌝ }
+    ensures { λ r. ⌜ Says (alone (askedOf asked) (drop at (now (line .entry)))) r ⌝ }
 {
     if let Place::Wrong(flaw) = parts::ending(line, Place::At(at)) {
         return Line::Bad(flaw);
     }
-    if state {
-        return Line::State;
+    match asked {
+        Asked::Log => Line::Log,
+        Asked::State => Line::State,
+        Asked::Display => Line::Display,
     }
-    Line::Log
 }
 
 // A fresh store.

@@ -9,3 +9,5 @@ pub mod WellFormed
 pub mod Script
 pub mod Corners
 pub mod Bench
+pub mod Display
+pub mod DisplayBench

@@ -36,6 +36,10 @@ pub fn line(store: &mut Store, line: &[u8], number: u64) -> bool {
             stored::state(number, store);
             true
         }
+        Line::Display => {
+            wall_display(store, number);
+            true
+        }
         Line::Bad(flaw) => {
             show::bad(number, flaw);
             false
@@ -70,6 +74,13 @@ fn offer(store: &mut Store, number: u64, name: &[u8]) {
     let mut out = show::out_buffer();
     let answer = station::station_offer(store, name, &mut out);
     answered(number, b"offer", answer, &out);
+}
+
+// The wall display, which changes nothing.
+fn wall_display(store: &Store, number: u64) {
+    let mut out = show::out_buffer();
+    let answer = display::station_display(store, &mut out);
+    answered(number, b"display", answer, &out);
 }
 
 // How far a line of ticks is: what the page has, the clock up to which ticks are told, and whether one was refused.

@@ -74,6 +74,7 @@ fn saying(page: &mut Page, at: usize, field: &[u8]) -> usize {
             message(page, marked, &field[4..])
         }
         0x12 => committed(page, at, &field[3..]),
+        0x13 => shown(page, at, &field[3..]),
         _ => unknown(page, at),
     }
 }
@@ -98,4 +99,15 @@ fn committed(page: &mut Page, at: usize, value: &[u8]) -> usize {
     }
     let height = fields::get(value, 0, 4);
     words::committed(page, at, height, fields::get_name(value, 4))
+}
+
+// A propose on the wall display, by its height, its name and its ticks left.
+fn shown(page: &mut Page, at: usize, value: &[u8]) -> usize {
+    if value.len() != 44 {
+        return unknown(page, at);
+    }
+    let height = fields::get(value, 0, 4);
+    let name = fields::get_name(value, 4);
+    let left = fields::get(value, 36, 8);
+    words::shown(page, at, height, name, left)
 }

@@ -88,6 +88,29 @@ pub fn committed(page: &mut Page, at: usize, height: u64, block: Name) -> usize 
     name(page, high, b" name ", block)
 }
 
+// A propose on the wall display. Its ticks left are in two's complement: below zero it is overdue.
+pub fn shown(page: &mut Page, at: usize, height: u64, block: Name, left: u64) -> usize {
+    let high = number(page, at, b"shown: height ", height);
+    let named = name(page, high, b" name ", block);
+    if left == 0 {
+        return page::say(page, named, b", due now");
+    }
+    if left <= i64::MAX as u64 {
+        let counted = ticks(page, named, b", ", left);
+        return page::say(page, counted, b" left");
+    }
+    ticks(page, named, b", overdue by ", u64::MAX - left + 1)
+}
+
+// A word and a count of ticks.
+fn ticks(page: &mut Page, at: usize, word: &[u8], count: u64) -> usize {
+    let counted = number(page, at, word, count);
+    if count == 1 {
+        return page::say(page, counted, b" tick");
+    }
+    page::say(page, counted, b" ticks")
+}
+
 // A status: a certificate in words.
 pub fn status(
     page: &mut Page,

@@ -31,6 +31,9 @@ impl<P: Program> Pair<P> {
         let (Some(tested), Some(second)) = (&mut self.tested, &mut self.second) else {
             return Ok(());
         };
+        if *input == Input::Display {
+            return same_state(self.size, tested, second);
+        }
         let (got, wanted) = (answer(tested, input), answer(second, input));
         if got != wanted {
             let (got, wanted) = (words(got), words(wanted));
@@ -64,6 +67,7 @@ impl<P: Program> Pair<P> {
 fn answer<'a, P: Program>(program: &'a mut P, input: &Input) -> Answer<'a> {
     match input {
         Input::Fresh { .. } => unreachable!("a fresh start is no call on a station"),
+        Input::Display => unreachable!("a display changes nothing, and is part of the state"),
         Input::Tick => program.tick(),
         Input::Step(message) => program.step(message),
         Input::Offer(name) => program.offer(name),
@@ -79,6 +83,9 @@ fn same_state<P: Program>(size: Size, tested: &P, second: &Second) -> Result<(),
     }
     if tested.log() != second.log() {
         return Err("the logs differ".into());
+    }
+    if tested.display() != second.display() {
+        return Err("the displays differ".into());
     }
     Ok(())
 }

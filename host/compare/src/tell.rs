@@ -20,6 +20,9 @@ const REASONS: [&str; 10] = [
     "bad settings for a fresh store",
 ];
 
+/// Bytes of a propose on the wall display.
+const SHOWN: usize = 47;
+
 /// What is printed. Of a bad line it doesn't say what is wrong, and of a lock not the mask.
 pub fn tell(script: &[u8]) -> String {
     let mut teller = Teller::default();
@@ -54,6 +57,7 @@ impl Teller {
             Line::Blank => {}
             Line::Input(Input::Tick) => self.ticks(number, 1),
             Line::Ticks(count) => self.ticks(number, count),
+            Line::Input(Input::Display) => self.display(number),
             Line::Input(input) => self.input(number, &input),
             Line::Log => self.log(number),
             Line::State => self.state(number),
@@ -80,6 +84,7 @@ impl Teller {
             Input::Tick => station.tick(),
             Input::Step(message) => station.step(message),
             Input::Offer(name) => station.offer(name),
+            Input::Display => unreachable!("a display is told apart"),
         };
         (answer.number, answer.out.to_vec())
     }
@@ -90,6 +95,7 @@ impl Teller {
             Input::Tick => "tick",
             Input::Step(_) => "message",
             Input::Offer(_) => "offer",
+            Input::Display => "display",
         };
         let (refusal, out) = self.answer(input);
         self.answered(number, what, refusal, &out);
@@ -157,6 +163,21 @@ impl Teller {
         }
     }
 
+    fn display(&mut self, number: usize) {
+        let Some(station) = &self.station else {
+            return self.answered(number, "display", 2, &[]);
+        };
+        let mut out = Vec::new();
+        station.station().show(&mut out);
+        let display = station.display();
+        self.print(format_args!("line {number}: display: 0 done, {} bytes", out.len()));
+        for (shown, field) in display.iter().zip(out.chunks(SHOWN)) {
+            let (height, name, left) = (shown.height, digits(shown.name), left(shown.ticks_left));
+            let field = hex(field);
+            self.print(format_args!("  shown: height {height} name {name}, {left} # {field}"));
+        }
+    }
+
     fn state(&mut self, number: usize) {
         let Some(station) = &self.station else {
             return self.answered(number, "state", 2, &[]);
@@ -178,6 +199,16 @@ impl Teller {
         self.print(format_args!(
             "  lock: status height {height} name {name} certificate {view} mask"
         ));
+    }
+}
+
+/// Ticks left, in words.
+fn left(ticks: i64) -> String {
+    let count = |ticks: u64| if ticks == 1 { "1 tick".into() } else { format!("{ticks} ticks") };
+    match ticks {
+        0 => "due now".into(),
+        1.. => format!("{} left", count(ticks.unsigned_abs())),
+        _ => format!("overdue by {}", count(ticks.unsigned_abs())),
     }
 }
 

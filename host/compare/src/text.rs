@@ -71,6 +71,7 @@ pub fn line(bytes: &[u8]) -> Option<Line> {
         ["tick", count] => Line::Ticks(number(count)?),
         ["message", hex] => Line::Input(Input::Step(replay::bytes(hex)?)),
         ["offer", hex] => Line::Input(Input::Offer(replay::bytes(hex)?)),
+        ["display"] => Line::Input(Input::Display),
         ["log"] => Line::Log,
         ["state"] => Line::State,
         [kind, ref words @ ..] => Line::Input(Input::Step(message(kind, words)?.encode())),

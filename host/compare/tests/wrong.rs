@@ -2,7 +2,7 @@
 
 use compare::{Met, replay, run, shrink, sources::Scripted, text};
 use programs::{Answer, Program, Second};
-use station::{Effect, Effects, Lock, Name, Phase, Size};
+use station::{Effect, Effects, Lock, Name, Phase, Shown, Size};
 
 /// The second program with one thing wrong.
 struct Wrong<const HOW: u32> {
@@ -15,6 +15,8 @@ const MUTE: u32 = 1;
 const DEAF: u32 = 2;
 /// It forgets the last name of its log.
 const FORGETFUL: u32 = 3;
+/// It shows one tick less than is left.
+const HASTY: u32 = 4;
 
 impl<const HOW: u32> Program for Wrong<HOW> {
     const TITLE: &'static str = "wrong";
@@ -63,6 +65,12 @@ impl<const HOW: u32> Program for Wrong<HOW> {
         log
     }
 
+    fn display(&self) -> Vec<Shown> {
+        let mut display = self.station.display();
+        display.iter_mut().for_each(|shown| shown.ticks_left -= i64::from(HOW == HASTY));
+        display
+    }
+
     fn shown(&self) -> Vec<u8> {
         self.station.shown()
     }
@@ -103,6 +111,15 @@ fn a_deaf_station_is_found() {
 fn a_forgetful_station_is_found() {
     let script = found::<Wrong<FORGETFUL>>();
     assert!(script.lines().count() <= 13, "{script}");
+}
+
+/// The vote for a propose is enough.
+#[test]
+fn a_hasty_display_is_found() {
+    let script = found::<Wrong<HASTY>>();
+    let lines: Vec<&str> = script.lines().collect();
+    assert_eq!(lines.len(), 2);
+    assert!(lines[0].starts_with("fresh ") && lines[1].starts_with("message 01000102"));
 }
 
 #[test]

@@ -9,7 +9,7 @@ pub mod shown;
 
 pub use proved::Proved;
 pub use second_program::{Second, limits};
-use station::{Lock, Name, Phase, Size};
+use station::{Lock, Name, Phase, Shown, Size};
 
 /// What a call answers: 01's number, and the bytes written.
 #[derive(Clone, Copy, Debug, PartialEq, Eq)]
@@ -31,6 +31,7 @@ pub trait Program: Sized {
     fn view(&self) -> u32;
     fn lock(&self) -> Lock;
     fn log(&self) -> Vec<Name>;
+    fn display(&self) -> Vec<Shown>;
 
     /// Its state as the bytes of a store, but for what only one of the programs shows.
     fn shown(&self) -> Vec<u8>;

@@ -1,7 +1,7 @@
 //! The proved station.
 
 use crate::{Answer, Program, shown};
-use station::{Effects, Lock, Name, Phase, Refusal, Size, Station, ffi};
+use station::{Effects, Lock, Name, Phase, Refusal, Shown, Size, Station, ffi};
 
 #[derive(Clone, Debug)]
 pub struct Proved {
@@ -52,6 +52,10 @@ impl Program for Proved {
 
     fn log(&self) -> Vec<Name> {
         self.station.log().to_vec()
+    }
+
+    fn display(&self) -> Vec<Shown> {
+        self.station.display()
     }
 
     fn shown(&self) -> Vec<u8> {

@@ -2,7 +2,7 @@
 
 use crate::{Answer, Program, shown};
 use second::{Limits, Station};
-use station::{Cause, Lock, Name, Phase, Size};
+use station::{Cause, Lock, Name, Phase, Shown, Size};
 
 #[derive(Clone, Debug)]
 pub struct Second {
@@ -60,6 +60,17 @@ impl Program for Second {
 
     fn log(&self) -> Vec<Name> {
         self.station.log().map(|name| name.to_bytes()).collect()
+    }
+
+    fn display(&self) -> Vec<Shown> {
+        let display = self.station.display().into_iter();
+        display
+            .map(|shown| Shown {
+                height: shown.height,
+                name: shown.name.to_bytes(),
+                ticks_left: shown.ticks_left,
+            })
+            .collect()
     }
 
     fn shown(&self) -> Vec<u8> {

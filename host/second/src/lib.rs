@@ -3,10 +3,11 @@
 //! compared with it, in answers, bytes and speed.
 //!
 //! `settings` has the limits, `words` the records, `wire` the messages, `station` what a message and
-//! an offer do, `tick` what a tick does. `replay` reads recorded runs, `scripts` makes new ones.
+//! an offer do, `tick` what a tick does, `display` what the wall display shows. `replay` reads recorded runs, `scripts` makes new ones.
 
 #![forbid(unsafe_code)]
 
+mod display;
 pub mod random;
 pub mod refusal;
 pub mod replay;
@@ -17,6 +18,7 @@ mod tick;
 pub mod wire;
 pub mod words;
 
+pub use display::Shown;
 pub use refusal::{Cause, Refusal};
 pub use settings::{Limits, Settings};
 pub use station::{Phase, Station};

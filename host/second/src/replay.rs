@@ -1,5 +1,5 @@
-//! Recorded runs of one station: `fresh N D OWN`, `tick`, `step HEX` or `offer HEX`, each followed
-//! by `= CODE HEXOUT`, with `-` for no bytes and lines of `#` to people. Read, written and replayed.
+//! Recorded runs of one station: `fresh N D OWN`, `tick`, `step HEX`, `offer HEX` or `display`, each
+//! followed by `= CODE HEXOUT`, with `-` for no bytes and lines of `#` to people. Read, written and replayed.
 
 use crate::settings::Limits;
 use crate::station::Station;
@@ -8,10 +8,16 @@ use std::fmt;
 /// What is handed to a station.
 #[derive(Clone, Debug, PartialEq, Eq)]
 pub enum Input {
-    Fresh { n: u64, d: u64, own: u64 },
+    Fresh {
+        n: u64,
+        d: u64,
+        own: u64,
+    },
     Tick,
     Step(Vec<u8>),
     Offer(Vec<u8>),
+    /// The wall display, which changes nothing.
+    Display,
 }
 
 /// What comes back: 01's number, and the bytes written.
@@ -54,6 +60,10 @@ impl Run {
             Input::Tick => self.station.as_mut()?.tick(&mut out),
             Input::Step(message) => self.station.as_mut()?.step(message, &mut out),
             Input::Offer(name) => self.station.as_mut()?.offer(name, &mut out),
+            Input::Display => {
+                self.station.as_ref()?.show(&mut out);
+                0
+            }
         };
         Some(Answer { code, out })
     }
@@ -115,6 +125,7 @@ fn parse_input(line: &str) -> Option<Input> {
         ["tick"] => Some(Input::Tick),
         ["step", message] => bytes(message).map(Input::Step),
         ["offer", name] => bytes(name).map(Input::Offer),
+        ["display"] => Some(Input::Display),
         _ => None,
     }
 }
@@ -156,6 +167,7 @@ impl fmt::Display for Input {
             Input::Tick => f.write_str("tick"),
             Input::Step(message) => write!(f, "step {}", Hex(message)),
             Input::Offer(name) => write!(f, "offer {}", Hex(name)),
+            Input::Display => f.write_str("display"),
         }
     }
 }

@@ -14,6 +14,7 @@ const AUTHOR: u8 = 0x08;
 const TO_ALL: u8 = 0x10;
 const TO_ONE: u8 = 0x11;
 const COMMITTED: u8 = 0x12;
+const SHOWN: u8 = 0x13;
 
 const NEW_VIEW: u8 = 1;
 const PROPOSE: u8 = 2;
@@ -224,6 +225,15 @@ pub fn committed(height: u32, name: Name, out: &mut Vec<u8>) {
     value[..4].copy_from_slice(&height.to_be_bytes());
     value[4..].copy_from_slice(&name.to_bytes());
     put(out, COMMITTED, value);
+}
+
+/// Tag 13: a propose on the wall display (height 4, name 32, ticks left 8, in two's complement).
+pub fn shown(height: u32, name: Name, ticks_left: i64, out: &mut Vec<u8>) {
+    let mut value = [0; 4 + Name::BYTES + 8];
+    value[..4].copy_from_slice(&height.to_be_bytes());
+    value[4..4 + Name::BYTES].copy_from_slice(&name.to_bytes());
+    value[4 + Name::BYTES..].copy_from_slice(&ticks_left.to_be_bytes());
+    put(out, SHOWN, value);
 }
 
 /// One field: "one-byte tag, two-byte length, then the value".

@@ -3,7 +3,7 @@
 use programs::{Answer, Program, Proved, Second};
 use simulate::watch::Breach;
 use simulate::{Delays, Fault, Group, Plan};
-use station::{Lock, Name, Phase, Size};
+use station::{Lock, Name, Phase, Shown, Size};
 
 fn plan(n: u8, d: u32, faulty: &[Fault], delays: Delays, seed: u64) -> Plan {
     let mut faults = vec![None; n.into()];
@@ -98,6 +98,10 @@ impl<const HASTY: bool> Program for Wrong<HASTY> {
 
     fn log(&self) -> Vec<Name> {
         if HASTY { self.0.log() } else { Vec::new() }
+    }
+
+    fn display(&self) -> Vec<Shown> {
+        self.0.display()
     }
 
     fn shown(&self) -> Vec<u8> {

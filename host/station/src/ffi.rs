@@ -1,4 +1,4 @@
-//! The four calls of `include/station.h` on slices: here is the crate's only `unsafe`.
+//! The calls of `include/station.h` on slices: here is the crate's only `unsafe`.
 //!
 //! The calls answer every length and every content, and write to nothing but the store and the out
 //! buffer. A result is the refusal's number times 2^32, plus the count of bytes written: see
@@ -27,10 +27,16 @@ mod declared {
             out: *mut u8,
             out_len: usize,
         ) -> u64;
+        pub fn station_display(
+            store: *const u8,
+            store_len: usize,
+            out: *mut u8,
+            out_len: usize,
+        ) -> u64;
     }
 }
 
-// SAFETY, of all four: each pointer comes with the length of the slice it was taken from, the slices
+// SAFETY, of all of them: each pointer comes with the length of the slice it was taken from, the slices
 // are borrowed for the whole call, and those that are written can't overlap another.
 
 /// A fresh store.
@@ -69,4 +75,9 @@ pub fn offer(store: &mut [u8], name: &[u8], out: &mut [u8]) -> u64 {
             out.len(),
         )
     }
+}
+
+/// The wall display, which leaves the store as it is.
+pub fn display(store: &[u8], out: &mut [u8]) -> u64 {
+    unsafe { declared::station_display(store.as_ptr(), store.len(), out.as_mut_ptr(), out.len()) }
 }

@@ -1,5 +1,6 @@
 //! A station that owns its store and its out buffer.
 
+use crate::display::{self, Shown};
 use crate::effect::Effects;
 use crate::ffi;
 use crate::message::Name;
@@ -183,6 +184,29 @@ impl Station {
     /// The committed names, from height 1 on.
     pub fn log(&self) -> &[Name] {
         store::log(self.size, &self.store)
+    }
+
+    /// What a wall display shows, by place in the store: the proposes voted for in its view and not in
+    /// the log yet, each with the ticks left until its commit is due. Waiting or stopped it shows none.
+    ///
+    /// ```
+    /// use station::{GENESIS, Message, Size, Station};
+    ///
+    /// let mut station = Station::fresh(Size::Small, 3, 2, 2)?;
+    /// let (parent, mask) = (GENESIS, 0b011);
+    /// let propose = Message::Propose { view: 1, height: 1, name: [7; 32], parent, mask, author: 1 };
+    /// station.step(&propose.encode())?;
+    /// for left in [5, 4, 3, 2, 1] {
+    ///     assert_eq!(station.display()[0].ticks_left, left);
+    ///     station.tick()?;
+    /// }
+    /// assert_eq!((station.display().len(), station.log()), (0, &[[7; 32]][..]));
+    /// # Ok::<(), station::Refusal>(())
+    /// ```
+    pub fn display(&self) -> Vec<Shown> {
+        let mut out = vec![0; self.size.out_length()];
+        let count = answer(ffi::display(&self.store, &mut out)).expect("a well-formed store");
+        display::read(&out[..count])
     }
 
     /// Whether it leads its view: "The leader of view v is v mod n."

@@ -50,6 +50,9 @@ alone-requires c κs = search needs
 alone-requires-2 : tie.Need-alone-requires-2
 alone-requires-2 c κs = search needs
 
+alone-requires-3 : tie.Need-alone-requires-3
+alone-requires-3 c κs = search needs
+
 spoken-requires : tie.Need-spoken-requires
 spoken-requires c κs = search needs
 
@@ -107,33 +110,41 @@ returns-7 c =
     let is = line-order s (c .before .before .which .result) (word-some w (c .before .before .before .before .before .if1 .left)) (λ ws l. rw (w .is) at (c .before .before .which .ensures ws l)) in
     unchanged _ _ _ _ (c .alone2 .ensures) (rw (← w .after) at (is ∙ ap (λ (k : ℕ). meansOf k (rest s)) (c .before .match .keys6)))
 
+returns-8 : tie.Need-returns-8
+unfolding bytes meansOf meanings orders
+returns-8 c =
+    let s = c .before .before .before .before .before .before .before .before .before .args .line .now in
+    let w = c .before .before .before .before .before .before .word .ensures in
+    let is = line-order s (c .before .before .which .result) (word-some w (c .before .before .before .before .before .if1 .left)) (λ ws l. rw (w .is) at (c .before .before .which .ensures ws l)) in
+    unchanged _ _ _ _ (c .alone3 .ensures) (rw (← w .after) at (is ∙ ap (λ (k : ℕ). meansOf k (rest s)) (c .before .match .keys7)))
+
 same-length-3 : tie.Need-same-length-3
 same-length-3 c = search needs
 
-returns-8 : tie.Need-returns-8
+returns-9 : tie.Need-returns-9
 unfolding bytes
-returns-8 c =
+returns-9 c =
     let s = c .before .before .before .before .before .before .before .before .before .before .before .before .before .before .args .line .now in
     let w = c .before .before .before .before .before .before .before .before .before .before .before .word .ensures in
     let is = line-order s (c .before .before .before .before .before .before .before .which .result) (word-some w (c .before .before .before .before .before .before .before .before .before .before .if1 .left)) (λ ws l. rw (w .is) at (c .before .before .before .before .before .before .before .which .ensures ws l)) in
     reads-as _ _ _ _ _ (rw (← w .after) at (is ∙ means-spoken (c .before .before .before .before .before .before .before .which .result) (c .before .before .before .before .before .if2 .left) (omega (arith, c .before .before .before .before .if3 .taken)) (rest s))) (c .before .before .spoken .ensures)
 
-returns-9 : tie.Need-returns-9
+returns-10 : tie.Need-returns-10
 unfolding bytes meansOf
-returns-9 c =
+returns-10 c =
     let s = c .before .before .before .before .before .before .before .before .before .args .line .now in
     let w = c .before .before .before .before .before .before .word .ensures in
     let is = line-order s (c .before .before .which .result) (word-some w (c .before .before .before .before .before .if1 .left)) (λ ws l. rw (w .is) at (c .before .before .which .ensures ws l)) in
     let none : c .before .before .which .result ≡ 0 = omega (arith, c .if2 .taken) in
     unchanged _ _ _ _ (says-bad _ _ (is ∙ ap (λ (k : ℕ). meansOf k (rest s)) none)) refl
 
-returns-10 : tie.Need-returns-10
+returns-11 : tie.Need-returns-11
 unfolding bytes
-returns-10 c =
+returns-11 c =
     let s = c .before .before .before .before .before .before .before .before .before .before .args .line .now in
     let w = c .before .before .before .before .before .before .before .word .ensures in
     let is = line-order s (c .before .before .before .which .result) (word-some w (c .before .before .before .before .before .before .if1 .left)) (λ ws l. rw (w .is) at (c .before .before .before .which .ensures ws l)) in
-    unchanged _ _ _ _ (says-bad _ _ (is ∙ means-other _ (rest s) (c .if3 .left) (c .before .before .match .rest .0 .0 .0 .0 .0 .1) (c .before .before .match .rest .0 .0 .0 .0 .1) (c .before .before .match .rest .0 .0 .0 .1) (c .before .before .match .rest .0 .0 .1) (c .before .before .match .rest .0 .1) (c .before .before .match .rest .1))) refl
+    unchanged _ _ _ _ (says-bad _ _ (is ∙ means-other _ (rest s) (c .if3 .left) (c .before .before .match .rest .0 .0 .0 .0 .0 .0 .1) (c .before .before .match .rest .0 .0 .0 .0 .0 .1) (c .before .before .match .rest .0 .0 .0 .0 .1) (c .before .before .match .rest .0 .0 .0 .1) (c .before .before .match .rest .0 .0 .1) (c .before .before .match .rest .0 .1) (c .before .before .match .rest .1))) refl
 
 pub read-line-spec : {M : Type 1} → statement M
 read-line-spec =
@@ -152,6 +163,7 @@ read-line-spec =
     hexed-requires-2
     alone-requires
     alone-requires-2
+    alone-requires-3
     spoken-requires
     returns-2
     returns-3
@@ -161,7 +173,8 @@ read-line-spec =
     returns-5
     returns-6
     returns-7
-    same-length-3
     returns-8
+    same-length-3
     returns-9
-    returns-10)
+    returns-10
+    returns-11)

@@ -31,9 +31,9 @@ fn main() -> ExitCode {
     }
 }
 
-/// The inputs of a random run.
+/// The inputs of a random run, and the wall display behind every eighth of them.
 fn random(seed: u64) -> String {
     let script = sources::Scripted::new(Size::Small, seed);
     let (inputs, _) = run::<Second>(Size::Small, script, &mut Met::default());
-    text::write(&inputs)
+    inputs.chunks(8).map(|inputs| text::write(inputs) + "display\n").collect()
 }

@@ -22,6 +22,7 @@ recorded! {
     fuzz_012: "fuzz-012.txt",
     sim_001: "sim-001.txt",
     damage_5: "damage-5.txt",
+    display: "display.txt",
 }
 
 recorded! {

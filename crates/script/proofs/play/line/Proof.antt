@@ -73,6 +73,12 @@ enum-told-3 c = search needs
 state-requires : tie.Need-state-requires
 state-requires c κs = search needs
 
+enum-told-4 : tie.Need-enum-told-4
+enum-told-4 c = search needs
+
+wall-display-requires : tie.Need-wall-display-requires
+wall-display-requires c κs = search needs
+
 enum-known-flaw : tie.Need-enum-known-flaw
 enum-known-flaw c = search needs
 
@@ -103,6 +109,9 @@ returns-7 c = search needs
 returns-8 : tie.Need-returns-8
 returns-8 c = search needs
 
+returns-9 : tie.Need-returns-9
+returns-9 c = search needs
+
 pub line-spec : {M : Type 1} → statement M
 line-spec =
     tie.close
@@ -127,6 +136,8 @@ line-spec =
     log-requires
     enum-told-3
     state-requires
+    enum-told-4
+    wall-display-requires
     enum-known-flaw
     bad-requires
     returns
@@ -136,4 +147,5 @@ line-spec =
     returns-5
     returns-6
     returns-7
-    returns-8)
+    returns-8
+    returns-9)
