@@ -28,6 +28,7 @@ use Rattle.wire.proofs.Message.{the-type}
 use Rattle.wire.specs.declared.Message as messages
 use Rattle.wire.specs.declared.Message.the-variants.{Stated, Vote, Blame, BlameSet, Status}
 use Rattle.wire.specs.Meaning.{messageOf, statementOf}
+use Rattle.outgoing.proofs.Writing.{length-write}
 use Rattle.choose.specs.Meaning.{groupOf, Rank}
 use Rattle.choose.specs.Choose.{sizeOfKind, stations, group, reported, report, taken, takenOf, Part, certificatePart, emptyPart, chosen}
 
@@ -156,8 +157,10 @@ module _ (g : Settings) (s : List ℕ) (c : Certificate) (e : report g s ≡ som
     unfolding write writes field width tagsOf rowOf table kind values unbe
     bytes-are = write-read s (statusOf c) (bytes-all s b) report-read
 
-    pub report-long : 4 ≤ length s
-    report-long = let l : length s ≡ length (0x01 ∷ 0x00 ∷ 0x01 ∷ 0x06 ∷ rest) = ap length bytes-are in omega arith
+    -- 58 of them
+    pub report-length : length s ≡ 58
+    unfolding kind
+    report-length = ap length (write-read s (statusOf c) (bytes-all s b) report-read) ∙ length-write (statusOf c)
 
     -- what is handed back, put behind the bytes of kind 6, reads as that status
     pub part-reads : read (0x01 ∷ 0x00 ∷ 0x01 ∷ 0x06 ∷ drop 4 s) ≡ some (statusOf c)
@@ -165,7 +168,7 @@ module _ (g : Settings) (s : List ℕ) (c : Certificate) (e : report g s ≡ som
         let d : drop 4 s ≡ rest = ap (drop 4) bytes-are in
         rw d (ap read (sym bytes-are) ∙ report-read)
 
--- a report that is taken has its four bytes
+-- a report that is taken has its 58 bytes
 by-first : (o p : Option Certificate) → 1 ≡ taken o p → (c : Certificate) × (o ≡ some c)
 unfolding taken
 by-first none none e = absurd (omega arith)
@@ -179,19 +182,19 @@ by-second (some c) none e = absurd (omega arith)
 by-second o (some d) e = (d, refl)
 
 module _ (k n : ℕ) (a b : List ℕ) where
-  pub first-long : Bytes a → 1 ≡ takenOf k n a b → 4 ≤ length a
+  pub first-length : Bytes a → 1 ≡ takenOf k n a b → length a ≡ 58
   unfolding takenOf
-  first-long h e =
+  first-length h e =
       by-option (group k n) (λ q. absurd (let z : _≡_ {A = ℕ} 1 0 = rw (q, takenOf) at e in omega arith)) λ g q.
       let f = by-first (report g a) (report g b) (rw (q, takenOf) at e) in
-      report-long g a (f .0) (f .1) h
+      report-length g a (f .0) (f .1) h
 
-  pub second-long : Bytes b → 2 ≡ takenOf k n a b → 4 ≤ length b
+  pub second-length : Bytes b → 2 ≡ takenOf k n a b → length b ≡ 58
   unfolding takenOf
-  second-long h e =
+  second-length h e =
       by-option (group k n) (λ q. absurd (let z : _≡_ {A = ℕ} 2 0 = rw (q, takenOf) at e in omega arith)) λ g q.
       let f = by-second (report g a) (report g b) (rw (q, takenOf) at e) in
-      report-long g b (f .0) (f .1) h
+      report-length g b (f .0) (f .1) h
 
 -- ---- the parts
 

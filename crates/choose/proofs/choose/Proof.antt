@@ -2,7 +2,7 @@
 use mathlib.Core.Path.{sym, ap, _∙_}
 use native.Mathlib.Omega.{arith}
 use Rattle.choose.specs.Meaning.{numberOf}
-use Rattle.choose.proofs.Laws.{first-long, second-long, first-part, second-part, empty-part}
+use Rattle.choose.proofs.Laws.{first-length, second-length, first-part, second-part, empty-part}
 use borrow.Author.Needs.{needs}
 use Rattle.choose.proofs.choose.Statement.{statement}
 use Rattle.choose.proofs.choose.Tie as tie
@@ -18,14 +18,14 @@ sub-result c =
     let after-taken = c .before .before in
     let known = after-taken .before .before in
     let a = known .before .args in
-    omega (arith, first-long (a .kind) (a .n) (a .first .now) (a .second .now) (known .shared-slice-known .given) (sym (ap numberOf (c .enum-told .given .1)) ∙ after-taken .taken .ensures))
+    omega (arith, first-length (a .kind) (a .n) (a .first .now) (a .second .now) (known .shared-slice-known .given) (sym (ap numberOf (c .enum-told .given .1)) ∙ after-taken .taken .ensures))
 
 part-result-start : tie.Need-part-result-start
 part-result-start c =
     let after-taken = c .before .before in
     let known = after-taken .before .before in
     let a = known .before .args in
-    omega (arith, first-long (a .kind) (a .n) (a .first .now) (a .second .now) (known .shared-slice-known .given) (sym (ap numberOf (c .enum-told .given .1)) ∙ after-taken .taken .ensures))
+    omega (arith, first-length (a .kind) (a .n) (a .first .now) (a .second .now) (known .shared-slice-known .given) (sym (ap numberOf (c .enum-told .given .1)) ∙ after-taken .taken .ensures))
 
 part-result-end : tie.Need-part-result-end
 part-result-end c = search needs
@@ -37,13 +37,13 @@ sub-result-2 : tie.Need-sub-result-2
 sub-result-2 c =
     let after-taken = c .before .before in
     let a = after-taken .before .before .before .args in
-    omega (arith, second-long (a .kind) (a .n) (a .first .now) (a .second .now) (after-taken .before .shared-slice-known2 .given) (sym (ap numberOf (c .enum-told2 .given .1)) ∙ after-taken .taken .ensures))
+    omega (arith, second-length (a .kind) (a .n) (a .first .now) (a .second .now) (after-taken .before .shared-slice-known2 .given) (sym (ap numberOf (c .enum-told2 .given .1)) ∙ after-taken .taken .ensures))
 
 part-result-start-2 : tie.Need-part-result-start-2
 part-result-start-2 c =
     let after-taken = c .before .before in
     let a = after-taken .before .before .before .args in
-    omega (arith, second-long (a .kind) (a .n) (a .first .now) (a .second .now) (after-taken .before .shared-slice-known2 .given) (sym (ap numberOf (c .enum-told2 .given .1)) ∙ after-taken .taken .ensures))
+    omega (arith, second-length (a .kind) (a .n) (a .first .now) (a .second .now) (after-taken .before .shared-slice-known2 .given) (sym (ap numberOf (c .enum-told2 .given .1)) ∙ after-taken .taken .ensures))
 
 part-result-end-2 : tie.Need-part-result-end-2
 part-result-end-2 c = search needs
