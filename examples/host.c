@@ -393,12 +393,12 @@ int main(int argc, char **argv)
             printf("tick %u: station 2 goes on from its kept store\n", now);
         }
     }
-    /* The log's count is at 66, its names from 21,124 on: docs/STORE.md. */
+    /* The log's count is at 66: docs/STORE.md. */
     unsigned entries = (unsigned)hosts[0].store[66] << 8 | hosts[0].store[67];
     int alike = 1;
     for (int i = 1; i < STATIONS; i++)
         alike = alike && !memcmp(hosts[i].store + 66, hosts[0].store + 66, 2)
-            && !memcmp(hosts[i].store + 21124, hosts[0].store + 21124, 32 * entries);
+            && !memcmp(hosts[i].store + STATION_LOG, hosts[0].store + STATION_LOG, 32 * entries);
     printf("%u entries in each log, %s\n", entries, alike ? "alike" : "not alike");
     return 0;
 }

@@ -7,7 +7,7 @@
  * out buffer, with the rest of it as it was. A refusal's count is 0 and the out buffer stays as it was. STATION_REFUSAL
  * and STATION_COUNT take a result apart.
  *
- *    1  store not of its exact length, offered name not 32 bytes, or out buffer too short    nothing changes
+ *    1  store of neither length, offered name not 32 bytes, or out buffer too short          nothing changes
  *    2  store not well formed (docs/STORE.md)                                                nothing changes
  *    3  already stopped                                                                      nothing changes
  *    4  unreadable message                                                                   nothing changes
@@ -26,9 +26,18 @@
 #include <stddef.h>
 #include <stdint.h>
 
-/* The exact length of a store, and the least length of an out buffer. */
+/* A store has one of two exact lengths, and its length says which limits its station goes by; the out buffer lent with it
+ * has at least the length beside it. The small store has room for 32 views, 128 statements and 256 tallies, the large one
+ * for 256 views, 512 statements and 1,024 tallies. Take the small one where that is enough for a group's life: each call
+ * looks at the whole store. All stations of one group have the same length. */
 #define STATION_STORE_LENGTH 25220
 #define STATION_OUT_LENGTH 32768
+#define STATION_STORE_LENGTH_LARGE 100932
+#define STATION_OUT_LENGTH_LARGE 131072
+
+/* Where the log's names begin in a store, 32 bytes each, from height 1 on; bytes 66 and 67 say how many there are. */
+#define STATION_LOG 21124
+#define STATION_LOG_LARGE 84548
 
 #define STATION_REFUSAL(result) ((uint32_t)((uint64_t)(result) >> 32))
 #define STATION_COUNT(result) ((uint32_t)(result))
@@ -37,8 +46,8 @@
 extern "C" {
 #endif
 
-/* Makes a fresh store of whatever was in it: n stations, odd, 3 to 15; d, the delay bound in ticks, 1 to 10,000; own,
- * this station's number, below n. Answers 0, or refusal 1 or 10. */
+/* Makes a fresh store, of the length that is lent, of whatever was in it: n stations, odd, 3 to 15; d, the delay bound in
+ * ticks, 1 to 10,000; own, this station's number, below n. Answers 0, or refusal 1 or 10. */
 uint64_t station_fresh(uint8_t *store, size_t store_len, uint64_t n, uint64_t d, uint64_t own);
 
 /* Hands the station one message whose signatures the host has checked. Refusals 1 to 6. */

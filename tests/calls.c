@@ -1,11 +1,14 @@
-/* Every call of station.h, and every refusal number that a host can meet, each with what it leaves. */
+/* Every call of station.h, and every refusal number that a host can meet, each with what it leaves, for stores of both
+   lengths. */
 #include <stdio.h>
 #include <stdlib.h>
 #include <string.h>
 
-#include "../include/station.h"
+#include "rows.h"
 
-static uint8_t store[STATION_STORE_LENGTH], kept[STATION_STORE_LENGTH], out[STATION_OUT_LENGTH];
+/* The stores and out buffers of both rows lie in these, one byte longer than the longest. */
+static uint8_t store[STATION_STORE_LENGTH_LARGE + 1], kept[sizeof store], out[STATION_OUT_LENGTH_LARGE + 1];
+static const struct row *row;
 static unsigned looked, failed;
 
 static void expect(int holds, const char *what, int line)
@@ -13,7 +16,7 @@ static void expect(int holds, const char *what, int line)
     looked++;
     if (!holds) {
         failed++;
-        printf("tests/calls.c:%d: %s\n", line, what);
+        printf("tests/calls.c:%d: %s: %s\n", line, row->name, what);
     }
 }
 #define EXPECT(fact) expect((fact) != 0, #fact, __LINE__)
@@ -41,22 +44,22 @@ static uint8_t sent[128];
 static uint64_t propose(uint32_t view, uint32_t height, uint32_t name, uint32_t parent, uint32_t author)
 {
     const uint32_t f[][2] = { { 2, view }, { 3, height }, { 4, name }, { 5, parent }, { 7, 3 }, { 8, author } };
-    return station_step(store, sizeof store, sent, message(sent, 2, 6, f), out, sizeof out);
+    return station_step(store, row->store, sent, message(sent, 2, 6, f), out, row->out);
 }
 
 static uint64_t vote(uint32_t view, uint32_t height, uint32_t name, uint32_t author)
 {
     const uint32_t f[][2] = { { 2, view }, { 3, height }, { 4, name }, { 8, author } };
-    return station_step(store, sizeof store, sent, message(sent, 3, 4, f), out, sizeof out);
+    return station_step(store, row->store, sent, message(sent, 3, 4, f), out, row->out);
 }
 
 static uint64_t blame_set(uint32_t view, uint32_t mask)
 {
     const uint32_t f[][2] = { { 2, view }, { 7, mask } };
-    return station_step(store, sizeof store, sent, message(sent, 5, 2, f), out, sizeof out);
+    return station_step(store, row->store, sent, message(sent, 5, 2, f), out, row->out);
 }
 
-static uint64_t tick(void) { return station_tick(store, sizeof store, out, sizeof out); }
+static uint64_t tick(void) { return station_tick(store, row->store, out, row->out); }
 
 static uint64_t ticks(int count)
 {
@@ -66,7 +69,7 @@ static uint64_t ticks(int count)
     return answer;
 }
 
-static void fresh(uint64_t own) { EXPECT(station_fresh(store, sizeof store, 3, 2, own) == 0); }
+static void fresh(uint64_t own) { EXPECT(station_fresh(store, row->store, 3, 2, own) == 0); }
 
 static void keep(void)
 {
@@ -82,31 +85,56 @@ static int untouched(void)
     return memcmp(kept, store, sizeof store) == 0;
 }
 
+/* 1, for a store of any length but the two; the out buffer is long enough for both. */
+static void store_lengths(void)
+{
+    uint8_t name[32] = { 1 };
+    unsigned wrong = 0;
+    memset(store, 0x5a, sizeof store);
+    keep();
+    for (size_t length = 0; length <= sizeof store; length++) {
+        if (length == rows[0].store || length == rows[1].store)
+            continue;
+        wrong += station_fresh(store, length, 3, 2, 0) != refusal(1);
+        wrong += station_tick(store, length, out, sizeof out) != refusal(1);
+        wrong += station_step(store, length, name, 0, out, sizeof out) != refusal(1);
+        wrong += station_offer(store, length, name, 32, out, sizeof out) != refusal(1);
+    }
+    EXPECT(wrong == 0 && untouched());
+}
+
 static void lengths(void) /* 1 */
 {
     uint8_t name[33] = { 1 };
+    unsigned wrong = 0;
     fresh(1);
     keep();
-    EXPECT(station_fresh(store, sizeof store - 1, 3, 2, 0) == refusal(1));
-    EXPECT(station_tick(store, sizeof store - 1, out, sizeof out) == refusal(1));
-    EXPECT(station_tick(store, sizeof store, out, sizeof out - 1) == refusal(1));
-    EXPECT(station_step(store, sizeof store - 1, name, 0, out, sizeof out) == refusal(1));
-    EXPECT(station_step(store, sizeof store, name, 0, out, sizeof out - 1) == refusal(1));
-    EXPECT(station_offer(store, sizeof store, name, 31, out, sizeof out) == refusal(1));
-    EXPECT(station_offer(store, sizeof store, name, 33, out, sizeof out) == refusal(1));
-    EXPECT(station_offer(store, sizeof store, name, 32, out, 0) == refusal(1));
+    EXPECT(station_fresh(store, row->store - 1, 3, 2, 0) == refusal(1));
+    EXPECT(station_fresh(store, row->store + 1, 3, 2, 0) == refusal(1));
+    EXPECT(station_tick(store, row->store - 1, out, row->out) == refusal(1));
+    EXPECT(station_step(store, row->store + 1, name, 0, out, row->out) == refusal(1));
+    EXPECT(station_tick(store, row->store, out, row->out - 1) == refusal(1));
+    for (size_t length = 0; length < row->out; length++) {
+        wrong += station_tick(store, row->store, out, length) != refusal(1);
+        wrong += station_step(store, row->store, name, 0, out, length) != refusal(1);
+        wrong += station_offer(store, row->store, name, 32, out, length) != refusal(1);
+    }
+    EXPECT(wrong == 0);
+    EXPECT(station_offer(store, row->store, name, 31, out, row->out) == refusal(1));
+    EXPECT(station_offer(store, row->store, name, 33, out, row->out) == refusal(1));
     EXPECT(untouched());
+    EXPECT(station_tick(store, row->store, out, sizeof out) == 0);
 }
 
 static void not_well_formed(void) /* 2 */
 {
     uint8_t name[32] = { 1 };
     for (int fill = 0; fill < 256; fill += 255) {
-        memset(store, fill, sizeof store);
+        memset(store, fill, row->store);
         keep();
         EXPECT(tick() == refusal(2));
-        EXPECT(station_step(store, sizeof store, name, 32, out, sizeof out) == refusal(2));
-        EXPECT(station_offer(store, sizeof store, name, 32, out, sizeof out) == refusal(2));
+        EXPECT(station_step(store, row->store, name, 32, out, row->out) == refusal(2));
+        EXPECT(station_offer(store, row->store, name, 32, out, row->out) == refusal(2));
         EXPECT(untouched());
     }
 }
@@ -115,29 +143,59 @@ static void messages(void) /* 4, 5, then 0 */
 {
     fresh(2);
     keep();
-    EXPECT(station_step(store, sizeof store, sent, 0, out, sizeof out) == refusal(4));
-    EXPECT(vote(33, 1, 77, 0) == refusal(5));
+    EXPECT(station_step(store, row->store, sent, 0, out, row->out) == refusal(4));
+    EXPECT(vote(row->views + 1, 1, 77, 0) == refusal(5));
     EXPECT(vote(0, 1, 77, 0) == refusal(5));
     EXPECT(blame_set(1, 11) == refusal(5));
     EXPECT(untouched());
+    EXPECT(vote(row->views, 1, 77, 0) == 0);
     EXPECT(ticks(7) == 0);
     EXPECT(propose(1, 1, 77, 0, 1) == 160);
     EXPECT(ticks(4) == 0);
     EXPECT(tick() == 39);
 }
 
-static void full(void) /* 6, then 3 */
+/* 6, then 3: what has no record free leaves all but the phase, which is the store's first four bytes. */
+static void stops_full(uint64_t answer)
 {
-    fresh(0);
-    for (uint32_t i = 0; i < 256; i++)
-        EXPECT(vote(1, 1, i + 1, 0) == 0);
-    EXPECT(vote(1, 1, 256, 1) == 0);
-    keep();
-    EXPECT(vote(1, 1, 257, 0) == refusal(6));
+    EXPECT(answer == refusal(6));
     EXPECT(memcmp(kept, store, sizeof store) != 0 && memcmp(kept + 4, store + 4, sizeof store - 4) == 0);
     keep();
-    EXPECT(vote(1, 1, 1, 1) == refusal(3) && tick() == refusal(3) && station_step(store, sizeof store, sent, 0, out, sizeof out) == refusal(3));
+    EXPECT(vote(1, 1, 1, 1) == refusal(3) && tick() == refusal(3));
+    EXPECT(station_step(store, row->store, sent, 0, out, row->out) == refusal(3));
     EXPECT(untouched());
+}
+
+static void full_tallies(void)
+{
+    fresh(0);
+    for (uint32_t i = 0; i < row->tallies; i++)
+        EXPECT(vote(1, 1, i + 1, 0) == 0);
+    EXPECT(vote(1, 1, row->tallies, 1) == 0);
+    keep();
+    stops_full(vote(1, 1, row->tallies + 1, 0));
+}
+
+static void full_statements(void)
+{
+    fresh(2);
+    for (uint32_t i = 0; i < row->statements; i++)
+        EXPECT(propose(1, i + 1, i + 1, i, 1) == 160);
+    EXPECT(propose(1, 1, 1, 0, 1) == 0);
+    keep();
+    stops_full(propose(1, row->statements + 1, row->statements + 1, row->statements, 1));
+}
+
+/* From view to view by blame sets; nothing is entered after the last. */
+static void last_view(void)
+{
+    fresh(0);
+    for (uint32_t view = 1; view <= row->views; view++) {
+        EXPECT(STATION_REFUSAL(blame_set(view, 6)) == 0 && STATION_REFUSAL(ticks(3)) == 0);
+        EXPECT(((uint32_t)store[10] << 8 | store[11]) == (view < row->views ? view + 1 : view));
+    }
+    EXPECT(blame_set(row->views + 1, 6) == refusal(5));
+    EXPECT(ticks(30) == 0);
 }
 
 static void split(void) /* 7 */
@@ -165,37 +223,47 @@ static void offers(void) /* 9, then 0 */
     name[31] = 77;
     fresh(1);
     keep();
-    EXPECT(station_offer(store, sizeof store, name, 32, out, sizeof out) == refusal(9));
+    EXPECT(station_offer(store, row->store, name, 32, out, row->out) == refusal(9));
     EXPECT(untouched());
     EXPECT(ticks(5) == 132);
     EXPECT(vote(1, 0, 0, 0) == 0);
-    EXPECT(station_offer(store, sizeof store, name, 32, out, sizeof out) == 160);
+    EXPECT(station_offer(store, row->store, name, 32, out, row->out) == 160);
 }
 
 static void settings(void) /* 10 */
 {
     fresh(0);
     keep();
-    EXPECT(station_fresh(store, sizeof store, 4, 2, 0) == refusal(10));
-    EXPECT(station_fresh(store, sizeof store, 3, 0, 0) == refusal(10));
-    EXPECT(station_fresh(store, sizeof store, 3, 10001, 0) == refusal(10));
-    EXPECT(station_fresh(store, sizeof store, 3, 2, 3) == refusal(10));
-    EXPECT(station_fresh(store, sizeof store, 17, 2, 0) == refusal(10));
-    EXPECT(station_fresh(store, sizeof store, UINT64_MAX, UINT64_MAX, UINT64_MAX) == refusal(10));
+    EXPECT(station_fresh(store, row->store, 4, 2, 0) == refusal(10));
+    EXPECT(station_fresh(store, row->store, 3, 0, 0) == refusal(10));
+    EXPECT(station_fresh(store, row->store, 3, 10001, 0) == refusal(10));
+    EXPECT(station_fresh(store, row->store, 3, 2, 3) == refusal(10));
+    EXPECT(station_fresh(store, row->store, 17, 2, 0) == refusal(10));
+    EXPECT(station_fresh(store, row->store, UINT64_MAX, UINT64_MAX, UINT64_MAX) == refusal(10));
     EXPECT(untouched());
-    EXPECT(station_fresh(store, sizeof store, 15, 10000, 14) == 0);
+    EXPECT(station_fresh(store, row->store, 15, 10000, 14) == 0);
 }
 
-int main(void)
+static void every(void)
 {
     lengths();
     not_well_formed();
     messages();
-    full();
+    full_tallies();
+    full_statements();
+    last_view();
     split();
     clock_end();
     offers();
     settings();
+}
+
+int main(void)
+{
+    row = rows;
+    store_lengths();
+    for (; row < rows + ROWS; row++)
+        every();
     printf("%u looked at, %u failed\n", looked, failed);
     return failed != 0;
 }

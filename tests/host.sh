@@ -1,9 +1,9 @@
 #!/bin/bash
 # The host side: the Rust crates' tests, both examples of docs/HOST.md, the store's check against a plain one, both programs
-# in lockstep, and groups with faulty leaders. Everything goes into target/.
+# in lockstep, and groups with faulty leaders; with small stores and large. Everything goes into target/.
 set -euo pipefail
 cd "$(dirname "$0")/.."
-tools/archive station >/dev/null
+tools/archive >/dev/null
 export CARGO_NET_OFFLINE=true
 (cd host && cargo test --release -j1 --quiet && cargo build --release -j1 --quiet --bins --examples)
 built=$PWD/target/host/release
@@ -26,5 +26,6 @@ echo "both examples do as docs/HOST.md says"
 "$built/check"
 "$built/compare"
 "$built/simulate" --many 300
+"$built/simulate" --large --many 20
 "$built/simulate" --svg "$place/group.svg"
 cmp "$place/group.svg" docs/group.svg

@@ -1,7 +1,8 @@
 /* Replays recorded runs against the calls of station.h.
 
-     replay [-d SEED] FILE..
+     replay [-l] [-d SEED] FILE..
 
+   With -l the stores are large ones, else small.
    A run is lines `fresh N D OWN`, `tick`, `step HEX`, `offer HEX`, each followed by `= NUMBER HEX`, the refusal number and
    the bytes written (`-` for none). Every call is made twice, on equal stores and on out buffers of other lengths and
    contents; looked at are the answer, the bytes written, that nothing else is written, and that a refusal but 6, 7 and 8
@@ -12,9 +13,9 @@
 #include <stdlib.h>
 #include <string.h>
 
-#include "../include/station.h"
+#include "rows.h"
 
-enum { MARGIN = 64, OUT_LONG = STATION_OUT_LENGTH + 1000, LINE = 1 << 18 };
+enum { MARGIN = 64, LONGER = 1000, LINE = 1 << 18 };
 
 struct input {
     char what; /* f t s o */
@@ -24,13 +25,14 @@ struct input {
 };
 
 struct place { /* a store and an out buffer, with margins that nobody may write */
-    uint8_t store[STATION_STORE_LENGTH + MARGIN];
-    uint8_t out[OUT_LONG + MARGIN];
+    uint8_t store[STATION_STORE_LENGTH_LARGE + MARGIN];
+    uint8_t out[STATION_OUT_LENGTH_LARGE + LONGER + MARGIN];
     size_t out_length;
 };
 
+static const struct row *row = rows;
 static struct place first, second;
-static uint8_t before[STATION_STORE_LENGTH], wanted[LINE / 2];
+static uint8_t before[STATION_STORE_LENGTH_LARGE], wanted[LINE / 2];
 static unsigned long inputs, differ, damaged, refused;
 static uint64_t seed;
 
@@ -62,10 +64,10 @@ static size_t unhex(const char *text, uint8_t *bytes)
 static uint64_t call(struct place *p, const struct input *in)
 {
     switch (in->what) {
-    case 'f': return station_fresh(p->store, STATION_STORE_LENGTH, in->n, in->d, in->own);
-    case 't': return station_tick(p->store, STATION_STORE_LENGTH, p->out, p->out_length);
-    case 's': return station_step(p->store, STATION_STORE_LENGTH, in->bytes, in->length, p->out, p->out_length);
-    default: return station_offer(p->store, STATION_STORE_LENGTH, in->bytes, in->length, p->out, p->out_length);
+    case 'f': return station_fresh(p->store, row->store, in->n, in->d, in->own);
+    case 't': return station_tick(p->store, row->store, p->out, p->out_length);
+    case 's': return station_step(p->store, row->store, in->bytes, in->length, p->out, p->out_length);
+    default: return station_offer(p->store, row->store, in->bytes, in->length, p->out, p->out_length);
     }
 }
 
@@ -80,24 +82,24 @@ static int all(const uint8_t *p, size_t n, uint8_t value)
 /* One call on a place whose out buffer is filled with a value: what is wrong with it, or none. */
 static const char *made(struct place *p, const struct input *in, size_t out_length, uint8_t fill, uint64_t *answer)
 {
-    uint8_t stored[STATION_STORE_LENGTH];
-    memcpy(stored, p->store, sizeof stored);
+    static uint8_t stored[STATION_STORE_LENGTH_LARGE];
+    memcpy(stored, p->store, row->store);
     p->out_length = out_length;
     memset(p->out, fill, sizeof p->out);
-    memset(p->store + STATION_STORE_LENGTH, fill, MARGIN);
+    memset(p->store + row->store, fill, MARGIN);
     *answer = call(p, in);
     uint64_t number = *answer >> 32, count = *answer & 0xffffffff;
     if (number != 0 && count != 0)
         return "a refusal with a count";
     if (in->what == 'f' && count != 0)
         return "a fresh store with a count";
-    if (count > STATION_OUT_LENGTH)
+    if (count > row->out)
         return "too many bytes";
     if (!all(p->out + count, sizeof p->out - count, fill))
         return "bytes written past the count";
-    if (!all(p->store + STATION_STORE_LENGTH, MARGIN, fill))
+    if (!all(p->store + row->store, MARGIN, fill))
         return "bytes written past the store";
-    int same = memcmp(stored, p->store, sizeof stored) == 0;
+    int same = memcmp(stored, p->store, row->store) == 0;
     if (number != 0 && (number < 6 || number > 8) && !same)
         return "a refusal that changes the store";
     if (number >= 6 && number <= 8 && same)
@@ -109,12 +111,12 @@ static const char *on_damaged(const struct input *in)
 {
     uint64_t answer;
     unsigned bits = 1 + draw() % 3;
-    memcpy(first.store, before, sizeof before);
+    memcpy(first.store, before, row->store);
     for (unsigned i = 0; i < bits; i++) {
-        size_t where = draw() % 4 == 0 ? draw() % STATION_STORE_LENGTH : draw() % 400;
+        size_t where = draw() % 4 == 0 ? draw() % row->store : draw() % 400;
         first.store[where] ^= (uint8_t)(1u << draw() % 8);
     }
-    const char *wrong = made(&first, in, STATION_OUT_LENGTH, 0x5a, &answer);
+    const char *wrong = made(&first, in, row->out, 0x5a, &answer);
     damaged++;
     refused += answer >> 32 == 2;
     return wrong;
@@ -124,14 +126,14 @@ static const char *checked(const struct input *in, uint64_t number, size_t count
 {
     uint64_t one, two;
     const char *wrong;
-    memcpy(before, first.store, sizeof before);
+    memcpy(before, first.store, row->store);
     if (seed != 0 && in->what != 'f' && (wrong = on_damaged(in)))
         return wrong;
-    memcpy(first.store, before, sizeof before);
-    memcpy(second.store, before, sizeof before);
-    if ((wrong = made(&second, in, OUT_LONG, 0xa5, &two)) || (wrong = made(&first, in, STATION_OUT_LENGTH, 0x00, &one)))
+    memcpy(first.store, before, row->store);
+    memcpy(second.store, before, row->store);
+    if ((wrong = made(&second, in, row->out + LONGER, 0xa5, &two)) || (wrong = made(&first, in, row->out, 0x00, &one)))
         return wrong;
-    if (one != two || memcmp(first.store, second.store, STATION_STORE_LENGTH) != 0)
+    if (one != two || memcmp(first.store, second.store, row->store) != 0)
         return "two calls, two answers";
     if (one >> 32 != number)
         return "another number";
@@ -179,9 +181,13 @@ static int replay(const char *name)
 int main(int count, char **words)
 {
     int i = 1, failed = 0;
-    if (count > 2 && strcmp(words[1], "-d") == 0) {
-        seed = strtoull(words[2], NULL, 10);
-        i = 3;
+    if (i < count && strcmp(words[i], "-l") == 0) {
+        row = rows + 1;
+        i++;
+    }
+    if (i + 1 < count && strcmp(words[i], "-d") == 0) {
+        seed = strtoull(words[i + 1], NULL, 10);
+        i += 2;
     }
     for (; i < count; i++)
         failed |= replay(words[i]);

@@ -4,7 +4,7 @@
 set -euo pipefail
 cd "$(dirname "$0")/.."
 export CARGO_NET_OFFLINE=true
-[ -e target/archive/libstation.a ] || tools/archive station >/dev/null
+tools/archive >/dev/null
 (cd host && cargo build --release -j1 --quiet -p compare --bins)
 tell=target/host/release/tell
 place=target/tests/scripts

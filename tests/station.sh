@@ -1,9 +1,9 @@
 #!/bin/bash
-# The C face: every call and every refusal number, stores that are not well formed, and recorded runs replayed, also on
-# damaged stores.
+# The C face, for stores of both lengths: every call and every refusal number, stores that are not well formed, and
+# recorded runs replayed, also on damaged stores.
 set -euo pipefail
 cd "$(dirname "$0")/.."
-tools/archive station >/dev/null
+tools/archive >/dev/null
 mkdir -p target/tests
 for test in calls stores replay; do
     cc -std=c11 -O2 -Wall -Wextra -Werror -o "target/tests/$test" "tests/$test.c" target/archive/libstation.a
@@ -12,3 +12,5 @@ target/tests/calls
 target/tests/stores
 target/tests/replay host/second/tests/data/*.txt
 target/tests/replay -d 1 host/second/tests/data/*.txt
+target/tests/replay -l host/second/tests/data/large/*.txt
+target/tests/replay -l -d 1 host/second/tests/data/large/*.txt

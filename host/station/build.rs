@@ -16,11 +16,9 @@ fn main() {
 
 /// Runs tools/archive, or says what to run.
 fn make(root: &Path) {
-    let made = Command::new("tools/archive").arg("station").current_dir(root).status();
+    let made = Command::new("tools/archive").current_dir(root).status();
     if !made.is_ok_and(|status| status.success()) {
         println!("cargo::error=target/archive/libstation.a isn't there and could not be made.");
-        println!(
-            "cargo::error=Run `tools/archive station` in the repository's root: it needs `rt`."
-        );
+        println!("cargo::error=Run `tools/archive` in the repository's root: it needs `rt`.");
     }
 }

@@ -3,29 +3,37 @@
 mod measure;
 mod script;
 
-use measure::{PARTS, Round, Settings};
+use measure::{PARTS, Round, SIZE, Settings};
 use script::{Input, Kind};
+use std::process::Command;
 
 const D: u32 = 2;
 
 /// What the tables are of.
-const METHOD: &str = "\
+fn method() -> String {
+    let (statements, tallies) = (SIZE.statements(), SIZE.tallies());
+    let (views, blocks) = (script::VIEWS, script::blocks(SIZE));
+    let logged = views * blocks;
+    format!(
+        "\
 The proved station and the second program (plain Rust, host/second) take the same script in one run, each input through
-the call that a host makes: four views, 31 blocks in each, every statement handed on and voted for by every other
-station, a vote for a made-up name with each, until all 128 statements and 256 tallies are in use and 124 blocks are
+the call that a host makes: four views, {blocks} blocks in each, every statement handed on and voted for by every other
+station, a vote for a made-up name with each, until all {statements} statements and {tallies} tallies are in use and {logged} blocks are
 logged. Both are compiled at the highest level, without optimisation across the two. The times are the least of five
 runs for each 24 inputs, since others who use the machine can only make them longer; a round is five runs of each
 program in turn. Given are the middle of the rounds and, with ratios, the quarters around it.
 
 Every call of the proved station first looks at its whole store. That check is measured by a message which is refused
 right after it; the second program has no store to check. `ratio` is the proved station's time over the second
-program's, the last column the same without the check.";
+program's, the last column the same without the check."
+    )
+}
 
 fn main() {
     let rounds = std::env::args().nth(1).and_then(|word| word.parse().ok()).unwrap_or(15);
-    println!("{METHOD}\n\nMachine: {}. {rounds} rounds, D = {D}.", machine());
+    println!("{}\n\nMachine: {}. {rounds} rounds, D = {D}.", method(), machine());
     for (n, own) in [(3, 1), (15, 4)] {
-        let script = script::script(n, D, own);
+        let script = script::script(SIZE, n, D, own);
         let settings = (n.into(), D.into(), own.into());
         measure::round(&script, settings);
         let measured: Vec<Round> = (0..rounds).map(|_| measure::round(&script, settings)).collect();
@@ -34,12 +42,13 @@ fn main() {
     }
 }
 
-/// The processor's name.
+/// The processor's name, as `lscpu` has it.
 fn machine() -> String {
-    let about = std::fs::read_to_string("/proc/cpuinfo").unwrap_or_default();
-    let name = about.lines().find_map(|line| line.strip_prefix("model name"));
-    let name = name.map_or("unknown", |name| name.trim_start_matches([' ', '\t', ':']));
-    format!("{name}, {}", std::env::consts::ARCH)
+    let about = Command::new("lscpu").env("LC_ALL", "C").output();
+    let about = about.map(|said| String::from_utf8_lossy(&said.stdout).into_owned());
+    let about = about.unwrap_or_default();
+    let name = about.lines().find_map(|line| line.strip_prefix("Model name:"));
+    format!("{}, {}", name.map_or("unknown", str::trim), std::env::consts::ARCH)
 }
 
 /// The middle value, and the quarters around it.
@@ -66,7 +75,7 @@ fn by_filling(n: u8, script: &[Input], rounds: &[Round]) {
         "| statements held | proved, ns | of it the check | second, ns | ratio | without the check |"
     );
     println!("|---|---|---|---|---|---|");
-    let room = station::STATEMENTS / PARTS;
+    let room = SIZE.statements() / PARTS;
     for part in 0..PARTS {
         let title = format!("{} to {}", part * room, (part + 1) * room - 1);
         let weights = std::array::from_fn(|other| f64::from(u8::from(other == part)));

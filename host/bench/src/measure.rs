@@ -2,15 +2,19 @@
 
 use crate::script::{Call, Input, Kind};
 use programs::{Answer, Program, Proved, Second};
+use station::Size;
 use std::hint::black_box;
 use std::time::Instant;
+
+/// The limits that the script is for.
+pub const SIZE: Size = Size::Small;
 
 /// In how many parts the filling of the tables is divided.
 pub const PARTS: usize = 8;
 
 /// The part in which an input falls.
 pub fn part(input: &Input) -> usize {
-    (input.statements * PARTS / station::STATEMENTS).min(PARTS - 1)
+    (input.statements * PARTS / SIZE.statements()).min(PARTS - 1)
 }
 
 /// How many inputs are timed together, and how often in a round. The least time counts: others who
@@ -65,7 +69,7 @@ fn lessen<const N: usize>(least: &mut [f64; N], times: [f64; N]) {
 
 /// ns of each stretch of inputs.
 fn run<P: Program>(script: &[Input], settings: Settings, refused: bool) -> Vec<f64> {
-    let mut program = P::fresh(settings.0, settings.1, settings.2).expect("good settings");
+    let mut program = P::fresh(SIZE, settings.0, settings.1, settings.2).expect("good settings");
     let mut times = Vec::with_capacity(script.len() / TOGETHER + 1);
     for stretch in script.chunks(TOGETHER) {
         times.push(timed(|| {
@@ -113,8 +117,8 @@ pub fn kinds(script: &[Input], settings: Settings, rounds: usize) -> [[f64; 3]; 
 /// The times of each input by itself.
 fn each(script: &[Input], settings: Settings, least: &mut [[f64; 3]]) {
     let fresh = "good settings";
-    let mut proved = Proved::fresh(settings.0, settings.1, settings.2).expect(fresh);
-    let mut second = Second::fresh(settings.0, settings.1, settings.2).expect(fresh);
+    let mut proved = Proved::fresh(SIZE, settings.0, settings.1, settings.2).expect(fresh);
+    let mut second = Second::fresh(SIZE, settings.0, settings.1, settings.2).expect(fresh);
     for (input, least) in script.iter().zip(least) {
         let check = timed(|| proved.step(&[]).number);
         let whole = timed(|| call(&mut proved, &input.call).number);

@@ -1,12 +1,16 @@
-//! A long script for one station: four views, in each a new-view and 31 blocks, every statement
-//! handed on and voted for by every other station, and a vote for a made-up name with each. It ends
-//! with every record of both tables in use.
+//! A long script for one station: four views, in each a new-view and blocks, every statement handed
+//! on and voted for by every other station, and a vote for a made-up name with each. It ends with
+//! every record of both tables in use.
 
 use second::Station;
-use station::{GENESIS, Message, Name};
+use station::{GENESIS, Message, Name, Size};
 
 pub const VIEWS: u32 = 4;
-const BLOCKS: u32 = 31;
+
+/// How many blocks there are in a view: with the new-views as many as there is room for.
+pub fn blocks(size: Size) -> u32 {
+    size.statements() as u32 / VIEWS - 1
+}
 
 /// What sort of input it is.
 #[derive(Clone, Copy, Debug, PartialEq, Eq)]
@@ -44,16 +48,17 @@ pub struct Input {
 }
 
 /// The script for a station of a group.
-pub fn script(n: u8, d: u32, own: u8) -> Vec<Input> {
-    let station = Station::fresh(n.into(), d.into(), own.into()).expect("good settings");
+pub fn script(size: Size, n: u8, d: u32, own: u8) -> Vec<Input> {
+    let limits = programs::limits(size);
+    let station = Station::fresh(limits, n.into(), d.into(), own.into()).expect("good settings");
     let top = Top { view: 0, height: 0, name: GENESIS };
-    let mut writer = Writer { n, d, own, station, top, names: 0, inputs: Vec::new() };
+    let mut writer = Writer { size, n, d, own, station, top, names: 0, inputs: Vec::new() };
     for _ in 0..VIEWS {
         writer.view();
     }
     let (statements, tallies) = (writer.station.statements().len(), writer.station.tallies().len());
-    assert_eq!((statements, tallies), (station::STATEMENTS, station::TALLIES));
-    assert_eq!(writer.station.log().len(), (VIEWS * BLOCKS) as usize);
+    assert_eq!((statements, tallies), (size.statements(), size.tallies()));
+    assert_eq!(writer.station.log().len(), (VIEWS * blocks(size)) as usize);
     writer.inputs
 }
 
@@ -67,6 +72,7 @@ struct Top {
 
 /// A script under way, and the station that it is for.
 struct Writer {
+    size: Size,
     n: u8,
     d: u32,
     own: u8,
@@ -79,7 +85,7 @@ struct Writer {
 impl Writer {
     fn view(&mut self) {
         self.new_view();
-        for _ in 0..BLOCKS {
+        for _ in 0..blocks(self.size) {
             self.block();
         }
         self.ticks(2 * self.d + 1);
@@ -192,11 +198,10 @@ mod tests {
     #[test]
     fn both_programs_take_it() {
         use programs::{Program, Proved, Second};
-        for (n, own) in [(3, 1), (15, 4)] {
-            let fresh = (n.into(), 2, own.into());
-            let mut proved = Proved::fresh(fresh.0, fresh.1, fresh.2).unwrap();
-            let mut second = Second::fresh(fresh.0, fresh.1, fresh.2).unwrap();
-            for input in script(n, 2, own) {
+        for (size, n, own) in [(Size::Small, 3, 1), (Size::Small, 15, 4), (Size::Large, 3, 1)] {
+            let mut proved = Proved::fresh(size, n.into(), 2, own.into()).unwrap();
+            let mut second = Second::fresh(size, n.into(), 2, own.into()).unwrap();
+            for input in script(size, n, 2, own) {
                 let answers = match &input.call {
                     Call::Tick => (proved.tick(), second.tick()),
                     Call::Step(message) => (proved.step(message), second.step(message)),

@@ -15,6 +15,7 @@ pub mod text;
 use programs::Program;
 use second::replay::Input;
 use sources::Source;
+use station::Size;
 
 /// Where two programs went apart: at which input of a run, and how.
 #[derive(Clone, Debug, PartialEq, Eq)]
@@ -34,9 +35,14 @@ pub struct Met {
     pub effects: [u64; 3],
 }
 
-/// Runs a source of inputs to its end: the inputs, and the difference if there is one.
-pub fn run<P: Program>(mut source: impl Source, met: &mut Met) -> (Vec<Input>, Option<Difference>) {
-    let mut pair = pair::Pair::<P>::default();
+/// Runs a source of inputs to its end, with the limits of a size: the inputs, and the difference if
+/// there is one.
+pub fn run<P: Program>(
+    size: Size,
+    mut source: impl Source,
+    met: &mut Met,
+) -> (Vec<Input>, Option<Difference>) {
+    let mut pair = pair::Pair::<P>::new(size);
     let mut inputs = Vec::new();
     met.runs += 1;
     while let Some(input) = source.next(pair.second()) {
@@ -51,6 +57,6 @@ pub fn run<P: Program>(mut source: impl Source, met: &mut Met) -> (Vec<Input>, O
 }
 
 /// Runs these inputs alone.
-pub fn replay<P: Program>(inputs: &[Input]) -> Option<Difference> {
-    run::<P>(sources::Fixed::new(inputs), &mut Met::default()).1
+pub fn replay<P: Program>(size: Size, inputs: &[Input]) -> Option<Difference> {
+    run::<P>(size, sources::Fixed::new(inputs), &mut Met::default()).1
 }

@@ -1,15 +1,19 @@
 //! Compares the proved station with the second program:
 //!
 //!     compare [--inputs N] [--seconds S] [--seed SEED]    random scripts, after 01's bench
-//!     compare SCRIPT..                                    scripts of yours
+//!     compare [--large] SCRIPT..                          scripts of yours
 //!
-//! It ends after N inputs (a million, if nothing is said), or after S seconds, or at the first
-//! difference, which it prints as a short script. The exit is 0 exactly when there was none.
+//! The bench, and runs to the last record and the last view, are those of both sizes; of the random
+//! scripts one in eight is for the large one. It ends after N inputs (a million, if nothing is said),
+//! or after S seconds, or at the first difference, which it prints as a short script. The exit is 0
+//! exactly when there was none.
 
-use compare::{Difference, Met, replay, run, shrink, sources, text};
+use compare::sources::{self, Scripted};
+use compare::{Difference, Met, replay, run, shrink, text};
 use programs::Proved;
 use second::random::Random;
 use second::replay::Input;
+use station::Size;
 use std::process::ExitCode;
 use std::time::{Duration, Instant, SystemTime};
 
@@ -18,15 +22,20 @@ struct Asked {
     inputs: u64,
     time: Option<Duration>,
     seed: u64,
+    /// What the scripts are for.
+    size: Size,
     scripts: Vec<String>,
 }
+
+/// One in so many random scripts is for the large size: its stores take much longer to check.
+const LARGE: u64 = 8;
 
 fn main() -> ExitCode {
     let asked = match asked() {
         Ok(asked) => asked,
         Err(why) => {
             eprintln!(
-                "{why}\ncompare [--inputs N] [--seconds S] [--seed SEED], or compare SCRIPT.."
+                "{why}\ncompare [--inputs N] [--seconds S] [--seed SEED], or compare [--large] SCRIPT.."
             );
             return ExitCode::from(2);
         }
@@ -34,8 +43,8 @@ fn main() -> ExitCode {
     let mut met = Met::default();
     let start = Instant::now();
     let compared = match asked.scripts.is_empty() {
-        true => bench(&mut met).and_then(|()| random(&asked, &mut met)),
-        false => asked.scripts.iter().try_for_each(|path| given(path, &mut met)),
+        true => fixed(&mut met).and_then(|()| random(&asked, &mut met)),
+        false => asked.scripts.iter().try_for_each(|path| given(asked.size, path, &mut met)),
     };
     if let Err(report) = compared {
         print!("{report}");
@@ -47,7 +56,8 @@ fn main() -> ExitCode {
 
 fn asked() -> Result<Asked, String> {
     let seed = SystemTime::UNIX_EPOCH.elapsed().map_or(1, |time| time.as_secs());
-    let mut asked = Asked { inputs: 1_000_000, time: None, seed, scripts: Vec::new() };
+    let (size, scripts) = (Size::Small, Vec::new());
+    let mut asked = Asked { inputs: 1_000_000, time: None, seed, size, scripts };
     let mut words = std::env::args().skip(1);
     while let Some(word) = words.next() {
         let mut number = || {
@@ -61,6 +71,7 @@ fn asked() -> Result<Asked, String> {
                 asked.inputs = u64::MAX;
             }
             "--seed" => asked.seed = number()?,
+            "--large" => asked.size = Size::Large,
             _ if word.starts_with('-') => return Err(format!("{word} is not known")),
             _ => asked.scripts.push(word),
         }
@@ -68,12 +79,14 @@ fn asked() -> Result<Asked, String> {
     Ok(asked)
 }
 
-/// 01's examples.
-fn bench(met: &mut Met) -> Result<(), String> {
-    for (title, inputs) in sources::bench() {
-        let (inputs, found) = run::<Proved>(sources::Fixed::new(&inputs), met);
-        if let Some(found) = found {
-            return Err(report(&format!("01's bench: {title}"), inputs, &found));
+/// 01's examples, and the limits, of both sizes.
+fn fixed(met: &mut Met) -> Result<(), String> {
+    for size in Size::ALL {
+        for (title, inputs) in [sources::bench(size), sources::limits(size)].concat() {
+            let (inputs, found) = run::<Proved>(size, sources::Fixed::new(&inputs), met);
+            if let Some(found) = found {
+                return Err(report(title, size, inputs, &found));
+            }
         }
     }
     Ok(())
@@ -85,31 +98,34 @@ fn random(asked: &Asked, met: &mut Met) -> Result<(), String> {
     let mut seeds = Random::new(asked.seed);
     let start = Instant::now();
     while met.inputs < asked.inputs && asked.time.is_none_or(|time| start.elapsed() < time) {
-        let (inputs, found) = run::<Proved>(sources::Scripted::new(seeds.number()), met);
+        let size = if seeds.one_in(LARGE) { Size::Large } else { Size::Small };
+        let (inputs, found) = run::<Proved>(size, Scripted::new(size, seeds.number()), met);
         if let Some(found) = found {
-            return Err(report(&format!("seed {}, run {}", asked.seed, met.runs), inputs, &found));
+            let title = format!("seed {}, run {}", asked.seed, met.runs);
+            return Err(report(&title, size, inputs, &found));
         }
     }
     Ok(())
 }
 
 /// A script in a file.
-fn given(path: &str, met: &mut Met) -> Result<(), String> {
+fn given(size: Size, path: &str, met: &mut Met) -> Result<(), String> {
     let script = std::fs::read(path).map_err(|error| format!("{path}: {error}\n"))?;
     let inputs = text::read(&script).map_err(|error| format!("{path}: {error}\n"))?;
-    match run::<Proved>(sources::Fixed::new(&inputs), met) {
+    match run::<Proved>(size, sources::Fixed::new(&inputs), met) {
         (_, None) => Ok(()),
-        (inputs, Some(found)) => Err(report(path, inputs, &found)),
+        (inputs, Some(found)) => Err(report(path, size, inputs, &found)),
     }
 }
 
 /// The failing run, shrunk, as a script with remarks.
-fn report(title: &str, inputs: Vec<Input>, found: &Difference) -> String {
+fn report(title: &str, size: Size, inputs: Vec<Input>, found: &Difference) -> String {
     let count = inputs.len();
-    let shrunk = shrink::shrink(inputs, |inputs| replay::<Proved>(inputs).map(|found| found.at));
-    let how = replay::<Proved>(&shrunk).map_or(found.how.clone(), |found| found.how);
+    let fails = |inputs: &[Input]| replay::<Proved>(size, inputs).map(|found| found.at);
+    let shrunk = shrink::shrink(inputs, fails);
+    let how = replay::<Proved>(size, &shrunk).map_or(found.how.clone(), |found| found.how);
     format!(
-        "# {title}: the programs differ at input {} of {count}: {}\n\
+        "# {title}, {size:?}: the programs differ at input {} of {count}: {}\n\
          # shrunk to {} inputs, of which the last differs: {how}\n{}",
         found.at + 1,
         found.how,

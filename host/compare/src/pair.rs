@@ -3,21 +3,21 @@
 use crate::Met;
 use programs::{Answer, Program, Second, shown};
 use second::replay::Input;
-use station::{Effect, Effects};
+use station::{Effect, Effects, Size};
 
-/// A program under test beside the second one. Before the first good `fresh` there is neither.
+/// A program under test beside the second one, with the limits of a size. Before the first good
+/// `fresh` there is neither.
 pub struct Pair<P> {
+    size: Size,
     tested: Option<P>,
     second: Option<Second>,
 }
 
-impl<P> Default for Pair<P> {
-    fn default() -> Pair<P> {
-        Pair { tested: None, second: None }
-    }
-}
-
 impl<P: Program> Pair<P> {
+    pub fn new(size: Size) -> Pair<P> {
+        Pair { size, tested: None, second: None }
+    }
+
     pub fn second(&self) -> Option<&second::Station> {
         self.second.as_ref().map(Second::station)
     }
@@ -37,14 +37,14 @@ impl<P: Program> Pair<P> {
             return Err(format!("{} answers {got}, second {wanted}", P::TITLE));
         }
         met.count(wanted);
-        same_state(tested, second)
+        same_state(self.size, tested, second)
     }
 
     fn fresh(&mut self, n: u64, d: u64, own: u64, met: &mut Met) -> Result<(), String> {
-        match (P::fresh(n, d, own), Second::fresh(n, d, own)) {
+        match (P::fresh(self.size, n, d, own), Second::fresh(self.size, n, d, own)) {
             (Ok(tested), Ok(second)) => {
                 met.numbers[0] += 1;
-                same_state(&tested, &second)?;
+                same_state(self.size, &tested, &second)?;
                 (self.tested, self.second) = (Some(tested), Some(second));
                 Ok(())
             }
@@ -70,11 +70,11 @@ fn answer<'a, P: Program>(program: &'a mut P, input: &Input) -> Answer<'a> {
     }
 }
 
-fn same_state<P: Program>(tested: &P, second: &Second) -> Result<(), String> {
+fn same_state<P: Program>(size: Size, tested: &P, second: &Second) -> Result<(), String> {
     let (got, wanted) = (tested.shown(), second.shown());
     if got != wanted {
         let at = got.iter().zip(&wanted).position(|(got, wanted)| got != wanted);
-        let place = at.map_or("their lengths".into(), shown::place);
+        let place = at.map_or("their lengths".into(), |at| shown::place(size, at));
         return Err(format!("the stores differ: {place}"));
     }
     if tested.log() != second.log() {

@@ -1,9 +1,10 @@
-//! Where inputs come from: random scripts of the second program, 01's bench, runs that are given.
+//! Where inputs come from: random scripts of the second program, 01's bench, runs to the last record
+//! and the last view, runs that are given.
 
 use second::random::Random;
 use second::replay::Input;
 use second::scripts::Script;
-use station::{GENESIS, Message, Name};
+use station::{GENESIS, Message, Name, Size};
 
 /// Inputs, each for the station as it then stands.
 pub trait Source {
@@ -35,10 +36,12 @@ pub struct Scripted {
 }
 
 impl Scripted {
-    pub fn new(seed: u64) -> Scripted {
+    /// The more records there are, the longer scripts may be.
+    pub fn new(size: Size, seed: u64) -> Scripted {
         let mut random = Random::new(!seed);
         let fresh = settings(&mut random);
-        Scripted { fresh: Some(fresh), script: Script::new(seed), left: 200 + random.below(2000) }
+        let left = 200 + random.below(16 * size.statements() as u64);
+        Scripted { fresh: Some(fresh), script: Script::new(programs::limits(size), seed), left }
     }
 }
 
@@ -70,10 +73,15 @@ fn settings(random: &mut Random) -> Input {
     }
 }
 
-/// 01's "Examples on the bench", the unmarked ones among them, each with its title.
-pub fn bench() -> Vec<(&'static str, Vec<Input>)> {
+/// Runs with their titles.
+pub type Runs = Vec<(&'static str, Vec<Input>)>;
+
+/// 01's "Examples on the bench", the unmarked ones among them; of those at 33 and 129 the like at the
+/// limits of the size.
+pub fn bench(size: Size) -> Runs {
     let first = propose(1, name(1), GENESIS);
     let lower = |height| status(height, name(height));
+    let room = size.statements() as u32;
     vec![
         ("silence is blamed at 14", of(2, [ticks(14)])),
         ("the leader's new-view at 5", of(1, [ticks(5)])),
@@ -91,12 +99,32 @@ pub fn bench() -> Vec<(&'static str, Vec<Input>)> {
                 [step(lower(3)), step(lower(2)), step(blame_set(0b101)), ticks(3), step(below())],
             ),
         ),
-        ("not allowed", of(2, [not_allowed()])),
+        ("not allowed", of(2, [not_allowed(size)])),
         ("a byte short or long", of(2, [short_or_long()])),
         ("bad settings", bad_settings()),
-        ("the 129th new statement", of(2, [chain(), step(link(129)), ticks(1)])),
-        ("a repeat of the first at 128", of(2, [chain(), step(link(1)), ticks(5)])),
+        ("one statement too many", of(2, [chain(room), step(link(room + 1)), ticks(1)])),
+        ("a repeat of the first", of(2, [chain(room), step(link(1)), ticks(5)])),
         ("the longest patience", [vec![fresh(15, 10_000, 14)], ticks(60_002)].concat()),
+    ]
+}
+
+/// Runs to the last statement, the last tally and the last view of a size, and past them.
+pub fn limits(size: Size) -> Runs {
+    let (room, tallies) = (size.statements() as u32, size.tallies() as u32);
+    let offer = || vec![Input::Offer(name(0).to_vec())];
+    // Station 1 leads view 1: its new-view is made at clock 5.
+    let led = || [ticks(5), step(vote(1, 0, GENESIS, 0))].concat();
+    let open = |more| [votes(1..tallies + more), step(vote(1, 1, name(1), 1))].concat();
+    vec![
+        ("a full log in one tick", of(2, [chain(room), ticks(6)])),
+        ("the longest entry", of(0, [downwards(room), step(blame_set(0b110)), ticks(12)])),
+        ("one tally too many", of(2, [open(1), step(vote(1, 2, name(1), 1)), ticks(1)])),
+        ("a leader without a statement", of(1, [chain(room), ticks(6)])),
+        ("a leader without a tally", of(1, [open(1), ticks(6)])),
+        ("an offer without a statement", of(1, [led(), ahead(room - 1), offer(), ticks(1)])),
+        ("an offer without a tally", of(1, [led(), open(0), offer(), ticks(1)])),
+        ("an offer whose tally is there", of(1, [led(), votes(0..tallies - 1), offer(), ticks(6)])),
+        ("every view", of(0, [views(size), ticks(30), past(size)])),
     ]
 }
 
@@ -132,9 +160,48 @@ fn link(height: u32) -> Message {
     propose(height, name(height), parent)
 }
 
-/// As many statements as there is room for.
-fn chain() -> Vec<Input> {
-    (1..=128).flat_map(|height| step(link(height))).collect()
+/// A chain of so many blocks in view 1.
+fn chain(count: u32) -> Vec<Input> {
+    (1..=count).flat_map(|height| step(link(height))).collect()
+}
+
+/// The same link in another view, with its leader.
+fn of_view(of: u32, mut message: Message) -> Message {
+    if let Message::Propose { view, author, .. } = &mut message {
+        (*view, *author) = (of, (of % 3) as u8);
+    }
+    message
+}
+
+/// A chain in view 2, before it is entered: stored from the top down.
+fn downwards(count: u32) -> Vec<Input> {
+    (1..=count).rev().flat_map(|height| step(of_view(2, link(height)))).collect()
+}
+
+/// So many blocks of a view that is far off.
+fn ahead(count: u32) -> Vec<Input> {
+    (1..=count).flat_map(|height| step(of_view(20, link(height)))).collect()
+}
+
+fn vote(view: u32, height: u32, name: Name, author: u8) -> Message {
+    Message::Vote { view, height, name, author }
+}
+
+/// Votes for these names at height 1, each of which opens a tally.
+fn votes(names: std::ops::Range<u32>) -> Vec<Input> {
+    names.flat_map(|number| step(vote(1, 1, name(number), 0))).collect()
+}
+
+/// From view to view by blame sets, with D = 2, and one too many.
+fn views(size: Size) -> Vec<Input> {
+    let quit = |view| [step(Message::BlameSet { view, mask: 0b110 }), ticks(3)].concat();
+    (1..=size.views() + 1).flat_map(quit).collect()
+}
+
+/// In the last view and behind it: kept, and not allowed.
+fn past(size: Size) -> Vec<Input> {
+    let views = [size.views(), size.views() + 1];
+    views.into_iter().flat_map(|view| step(of_view(view, link(1)))).collect()
 }
 
 fn blame_set(mask: u16) -> Message {
@@ -150,10 +217,11 @@ fn below() -> Message {
     Message::NewView { view: 2, height: 2, name, certificate_view: 1, mask, author: 2 }
 }
 
-fn not_allowed() -> Vec<Input> {
+fn not_allowed(size: Size) -> Vec<Input> {
     let one_bit = propose(1, name(1), GENESIS).with_mask(0b010);
     let blame = |view| Message::Blame { view, author: 1 };
-    [blame(33), blame(0), blame_set(0b1011), one_bit].into_iter().flat_map(step).collect()
+    let past = blame(size.views() + 1);
+    [past, blame(0), blame_set(0b1011), one_bit].into_iter().flat_map(step).collect()
 }
 
 fn short_or_long() -> Vec<Input> {
@@ -167,4 +235,35 @@ fn short_or_long() -> Vec<Input> {
 
 fn bad_settings() -> Vec<Input> {
     vec![fresh(4, 2, 0), fresh(3, 0, 0), fresh(3, 10_001, 0), fresh(15, 10_000, 0)]
+}
+
+#[cfg(test)]
+mod tests {
+    use super::*;
+    use crate::{Met, run};
+    use programs::Second;
+
+    /// How often each number is answered in a run.
+    fn numbers(size: Size, inputs: &[Input]) -> [u64; 11] {
+        let mut met = Met::default();
+        assert_eq!(run::<Second>(size, Fixed::new(inputs), &mut met).1, None);
+        met.numbers
+    }
+
+    /// Runs to the limits do as their titles say: one too many gives 6, and 3 to the next input.
+    #[test]
+    fn runs_go_to_the_limits_and_past_them() {
+        for size in Size::ALL {
+            for (title, inputs) in limits(size) {
+                let found = numbers(size, &inputs);
+                let stops = u64::from(title.contains("too many") || title.contains("without"));
+                assert_eq!((found[6], found[3] > 0), (stops, stops == 1), "{size:?}: {title}");
+                assert_eq!(found[5], 2 * u64::from(title == "every view"), "{size:?}: {title}");
+            }
+            for (title, inputs) in bench(size) {
+                let stops = u64::from(title == "one statement too many");
+                assert_eq!(numbers(size, &inputs)[6], stops, "{size:?}: {title}");
+            }
+        }
+    }
 }

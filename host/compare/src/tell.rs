@@ -1,9 +1,9 @@
-//! What the script program must print of a script, by the second program.
+//! What the script program, whose limits are 01's, must print of a script, by the second program.
 
 use crate::text::{self, Line};
 use programs::{Program, Second};
 use second::replay::Input;
-use station::{Cause, Effect, Effects, GENESIS, Message, Name, Phase};
+use station::{Cause, Effect, Effects, GENESIS, Message, Name, Phase, Size};
 use std::fmt::Write;
 
 /// The reasons of 01's "When the desk says no".
@@ -63,7 +63,7 @@ impl Teller {
     /// The answer to any input; 2 where there is no station, but for what comes before.
     fn answer(&mut self, input: &Input) -> (u32, Vec<u8>) {
         if let Input::Fresh { n, d, own } = *input {
-            return match Second::fresh(n, d, own) {
+            return match Second::fresh(Size::Small, n, d, own) {
                 Ok(station) => {
                     self.station = Some(station);
                     (0, Vec::new())

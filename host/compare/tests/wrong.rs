@@ -2,7 +2,7 @@
 
 use compare::{Met, replay, run, shrink, sources::Scripted, text};
 use programs::{Answer, Program, Second};
-use station::{Effect, Effects, Lock, Name, Phase};
+use station::{Effect, Effects, Lock, Name, Phase, Size};
 
 /// The second program with one thing wrong.
 struct Wrong<const HOW: u32> {
@@ -19,8 +19,8 @@ const FORGETFUL: u32 = 3;
 impl<const HOW: u32> Program for Wrong<HOW> {
     const TITLE: &'static str = "wrong";
 
-    fn fresh(n: u64, d: u64, own: u64) -> Result<Self, u32> {
-        Second::fresh(n, d, own).map(|station| Wrong { station })
+    fn fresh(size: Size, n: u64, d: u64, own: u64) -> Result<Self, u32> {
+        Second::fresh(size, n, d, own).map(|station| Wrong { station })
     }
 
     fn step(&mut self, message: &[u8]) -> Answer<'_> {
@@ -71,9 +71,11 @@ impl<const HOW: u32> Program for Wrong<HOW> {
 /// Runs scripts until one differs, and shrinks it.
 fn found<P: Program>() -> String {
     for seed in 0..1000 {
-        let (inputs, difference) = run::<P>(Scripted::new(seed), &mut Met::default());
+        let size = Size::Small;
+        let (inputs, difference) = run::<P>(size, Scripted::new(size, seed), &mut Met::default());
         if difference.is_some() {
-            let shrunk = shrink::shrink(inputs, |inputs| replay::<P>(inputs).map(|found| found.at));
+            let fails = |inputs: &[_]| replay::<P>(size, inputs).map(|found| found.at);
+            let shrunk = shrink::shrink(inputs, fails);
             return text::write(&shrunk);
         }
     }
@@ -105,12 +107,14 @@ fn a_forgetful_station_is_found() {
 
 #[test]
 fn the_second_program_is_like_itself() {
-    let mut met = Met::default();
-    for seed in 0..200 {
-        assert_eq!(run::<Second>(Scripted::new(seed), &mut met).1, None);
-    }
-    let never = [1, 2, 8];
-    for (number, count) in met.numbers.iter().enumerate() {
-        assert!(*count > 0 || never.contains(&number), "{number} is never answered: {met:?}");
+    for size in Size::ALL {
+        let mut met = Met::default();
+        for seed in 0..200 {
+            assert_eq!(run::<Second>(size, Scripted::new(size, seed), &mut met).1, None);
+        }
+        let never = [1, 2, 8];
+        for (number, count) in met.numbers.iter().enumerate() {
+            assert!(*count > 0 || never.contains(&number), "{number} is never answered: {met:?}");
+        }
     }
 }

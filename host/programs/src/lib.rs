@@ -8,8 +8,8 @@ mod second_program;
 pub mod shown;
 
 pub use proved::Proved;
-pub use second_program::Second;
-use station::{Lock, Name, Phase};
+pub use second_program::{Second, limits};
+use station::{Lock, Name, Phase, Size};
 
 /// What a call answers: 01's number, and the bytes written.
 #[derive(Clone, Copy, Debug, PartialEq, Eq)]
@@ -22,7 +22,7 @@ pub struct Answer<'a> {
 pub trait Program: Sized {
     const TITLE: &'static str;
 
-    fn fresh(n: u64, d: u64, own: u64) -> Result<Self, u32>;
+    fn fresh(size: Size, n: u64, d: u64, own: u64) -> Result<Self, u32>;
     fn step(&mut self, message: &[u8]) -> Answer<'_>;
     fn tick(&mut self) -> Answer<'_>;
     fn offer(&mut self, name: &[u8]) -> Answer<'_>;

@@ -1,7 +1,7 @@
 //! The proved station.
 
 use crate::{Answer, Program, shown};
-use station::{Effects, Lock, Name, Phase, Refusal, Station, ffi};
+use station::{Effects, Lock, Name, Phase, Refusal, Size, Station, ffi};
 
 #[derive(Clone, Debug)]
 pub struct Proved {
@@ -18,8 +18,8 @@ fn answered(answer: Result<Effects<'_>, Refusal>) -> Answer<'_> {
 impl Program for Proved {
     const TITLE: &'static str = "proved";
 
-    fn fresh(n: u64, d: u64, own: u64) -> Result<Proved, u32> {
-        let station = Station::fresh(n, d, own).map_err(Refusal::number)?;
+    fn fresh(size: Size, n: u64, d: u64, own: u64) -> Result<Proved, u32> {
+        let station = Station::fresh(size, n, d, own).map_err(Refusal::number)?;
         Ok(Proved { station })
     }
 
@@ -56,7 +56,7 @@ impl Program for Proved {
 
     fn shown(&self) -> Vec<u8> {
         let mut store = self.station.store().to_vec();
-        shown::hide(&mut store);
+        shown::hide(self.station.size(), &mut store);
         store
     }
 }
@@ -65,7 +65,7 @@ impl Proved {
     /// An offer of a name of another length, which `Station` has no type for.
     fn offer_misfit(&mut self, name: &[u8]) -> Answer<'_> {
         let mut store = self.station.store().to_vec();
-        let result = ffi::offer(&mut store, name, &mut vec![0; station::OUT_LENGTH]);
+        let result = ffi::offer(&mut store, name, &mut vec![0; self.station.size().out_length()]);
         assert_eq!(store, self.station.store(), "a refusal of 1 changes nothing");
         answered(station::answer(result).map(|_| Effects::new(&[])))
     }

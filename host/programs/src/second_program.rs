@@ -1,11 +1,12 @@
 //! The second program.
 
 use crate::{Answer, Program, shown};
-use second::Station;
-use station::{Cause, Lock, Name, Phase};
+use second::{Limits, Station};
+use station::{Cause, Lock, Name, Phase, Size};
 
 #[derive(Clone, Debug)]
 pub struct Second {
+    size: Size,
     station: Station,
     /// What the last call wrote.
     out: Vec<u8>,
@@ -20,9 +21,10 @@ impl Second {
 impl Program for Second {
     const TITLE: &'static str = "second";
 
-    fn fresh(n: u64, d: u64, own: u64) -> Result<Second, u32> {
-        let out = Vec::with_capacity(second::Settings::OUT);
-        Ok(Second { station: Station::fresh(n, d, own)?, out })
+    fn fresh(size: Size, n: u64, d: u64, own: u64) -> Result<Second, u32> {
+        let limits = limits(size);
+        let out = Vec::with_capacity(limits.out);
+        Ok(Second { size, station: Station::fresh(limits, n, d, own)?, out })
     }
 
     fn step(&mut self, message: &[u8]) -> Answer<'_> {
@@ -61,7 +63,15 @@ impl Program for Second {
     }
 
     fn shown(&self) -> Vec<u8> {
-        shown::store_of(&self.station)
+        shown::store_of(self.size, &self.station)
+    }
+}
+
+/// The second program's limits of a size.
+pub fn limits(size: Size) -> Limits {
+    match size {
+        Size::Small => Limits::SMALL,
+        Size::Large => Limits::LARGE,
     }
 }
 

@@ -2,47 +2,43 @@
 //! against the proved station's store byte by byte. Two things the second program doesn't show: the
 //! clocks of votes, and the mask of the lock. They are zero here.
 
-use second::{Made, Settings, Station};
-use station::{Cause, Phase, STATEMENTS, STORE_LENGTH, TALLIES};
+use second::{Made, Station};
+use station::size::{BLAME, HEADER, NAME, STATEMENT, TALLY};
+use station::{Cause, Phase, Size};
 
 const LOCK_MASK: usize = 60;
-const STATEMENT: usize = 68;
-const STATEMENT_BYTES: usize = 80;
 const VOTE: usize = 76;
-const TALLY: usize = STATEMENT + STATEMENTS * STATEMENT_BYTES;
-const TALLY_BYTES: usize = 42;
-const BLAME: usize = TALLY + TALLIES * TALLY_BYTES;
-const LOG: usize = BLAME + 2 * Settings::VIEWS as usize;
 
 /// Puts zero for what only one program shows.
-pub fn hide(store: &mut [u8]) {
+pub fn hide(size: Size, store: &mut [u8]) {
     store[LOCK_MASK..LOCK_MASK + 2].fill(0);
-    for statement in store[STATEMENT..TALLY].chunks_exact_mut(STATEMENT_BYTES) {
+    for statement in store[HEADER..size.tallies_at()].chunks_exact_mut(STATEMENT) {
         statement[VOTE..].fill(0);
     }
 }
 
 /// The store that a station of the second program would have.
-pub fn store_of(station: &Station) -> Vec<u8> {
-    let mut store = header(station);
+pub fn store_of(size: Size, station: &Station) -> Vec<u8> {
+    let mut store = Vec::with_capacity(size.store_length());
+    header(station, &mut store);
     statements(station, &mut store);
-    store.resize(TALLY, 0);
+    store.resize(size.tallies_at(), 0);
     for tally in station.tallies() {
         block(&tally.block, &mut store);
         store.extend(tally.mask.to_be_bytes());
     }
-    store.resize(BLAME, 0);
-    for view in 1..=Settings::VIEWS {
+    store.resize(size.blames_at(), 0);
+    for view in 1..=size.views() {
         store.extend(station.blames(view).to_be_bytes());
     }
     for name in station.log() {
         store.extend(name.to_bytes());
     }
-    store.resize(STORE_LENGTH, 0);
+    store.resize(size.store_length(), 0);
     store
 }
 
-fn header(station: &Station) -> Vec<u8> {
+fn header(station: &Station, store: &mut Vec<u8>) {
     let settings = station.settings();
     let phase = match crate::second_program::phase(station.phase()) {
         Phase::InView => 0,
@@ -51,7 +47,6 @@ fn header(station: &Station) -> Vec<u8> {
         Phase::Stopped(Cause::Clock) => 3,
         Phase::Waiting { quit } => quit + 4,
     };
-    let mut store = Vec::with_capacity(STORE_LENGTH);
     store.extend(phase.to_be_bytes());
     store.push(settings.stations());
     store.extend((settings.delay() as u16).to_be_bytes());
@@ -59,12 +54,11 @@ fn header(station: &Station) -> Vec<u8> {
     for number in [station.view(), station.entry(), station.clock()] {
         store.extend(number.to_be_bytes());
     }
-    block(station.lock(), &mut store);
+    block(station.lock(), store);
     store.extend([0; 2]);
     for count in [station.statements().len(), station.tallies().len(), station.log().len()] {
         store.extend((count as u16).to_be_bytes());
     }
-    store
 }
 
 fn statements(station: &Station, store: &mut Vec<u8>) {
@@ -91,15 +85,17 @@ fn block(block: &second::Block, store: &mut Vec<u8>) {
 }
 
 /// Where a byte of a store belongs, in words.
-pub fn place(at: usize) -> String {
-    let record = |what: &str, base: usize, bytes: usize| {
-        format!("{what} {}, byte {}", (at - base) / bytes, (at - base) % bytes)
-    };
-    match at {
-        0..STATEMENT => format!("header, byte {at}"),
-        STATEMENT..TALLY => record("statement", STATEMENT, STATEMENT_BYTES),
-        TALLY..BLAME => record("tally", TALLY, TALLY_BYTES),
-        BLAME..LOG => record("blame mask", BLAME, 2),
-        _ => record("log entry", LOG, 32),
+pub fn place(size: Size, at: usize) -> String {
+    let tables = [
+        ("log entry", size.log_at(), NAME),
+        ("blame mask", size.blames_at(), BLAME),
+        ("tally", size.tallies_at(), TALLY),
+        ("statement", HEADER, STATEMENT),
+    ];
+    match tables.into_iter().find(|(_, base, _)| at >= *base) {
+        Some((what, base, bytes)) => {
+            format!("{what} {}, byte {}", (at - base) / bytes, (at - base) % bytes)
+        }
+        None => format!("header, byte {at}"),
     }
 }

@@ -1,5 +1,5 @@
-//! The independent second program: one station of a Sync HotStuff group, written from document 01
-//! and the rulings alone. The proved station is compared with it, in answers, bytes and speed.
+//! The independent second program: one station of a Sync HotStuff group, written from documents
+//! 01 and 02 and the rulings alone. The proved station is compared with it, in answers, bytes and speed.
 //!
 //! `settings` has the limits, `words` the records, `wire` the messages, `station` what a message and
 //! an offer do, `tick` what a tick does. `replay` reads recorded runs, `scripts` makes new ones.
@@ -17,6 +17,6 @@ pub mod wire;
 pub mod words;
 
 pub use refusal::{Cause, Refusal};
-pub use settings::Settings;
+pub use settings::{Limits, Settings};
 pub use station::{Phase, Station};
 pub use words::{Block, Made, Name, Statement, Tally};

@@ -1,6 +1,7 @@
 //! Recorded runs of one station: `fresh N D OWN`, `tick`, `step HEX` or `offer HEX`, each followed
 //! by `= CODE HEXOUT`, with `-` for no bytes and lines of `#` to people. Read, written and replayed.
 
+use crate::settings::Limits;
 use crate::station::Station;
 use std::fmt;
 
@@ -28,13 +29,19 @@ pub struct Event {
     pub answer: Answer,
 }
 
-/// Runs inputs one after another. A refused fresh start leaves the station of before.
-#[derive(Clone, Debug, Default)]
+/// Runs inputs one after another, all with the same limits. A refused fresh start leaves the station
+/// of before.
+#[derive(Clone, Debug)]
 pub struct Run {
+    limits: Limits,
     station: Option<Station>,
 }
 
 impl Run {
+    pub fn new(limits: Limits) -> Run {
+        Run { limits, station: None }
+    }
+
     pub fn station(&self) -> Option<&Station> {
         self.station.as_ref()
     }
@@ -52,7 +59,7 @@ impl Run {
     }
 
     fn fresh(&mut self, n: u64, d: u64, own: u64) -> u32 {
-        match Station::fresh(n, d, own) {
+        match Station::fresh(self.limits, n, d, own) {
             Ok(station) => {
                 self.station = Some(station);
                 0
@@ -63,9 +70,9 @@ impl Run {
 }
 
 /// Replays a run: the count of its inputs, or where it first goes another way.
-pub fn replay(text: &str) -> Result<usize, String> {
+pub fn replay(limits: Limits, text: &str) -> Result<usize, String> {
     let events = parse(text)?;
-    let mut run = Run::default();
+    let mut run = Run::new(limits);
     for event in &events {
         let Some(answer) = run.answer(&event.input) else {
             return Err(format!("line {}: no station yet", event.line));

@@ -2,12 +2,12 @@
 //! names, conflicts, damaged bytes, ticks and offers. Each comes with this program's answer, so that
 //! another program can be driven by the inputs and held to the answers.
 //!
-//! `Script::new(seed)` is an iterator of events. The first is the fresh start; it ends some inputs
-//! after the station has stopped. The same seed gives the same events.
+//! `Script::new(limits, seed)` is an iterator of events. The first is the fresh start; it ends some inputs
+//! after the station has stopped. The same seed and limits give the same events.
 
 use crate::random::Random;
 use crate::replay::{Event, Input, Run};
-use crate::settings::{bit, Settings};
+use crate::settings::{bit, Limits, Settings};
 use crate::station::{Phase, Station};
 use crate::wire::Message;
 use crate::words::{Block, Made, Name, Statement, Tally};
@@ -86,6 +86,7 @@ const AFTER_STOP: u32 = 6;
 /// A script under way.
 #[derive(Clone, Debug)]
 pub struct Script {
+    limits: Limits,
     random: Random,
     style: Style,
     run: Run,
@@ -102,7 +103,7 @@ impl Iterator for Script {
     type Item = Event;
 
     fn next(&mut self) -> Option<Event> {
-        let mut run = std::mem::take(&mut self.run);
+        let mut run = std::mem::replace(&mut self.run, Run::new(self.limits));
         let input = match run.station() {
             None => Some(self.settings()),
             Some(station) => self.input(station),
@@ -115,11 +116,11 @@ impl Iterator for Script {
 }
 
 impl Script {
-    pub fn new(seed: u64) -> Script {
+    pub fn new(limits: Limits, seed: u64) -> Script {
         let mut random = Random::new(seed);
         let style = random.pick(&STYLES);
-        let run = Run::default();
-        Script { random, style, run, count: 0, ticks: 0, names: 0, after_stop: 0 }
+        let run = Run::new(limits);
+        Script { limits, random, style, run, count: 0, ticks: 0, names: 0, after_stop: 0 }
     }
 
     /// The station as it stands after the last event.
@@ -151,8 +152,9 @@ impl Script {
 
     fn choose(&mut self, station: &Station) -> Move {
         let chosen = MOVES[self.random.weighted(&self.style.weights)];
-        let full = station.statements().len() == Settings::STATEMENTS
-            || station.tallies().len() == Settings::TALLIES;
+        let limits = station.settings().limits();
+        let full = station.statements().len() == limits.statements
+            || station.tallies().len() == limits.tallies;
         let leads = station.phase() == Phase::InView && station.is_leader();
         match chosen {
             // With no record free, ticks and offers are to find that too, not messages alone.
@@ -222,14 +224,15 @@ impl Script {
 impl Script {
     /// A view: the current one mostly, the next, or any.
     fn view(&mut self, station: &Station) -> u32 {
+        let views = station.settings().limits().views;
         let view = match self.random.below(12) {
             0 | 1 => station.view() + 1,
             2 => station.view() + 2,
             3 => station.view() - 1,
-            4 => 1 + self.random.below(u64::from(Settings::VIEWS)) as u32,
+            4 => 1 + self.random.below(u64::from(views)) as u32,
             _ => station.view(),
         };
-        view.clamp(1, Settings::VIEWS)
+        view.clamp(1, views)
     }
 
     fn author(&mut self, settings: &Settings) -> u8 {
@@ -477,7 +480,7 @@ impl Script {
                 value.copy_from_slice(&mask.to_be_bytes());
             }
             4 => {
-                let (views, heights) = (Settings::VIEWS, Settings::HEIGHTS);
+                let (views, heights) = (settings.limits().views, Settings::HEIGHTS);
                 let edges = [0, 1, 2, views, views + 1, heights, heights + 1, 1 << 16, u32::MAX];
                 value.copy_from_slice(&self.random.pick(&edges).to_be_bytes());
             }

@@ -3,9 +3,30 @@
 use crate::refusal::Refusal;
 use std::ops::RangeInclusive;
 
-/// What a station is set up with: n, D and its own number.
+/// The limits that groups may differ in. "All stations of one group have the same limits".
+#[derive(Clone, Copy, Debug, PartialEq, Eq)]
+pub struct Limits {
+    /// The last view.
+    pub views: u32,
+    pub statements: usize,
+    pub tallies: usize,
+    /// The least length of an out buffer: no call writes more.
+    pub out: usize,
+}
+
+impl Limits {
+    /// 01: "views 1 to 32", "stored statements 128", "stored tallies 256", "out buffer at least
+    /// 32,768 bytes".
+    pub const SMALL: Limits = Limits { views: 32, statements: 128, tallies: 256, out: 32_768 };
+    /// 02, request 14: "raise views to 256 and statements to 512; tallies go to 1,024 and the out
+    /// buffer to at least 131,072 bytes".
+    pub const LARGE: Limits = Limits { views: 256, statements: 512, tallies: 1_024, out: 131_072 };
+}
+
+/// What a station is set up with: its group's limits, n, D and its own number.
 #[derive(Clone, Copy, Debug, PartialEq, Eq)]
 pub struct Settings {
+    limits: Limits,
     stations: u8,
     delay: u32,
     own: u8,
@@ -16,24 +37,22 @@ impl Settings {
     pub const STATIONS: RangeInclusive<u64> = 3..=15;
     /// "D, delay bound in ticks".
     pub const DELAYS: RangeInclusive<u64> = 1..=10_000;
-    /// "views 1 to 32".
-    pub const VIEWS: u32 = 32;
     /// "heights 0 to 65,535".
     pub const HEIGHTS: u32 = 65_535;
-    pub const STATEMENTS: usize = 128;
-    pub const TALLIES: usize = 256;
     /// "clock 0 to 4,000,000,000".
     pub const CLOCK: u32 = 4_000_000_000;
-    /// "out buffer at least 32,768 bytes": no call writes more.
-    pub const OUT: usize = 32_768;
 
     /// The settings, or refusal 10.
-    pub fn new(n: u64, d: u64, own: u64) -> Result<Settings, Refusal> {
+    pub fn new(limits: Limits, n: u64, d: u64, own: u64) -> Result<Settings, Refusal> {
         let odd = n % 2 == 1;
         if !odd || !Self::STATIONS.contains(&n) || !Self::DELAYS.contains(&d) || own >= n {
             return Err(Refusal::Settings);
         }
-        Ok(Settings { stations: n as u8, delay: d as u32, own: own as u8 })
+        Ok(Settings { limits, stations: n as u8, delay: d as u32, own: own as u8 })
+    }
+
+    pub fn limits(&self) -> &Limits {
+        &self.limits
     }
 
     pub fn stations(&self) -> u8 {
@@ -85,8 +104,8 @@ impl Settings {
     }
 
     /// A view within the limits, "view at least 1".
-    pub fn has_view(view: u32) -> bool {
-        (1..=Self::VIEWS).contains(&view)
+    pub fn has_view(&self, view: u32) -> bool {
+        (1..=self.limits.views).contains(&view)
     }
 
     pub fn has_station(&self, author: u8) -> bool {

@@ -4,7 +4,7 @@
 //! so a record's place is good for as long as the station is.
 
 use crate::refusal::{number, Cause, Outcome, Refusal};
-use crate::settings::{bit, Settings};
+use crate::settings::{bit, Limits, Settings};
 use crate::wire::Message;
 use crate::words::{Block, Made, Name, Statement, Tally};
 
@@ -44,8 +44,8 @@ pub struct Station {
     /// The proposes of this view voted for, by height, then by place: the order of commits.
     pub(crate) voted: Vec<Voted>,
     pub(crate) tallies: Vec<Tally>,
-    /// The blame mask of each view.
-    pub(crate) blames: [u16; Settings::VIEWS as usize + 1],
+    /// The blame mask of each view, and one for view 0 that nobody joins.
+    pub(crate) blames: Vec<u16>,
     /// The block of height h is entry h-1.
     pub(crate) log: Vec<Logged>,
 }
@@ -54,8 +54,8 @@ pub struct Station {
 /// number and leaves `out` as it was.
 impl Station {
     /// "It starts in view 1, clock 0, lock on genesis."
-    pub fn fresh(n: u64, d: u64, own: u64) -> Result<Station, u32> {
-        let settings = Settings::new(n, d, own).map_err(|refusal| refusal as u32)?;
+    pub fn fresh(limits: Limits, n: u64, d: u64, own: u64) -> Result<Station, u32> {
+        let settings = Settings::new(limits, n, d, own).map_err(|refusal| refusal as u32)?;
         Ok(Station {
             settings,
             phase: Phase::InView,
@@ -63,11 +63,11 @@ impl Station {
             clock: 0,
             entry: 0,
             lock: Block::GENESIS,
-            statements: Vec::with_capacity(Settings::STATEMENTS),
-            voted: Vec::with_capacity(Settings::STATEMENTS),
-            tallies: Vec::with_capacity(Settings::TALLIES),
-            blames: [0; Settings::VIEWS as usize + 1],
-            log: Vec::with_capacity(Settings::STATEMENTS),
+            statements: Vec::with_capacity(limits.statements),
+            voted: Vec::with_capacity(limits.statements),
+            tallies: Vec::with_capacity(limits.tallies),
+            blames: vec![0; limits.views as usize + 1],
+            log: Vec::with_capacity(limits.statements),
         })
     }
 
@@ -245,8 +245,9 @@ impl Station {
         let own = self.tally(&new.block);
         let opens_certified = certified.is_none() && certificate.block != Block::GENESIS;
         let opened = usize::from(opens_certified) + usize::from(own.is_none());
-        if self.statements.len() == Settings::STATEMENTS
-            || self.tallies.len() + opened > Settings::TALLIES
+        let limits = self.settings.limits();
+        if self.statements.len() == limits.statements
+            || self.tallies.len() + opened > limits.tallies
         {
             return Err(self.stop(Cause::Full));
         }
@@ -270,7 +271,7 @@ impl Station {
         }
         if let Some(place) = self.tally(&joining.block) {
             self.grow(place, joining.mask);
-        } else if self.tallies.len() == Settings::TALLIES {
+        } else if self.tallies.len() == self.settings.limits().tallies {
             return Err(self.stop(Cause::Full));
         } else {
             self.tallies.push(joining);

@@ -36,7 +36,7 @@ impl Station {
             }
             Phase::Waiting { quit } => {
                 let due = self.clock == quit + self.settings.entry_wait();
-                if due && self.view < Settings::VIEWS {
+                if due && self.view < self.settings.limits().views {
                     self.enter(out);
                 }
                 Ok(())
@@ -216,11 +216,12 @@ mod tests {
     use super::*;
     use crate::replay::Input;
     use crate::scripts::Script;
+    use crate::settings::Limits;
 
     /// 8: "tick at clock 4,000,000,000". The tick before it is the last.
     #[test]
     fn the_clock_ends() {
-        let mut station = Station::fresh(3, 1, 0).unwrap();
+        let mut station = Station::fresh(Limits::SMALL, 3, 1, 0).unwrap();
         station.phase = Phase::Waiting { quit: 0 };
         station.clock = Settings::CLOCK - 1;
         let mut out = Vec::new();
@@ -235,7 +236,7 @@ mod tests {
     /// 8 comes before a commit that is due, and messages are taken until then.
     #[test]
     fn the_clock_ends_before_the_commit() {
-        let mut station = Station::fresh(3, 10_000, 0).unwrap();
+        let mut station = Station::fresh(Limits::SMALL, 3, 10_000, 0).unwrap();
         (station.clock, station.entry) = (Settings::CLOCK, Settings::CLOCK);
         let block = Block { view: 1, height: 1, name: Name::from_bytes([1; 32]) };
         let made = Made::Propose { parent: Name::ZERO };
@@ -290,12 +291,15 @@ mod tests {
     fn commits_are_those_of_whole_chains() {
         let (mut commits, mut splits) = (0, 0);
         for seed in 5000..5400 {
-            let mut script = Script::new(seed);
+            let mut script = Script::new(Limits::SMALL, seed);
             let mut before: Option<Station> = None;
             for event in script.by_ref().take(600).collect::<Vec<_>>() {
-                let mut after = before.clone().unwrap_or(Station::fresh(3, 1, 0).unwrap());
+                let mut after =
+                    before.clone().unwrap_or(Station::fresh(Limits::SMALL, 3, 1, 0).unwrap());
                 match &event.input {
-                    Input::Fresh { n, d, own } => after = Station::fresh(*n, *d, *own).unwrap(),
+                    Input::Fresh { n, d, own } => {
+                        after = Station::fresh(Limits::SMALL, *n, *d, *own).unwrap();
+                    }
                     Input::Step(message) => drop(after.step(message, &mut Vec::new())),
                     Input::Offer(name) => drop(after.offer(name, &mut Vec::new())),
                     Input::Tick => {

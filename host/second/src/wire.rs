@@ -141,20 +141,20 @@ impl Message {
         match self {
             Message::Statement { statement, author } => {
                 let view = statement.block.view;
-                Settings::has_view(view)
+                settings.has_view(view)
                     && *author == settings.leader(view)
                     && statement_allowed(statement, settings)
             }
             Message::Vote { block, author } => {
-                Settings::has_view(block.view)
+                settings.has_view(block.view)
                     && settings.has_station(*author)
                     && name_allowed(block)
             }
             Message::Blame { view, author } => {
-                Settings::has_view(*view) && settings.has_station(*author)
+                settings.has_view(*view) && settings.has_station(*author)
             }
             Message::BlameSet { view, mask } => {
-                Settings::has_view(*view) && quorum_allowed(*mask, settings)
+                settings.has_view(*view) && quorum_allowed(*mask, settings)
             }
             Message::Status { certificate } => certificate_allowed(certificate, settings),
         }
@@ -272,7 +272,7 @@ fn certificate_allowed(certificate: &Tally, settings: &Settings) -> bool {
     if block.view == 0 {
         return *certificate == Tally::GENESIS;
     }
-    block.view <= Settings::VIEWS
+    block.view <= settings.limits().views
         && name_allowed(block)
         && quorum_allowed(certificate.mask, settings)
 }

@@ -8,7 +8,7 @@ use crate::watch::{Breach, Watch};
 use crate::wild;
 use programs::Program;
 use second::random::Random;
-use station::{Effect, Effects, Message, Name, Phase, Refusal};
+use station::{Effect, Effects, Message, Name, Phase, Refusal, Size};
 
 /// A message on its way.
 #[derive(Clone, Copy, Debug, PartialEq, Eq)]
@@ -35,6 +35,8 @@ pub enum Delays {
 /// What is set before a run begins.
 #[derive(Clone, Debug)]
 pub struct Plan {
+    /// The limits of every station.
+    pub size: Size,
     pub n: u8,
     pub d: u32,
     /// The fault of each station; none is sound.
@@ -115,7 +117,7 @@ impl<P: Program> Group<P> {
     /// # Panics
     /// If the plan's n and D are no settings of a station.
     pub fn new(plan: Plan) -> Group<P> {
-        let fresh = |own| P::fresh(plan.n.into(), plan.d.into(), own);
+        let fresh = |own| P::fresh(plan.size, plan.n.into(), plan.d.into(), own);
         let stations = (0..plan.n.into()).map(|own| fresh(own).expect("good settings")).collect();
         Group {
             stations,

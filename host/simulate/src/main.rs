@@ -1,20 +1,23 @@
 //! Runs a group of stations and draws what happened, or runs many groups and only checks:
 //!
-//!     simulate [--n N] [--d D] [--leaders KIND,KIND..] [--ticks T] [--seed SEED] [--program NAME] [--svg FILE]
-//!     simulate --many RUNS [--seed SEED] [--program NAME]
+//!     simulate [--large] [--n N] [--d D] [--leaders KIND,KIND..] [--ticks T] [--seed SEED] [--program NAME] [--svg FILE]
+//!     simulate [--large] --many RUNS [--seed SEED] [--program NAME]
 //!
 //! The kinds are those of stations 1, 2, ..: sound, silent, equivocating, late, splitting, wild. The
-//! program is `proved` or `second`. The exit is 0 exactly when demand 3 held.
+//! program is `proved` or `second`. With `--large` every station has the large limits. The exit is 0
+//! exactly when demand 3 held.
 
 use programs::{Program, Proved, Second};
 use second::random::Random;
 use simulate::watch::Breach;
 use simulate::{Delays, Fault, Group, Plan, picture};
+use station::Size;
 use std::process::ExitCode;
 use std::time::SystemTime;
 
 /// What was asked for.
 struct Asked {
+    size: Size,
     n: u8,
     d: u32,
     leaders: String,
@@ -42,9 +45,14 @@ fn main() -> ExitCode {
 fn asked() -> Result<Asked, String> {
     let seed = SystemTime::UNIX_EPOCH.elapsed().map_or(1, |time| time.as_secs());
     let (leaders, program) = ("late,splitting,silent".into(), "proved".into());
-    let mut asked = Asked { n: 7, d: 2, leaders, ticks: 88, seed, program, svg: None, many: None };
+    let (size, svg, many) = (Size::Small, None, None);
+    let mut asked = Asked { size, n: 7, d: 2, leaders, ticks: 88, seed, program, svg, many };
     let mut words = std::env::args().skip(1);
     while let Some(word) = words.next() {
+        if word == "--large" {
+            asked.size = Size::Large;
+            continue;
+        }
         let value = words.next().ok_or(format!("{word} needs a value"))?;
         let number = || value.parse::<u64>().map_err(|_| format!("{value} is no number"));
         match word.as_str() {
@@ -64,7 +72,7 @@ fn asked() -> Result<Asked, String> {
 
 fn run<P: Program>(asked: &Asked) -> Result<(), String> {
     match asked.many {
-        Some(runs) => many::<P>(runs, asked.seed),
+        Some(runs) => many::<P>(asked.size, runs, asked.seed),
         None => one::<P>(asked),
     }
 }
@@ -83,8 +91,9 @@ fn one<P: Program>(asked: &Asked) -> Result<(), String> {
     if 2 * faults.iter().flatten().count() >= faults.len() {
         return Err("at most f of n = 2f+1 stations may be faulty".into());
     }
-    let (n, d, seed) = (asked.n, asked.d, asked.seed);
-    let plan = Plan { n, d, faults, delays: Delays::Longest, lateness: 3, names: u32::MAX, seed };
+    let (size, n, d, seed) = (asked.size, asked.n, asked.d, asked.seed);
+    let (delays, lateness, names) = (Delays::Longest, 3, u32::MAX);
+    let plan = Plan { size, n, d, faults, delays, lateness, names, seed };
     let mut group = Group::<P>::new(plan);
     let outcome = group.run_to(asked.ticks);
     if let Some(path) = &asked.svg {
@@ -105,12 +114,12 @@ fn one<P: Program>(asked: &Asked) -> Result<(), String> {
 }
 
 /// Many groups with settings, faults and delays of a seed.
-fn many<P: Program>(runs: u64, seed: u64) -> Result<(), String> {
+fn many<P: Program>(size: Size, runs: u64, seed: u64) -> Result<(), String> {
     println!("seed {seed}");
     let mut random = Random::new(seed);
     let (mut commits, mut quits, mut calls, mut full) = (0, 0, 0, 0);
     for run in 1..=runs {
-        let (plan, ticks) = random_plan(&mut random);
+        let (plan, ticks) = random_plan(size, &mut random);
         let shown = format!("{plan:?}");
         let mut group = Group::<P>::new(plan);
         match group.run_to(ticks) {
@@ -123,14 +132,14 @@ fn many<P: Program>(runs: u64, seed: u64) -> Result<(), String> {
         calls += group.watch.calls;
     }
     println!(
-        "{} program, {runs} groups ({full} until a store was full): {calls} calls, {quits} quits, {commits} commits by sound stations, demand 3 held",
+        "{} program, {runs} groups of size {size:?} ({full} until a store was full): {calls} calls, {quits} quits, {commits} commits by sound stations, demand 3 held",
         P::TITLE
     );
     Ok(())
 }
 
 /// A plan with at most f faults, and for how many ticks it is run.
-fn random_plan(random: &mut Random) -> (Plan, u32) {
+fn random_plan(size: Size, random: &mut Random) -> (Plan, u32) {
     let n = random.pick(&[3, 3, 5, 5, 7]);
     let d = random.pick(&[1, 1, 2, 3]);
     let mut faults = vec![None; n.into()];
@@ -142,5 +151,7 @@ fn random_plan(random: &mut Random) -> (Plan, u32) {
     }
     let delays = random.pick(&[Delays::Longest, Delays::Bounds, Delays::Bounds, Delays::Any]);
     let (names, lateness) = (random.pick(&[1, 2, 3, 40]), 1 + random.below(3) as u32);
-    (Plan { n, d, faults, delays, lateness, names, seed: random.number() }, 120 * d)
+    // The larger the stores, the longer: 120 D ticks with the small limits.
+    let ticks = 15 * size.statements() as u32 / 16 * d;
+    (Plan { size, n, d, faults, delays, lateness, names, seed: random.number() }, ticks)
 }

@@ -19,9 +19,6 @@ pub struct Wild<'a> {
 /// (view, height, name)
 type Block = (u32, u32, Name);
 
-/// No more statements than this, so that stations don't run out of records.
-const STATEMENTS: usize = 90;
-
 impl Wild<'_> {
     /// Letters of one message, or none.
     pub fn letters(&mut self) -> Vec<Letter> {
@@ -57,7 +54,7 @@ impl Wild<'_> {
     /// The highest view, or one beside it.
     fn near(&mut self) -> u32 {
         let view = self.view + 1 - self.random.below(3).min(u64::from(self.view)) as u32;
-        view.clamp(1, 32)
+        view.clamp(1, self.plan.size.views())
     }
 
     fn vote(&mut self) -> Option<Message> {
@@ -114,10 +111,11 @@ impl Wild<'_> {
         (mask.count_ones() >= self.plan.quorum()).then_some(Message::BlameSet { view, mask })
     }
 
-    /// A view near by that it leads, while there may be more statements.
+    /// A view near by that it leads, while three of ten statements' records are free at the least, so
+    /// that stations don't run out of them.
     fn led(&mut self) -> Option<u32> {
         let view = self.near();
-        let room = self.watch.statements.len() < STATEMENTS;
+        let room = 10 * self.watch.statements.len() < 7 * self.plan.size.statements();
         (self.plan.leader(view) == self.own && room).then_some(view)
     }
 

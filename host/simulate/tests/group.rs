@@ -3,22 +3,23 @@
 use programs::{Answer, Program, Proved, Second};
 use simulate::watch::Breach;
 use simulate::{Delays, Fault, Group, Plan};
-use station::{Lock, Name, Phase};
+use station::{Lock, Name, Phase, Size};
 
 fn plan(n: u8, d: u32, faulty: &[Fault], delays: Delays, seed: u64) -> Plan {
     let mut faults = vec![None; n.into()];
     for (station, fault) in (1..).zip(faulty) {
         faults[station] = Some(*fault);
     }
-    Plan { n, d, faults, delays, lateness: 3, names: 3, seed }
+    Plan { size: Size::Small, n, d, faults, delays, lateness: 3, names: 3, seed }
 }
 
 /// Every kind of faulty leader, with delays at their bounds: logs agree, and blocks are committed.
 #[test]
 fn groups_agree_with_any_leader() {
     for fault in Fault::ALL {
-        for seed in 0..6 {
-            let mut group = Group::<Proved>::new(plan(3, 2, &[fault], Delays::Bounds, seed));
+        for (seed, size) in (0..6).zip(Size::ALL.into_iter().cycle()) {
+            let plan = Plan { size, ..plan(3, 2, &[fault], Delays::Bounds, seed) };
+            let mut group = Group::<Proved>::new(plan);
             assert_eq!(group.run_to(100), Ok(()), "{fault}, seed {seed}");
             assert!(group.watch.log().len() >= 2, "{fault}, seed {seed}");
         }
@@ -37,11 +38,23 @@ fn a_block_that_one_station_committed_stays() {
     assert!(group.watch.commits >= 8);
 }
 
+/// A group with the large limits goes on where one with the small limits is full.
+#[test]
+fn large_groups_last_longer() {
+    let small = Plan { names: u32::MAX, ..plan(3, 1, &[], Delays::Longest, 0) };
+    let large = Plan { size: Size::Large, ..small.clone() };
+    assert!(matches!(Group::<Proved>::new(small).run_to(300), Err(Breach::Full)));
+    let mut group = Group::<Proved>::new(large);
+    assert_eq!(group.run_to(300), Ok(()));
+    assert!(group.watch.log().len() > Size::Small.statements());
+}
+
 /// Both programs, in the same schedule, do the same.
 #[test]
 fn both_programs_run_alike() {
-    for seed in 0..10 {
+    for (seed, size) in (0..10).zip(Size::ALL.into_iter().cycle()) {
         let plan = plan(5, 2, &[Fault::Wild, Fault::Splitting], Delays::Any, seed);
+        let plan = Plan { size, ..plan };
         let mut proved = Group::<Proved>::new(plan.clone());
         let mut second = Group::<Second>::new(plan);
         assert_eq!((proved.run_to(150), second.run_to(150)), (Ok(()), Ok(())));
@@ -55,8 +68,8 @@ struct Wrong<const HASTY: bool>(Second);
 impl<const HASTY: bool> Program for Wrong<HASTY> {
     const TITLE: &'static str = "wrong";
 
-    fn fresh(n: u64, d: u64, own: u64) -> Result<Self, u32> {
-        Second::fresh(n, if HASTY { d / 2 } else { d }, own).map(Wrong)
+    fn fresh(size: Size, n: u64, d: u64, own: u64) -> Result<Self, u32> {
+        Second::fresh(size, n, if HASTY { d / 2 } else { d }, own).map(Wrong)
     }
 
     fn step(&mut self, message: &[u8]) -> Answer<'_> {

@@ -6,7 +6,7 @@
 //!
 //!     cargo run --release --example host -- DIRECTORY
 
-use station::{Effect, GENESIS, Message, Name, Refusal, Station};
+use station::{Effect, GENESIS, Message, Name, Refusal, Size, Station};
 use std::collections::HashMap;
 use std::fs::{self, File};
 use std::io::{self, Write};
@@ -65,7 +65,7 @@ struct Host {
 
 impl Host {
     fn new(own: u8, directory: &Path) -> io::Result<Host> {
-        let station = Station::fresh(STATIONS.into(), DELAY.into(), own.into());
+        let station = Station::fresh(Size::Small, STATIONS.into(), DELAY.into(), own.into());
         let station = station.map_err(io::Error::other)?;
         let file = directory.join(format!("station-{own}.store"));
         let (seals, texts) = (HashMap::new(), HashMap::new());

@@ -20,9 +20,9 @@ pub enum Effect {
 /// What a call wrote, in order: an iterator of [`Effect`]s.
 ///
 /// ```
-/// use station::{Effect, Message, Station};
+/// use station::{Effect, Message, Size, Station};
 ///
-/// let mut station = Station::fresh(3, 2, 2)?;
+/// let mut station = Station::fresh(Size::Small, 3, 2, 2)?;
 /// for _ in 1..=13 {
 ///     assert_eq!(station.tick()?.count(), 0);
 /// }

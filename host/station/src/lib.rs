@@ -6,9 +6,10 @@
 //! docs/HOST.md says what a host must do, and what it may rely on.
 //!
 //! ```
-//! use station::{Effect, Station};
+//! use station::{Effect, Size, Station};
 //!
-//! let mut station = Station::fresh(3, 2, 1)?; // station 1 of 3, messages take at most 2 ticks
+//! // station 1 of 3, messages take at most 2 ticks
+//! let mut station = Station::fresh(Size::Small, 3, 2, 1)?;
 //! for _ in 1..=5 {
 //!     for effect in station.tick()? {
 //!         match effect {
@@ -27,11 +28,13 @@ mod effect;
 pub mod ffi;
 mod message;
 mod refusal;
+pub mod size;
 mod station;
 mod store;
 
 pub use effect::{Effect, Effects};
 pub use message::{GENESIS, Message, Name};
 pub use refusal::{Refusal, answer};
-pub use station::{OUT_LENGTH, Station};
-pub use store::{Cause, Lock, Phase, STATEMENTS, STORE_LENGTH, TALLIES};
+pub use size::Size;
+pub use station::Station;
+pub use store::{Cause, Lock, Phase};

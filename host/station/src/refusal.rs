@@ -6,9 +6,9 @@ use std::fmt;
 /// station is now stopped.
 ///
 /// ```
-/// use station::{Refusal, Station};
+/// use station::{Refusal, Size, Station};
 ///
-/// let refused = Station::fresh(4, 2, 0).unwrap_err();
+/// let refused = Station::fresh(Size::Small, 4, 2, 0).unwrap_err();
 /// assert_eq!(refused, Refusal::Settings);
 /// assert_eq!(refused.number(), 10);
 /// println!("{refused}");
@@ -16,7 +16,7 @@ use std::fmt;
 #[derive(Clone, Copy, Debug, PartialEq, Eq, Hash)]
 #[repr(u32)]
 pub enum Refusal {
-    /// Store not of its exact length, offered name not 32 bytes, or out buffer too short.
+    /// Store of neither length, offered name not 32 bytes, or out buffer too short.
     Length = 1,
     /// Store not well formed.
     Store = 2,
@@ -88,7 +88,7 @@ impl Refusal {
     pub fn advice(self) -> &'static str {
         match self {
             Refusal::Length => {
-                "lend a store of 25,220 bytes, an out buffer of at least 32,768, a name of 32"
+                "lend a store and an out buffer of the lengths of one `Size`, and a name of 32 bytes"
             }
             Refusal::Store => {
                 "go back to the last store kept whole; the station counts among the f faulty"

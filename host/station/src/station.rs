@@ -4,20 +4,19 @@ use crate::effect::Effects;
 use crate::ffi;
 use crate::message::Name;
 use crate::refusal::{Refusal, answer};
-use crate::store::{self, Lock, Phase, STORE_LENGTH, Store};
+use crate::size::Size;
+use crate::store::{self, Lock, Phase};
 use std::fmt;
-
-/// The least length of an out buffer: no call writes more.
-pub const OUT_LENGTH: usize = 32_768;
 
 /// One station of a group.
 ///
 /// Three stations that agree on a block, with messages that take no time:
 ///
 /// ```
-/// use station::{Effect, Refusal, Station};
+/// use station::{Effect, Refusal, Size, Station};
 ///
-/// let mut group = (0..3).map(|own| Station::fresh(3, 1, own)).collect::<Result<Vec<_>, _>>()?;
+/// let fresh = |own| Station::fresh(Size::Small, 3, 1, own);
+/// let mut group = (0..3).map(fresh).collect::<Result<Vec<_>, _>>()?;
 /// let mut sent = Vec::new(); // (from, what)
 /// for clock in 1..=8 {
 ///     for (own, station) in group.iter_mut().enumerate() {
@@ -40,44 +39,47 @@ pub const OUT_LENGTH: usize = 32_768;
 /// ```
 #[derive(Clone)]
 pub struct Station {
-    store: Box<Store>,
-    out: Box<[u8; OUT_LENGTH]>,
+    size: Size,
+    /// Of the size's length, as the out buffer is.
+    store: Vec<u8>,
+    out: Vec<u8>,
 }
 
 /// The calls. Each gives back what it sends and commits, or a refusal. Before a host sends any of
 /// it, it keeps the store, where stores are kept at all: what a station has said, it must not forget.
 impl Station {
-    /// A station in view 1 at clock 0: one of `n`, which is odd and of 3 to 15, with the delay bound
-    /// `d` of 1 to 10,000 ticks, and its own number below n. Refusal: 10.
-    pub fn fresh(n: u64, d: u64, own: u64) -> Result<Station, Refusal> {
-        let mut station = Station::around([0; STORE_LENGTH]);
-        answer(ffi::fresh(&mut station.store[..], n, d, own))?;
+    /// A station in view 1 at clock 0: with the limits that all stations of its group have, one of
+    /// `n`, which is odd and of 3 to 15, with the delay bound `d` of 1 to 10,000 ticks, and its own
+    /// number below n. Refusal: 10.
+    pub fn fresh(size: Size, n: u64, d: u64, own: u64) -> Result<Station, Refusal> {
+        let mut station = Station::around(size, vec![0; size.store_length()]);
+        answer(ffi::fresh(&mut station.store, n, d, own))?;
         Ok(station)
     }
 
     /// A message from another station, whose signatures the host has checked. Refusals: 3, 4, 5, 6.
     pub fn step(&mut self, message: &[u8]) -> Result<Effects<'_>, Refusal> {
-        let result = ffi::step(&mut self.store[..], message, &mut self.out[..]);
+        let result = ffi::step(&mut self.store, message, &mut self.out);
         self.effects(result)
     }
 
     /// One tick of the group's common clock. Refusals: 3, 8, 7, 6.
     pub fn tick(&mut self) -> Result<Effects<'_>, Refusal> {
-        let result = ffi::tick(&mut self.store[..], &mut self.out[..]);
+        let result = ffi::tick(&mut self.store, &mut self.out);
         self.effects(result)
     }
 
     /// The name of a block to propose, if this station leads. Refusals: 3, 9, 6.
     ///
     /// ```
-    /// use station::{Refusal, Station};
+    /// use station::{Refusal, Size, Station};
     ///
-    /// let mut station = Station::fresh(3, 2, 0)?;
+    /// let mut station = Station::fresh(Size::Small, 3, 2, 0)?;
     /// assert_eq!(station.offer(&[1; 32]).err(), Some(Refusal::NotTaken));
     /// # Ok::<(), Refusal>(())
     /// ```
     pub fn offer(&mut self, name: &Name) -> Result<Effects<'_>, Refusal> {
-        let result = ffi::offer(&mut self.store[..], name, &mut self.out[..]);
+        let result = ffi::offer(&mut self.store, name, &mut self.out);
         self.effects(result)
     }
 
@@ -85,8 +87,8 @@ impl Station {
         answer(result).map(|count| Effects::new(&self.out[..count]))
     }
 
-    fn around(store: Store) -> Station {
-        Station { store: Box::new(store), out: Box::new([0; OUT_LENGTH]) }
+    fn around(size: Size, store: Vec<u8>) -> Station {
+        Station { size, store, out: vec![0; size.out_length()] }
     }
 }
 
@@ -95,9 +97,9 @@ impl Station {
     /// The store's bytes, to be kept on disk.
     ///
     /// ```
-    /// use station::Station;
+    /// use station::{Size, Station};
     ///
-    /// let mut station = Station::fresh(3, 2, 1)?;
+    /// let mut station = Station::fresh(Size::Small, 3, 2, 1)?;
     /// for _ in 1..=5 {
     ///     station.tick()?;
     /// }
@@ -107,14 +109,14 @@ impl Station {
     /// # Ok::<(), station::Refusal>(())
     /// ```
     pub fn store(&self) -> &[u8] {
-        &self.store[..]
+        &self.store
     }
 
-    /// The station of a kept store, stopped ones too. Refusals: 1 if the length is wrong, 2 if the
-    /// bytes are not well formed.
+    /// The station of a kept store, stopped ones too; its size is that of the store. Refusals: 1 if
+    /// no size has this length, 2 if the bytes are not well formed.
     pub fn from_store(bytes: &[u8]) -> Result<Station, Refusal> {
-        let store = bytes.try_into().map_err(|_| Refusal::Length)?;
-        let mut station = Station::around(store);
+        let size = Size::of_store(bytes.len()).ok_or(Refusal::Length)?;
+        let mut station = Station::around(size, bytes.to_vec());
         // No message is empty: the answer says what was found before the message was looked at.
         match station.step(&[]) {
             Err(Refusal::Stopped | Refusal::Unreadable) => Ok(station),
@@ -126,6 +128,11 @@ impl Station {
 
 /// What a host may look at.
 impl Station {
+    /// Which limits it goes by.
+    pub fn size(&self) -> Size {
+        self.size
+    }
+
     /// n, the count of stations.
     pub fn stations(&self) -> u32 {
         store::number(&self.store, store::STATIONS)
@@ -163,19 +170,19 @@ impl Station {
         store::lock(&self.store)
     }
 
-    /// How many of its [`STATEMENTS`](crate::STATEMENTS) records are used.
+    /// How many records of the [`Size::statements`] that it has room for are used.
     pub fn statements(&self) -> usize {
         store::number(&self.store, store::STATEMENT_COUNT) as usize
     }
 
-    /// How many of its [`TALLIES`](crate::TALLIES) records are used.
+    /// How many records of the [`Size::tallies`] that it has room for are used.
     pub fn tallies(&self) -> usize {
         store::number(&self.store, store::TALLY_COUNT) as usize
     }
 
     /// The committed names, from height 1 on.
     pub fn log(&self) -> &[Name] {
-        store::log(&self.store)
+        store::log(self.size, &self.store)
     }
 
     /// Whether it leads its view: "The leader of view v is v mod n."
@@ -187,6 +194,7 @@ impl Station {
 impl fmt::Debug for Station {
     fn fmt(&self, f: &mut fmt::Formatter<'_>) -> fmt::Result {
         f.debug_struct("Station")
+            .field("size", &self.size)
             .field("own", &self.own())
             .field("phase", &self.phase())
             .field("view", &self.view())

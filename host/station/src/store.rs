@@ -1,15 +1,7 @@
 //! What a host may read from a store: docs/STORE.md has the layout. Nothing here writes one.
 
 use crate::message::Name;
-
-/// The store's exact length in bytes.
-pub const STORE_LENGTH: usize = 25_220;
-
-/// How many statements and tallies a store has room for.
-pub const STATEMENTS: usize = 128;
-pub const TALLIES: usize = 256;
-
-const LOG: usize = 21_124;
+use crate::size::Size;
 
 /// "A station is in a view, waiting after a quit, or stopped with a cause."
 #[derive(Clone, Copy, Debug, PartialEq, Eq, Hash)]
@@ -56,15 +48,12 @@ pub(crate) const STATEMENT_COUNT: Field = Field(62, 2);
 pub(crate) const TALLY_COUNT: Field = Field(64, 2);
 pub(crate) const LOG_COUNT: Field = Field(66, 2);
 
-/// A store's bytes.
-pub(crate) type Store = [u8; STORE_LENGTH];
-
-pub(crate) fn number(store: &Store, Field(at, width): Field) -> u32 {
+pub(crate) fn number(store: &[u8], Field(at, width): Field) -> u32 {
     store[at..at + width].iter().fold(0, |number, &byte| number << 8 | u32::from(byte))
 }
 
 /// 0 in a view; 1, 2, 3 stopped: full, split, clock; from 4 on waiting, with the quit clock.
-pub(crate) fn phase(store: &Store) -> Phase {
+pub(crate) fn phase(store: &[u8]) -> Phase {
     match number(store, PHASE) {
         0 => Phase::InView,
         1 => Phase::Stopped(Cause::Full),
@@ -74,14 +63,14 @@ pub(crate) fn phase(store: &Store) -> Phase {
     }
 }
 
-pub(crate) fn lock(store: &Store) -> Lock {
+pub(crate) fn lock(store: &[u8]) -> Lock {
     let mut name = [0; 32];
     name.copy_from_slice(&store[LOCK_NAME..LOCK_NAME + 32]);
     Lock { view: number(store, LOCK_VIEW), height: number(store, LOCK_HEIGHT), name }
 }
 
 /// The committed names, from height 1 on.
-pub(crate) fn log(store: &Store) -> &[Name] {
-    let (names, _) = store[LOG..].as_chunks();
+pub(crate) fn log(size: Size, store: &[u8]) -> &[Name] {
+    let (names, _) = store[size.log_at()..].as_chunks();
     &names[..number(store, LOG_COUNT) as usize]
 }

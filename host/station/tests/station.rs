@@ -1,6 +1,6 @@
 //! The typed face over the archive: 01's bench where it shows in types, refusals, and kept stores.
 
-use station::{Cause, Effect, GENESIS, Message, Name, Phase, Refusal, Station};
+use station::{Cause, Effect, GENESIS, Message, Name, Phase, Refusal, Size, Station};
 
 const FIRST: Name = [1; 32];
 
@@ -19,7 +19,7 @@ fn run_to(station: &mut Station, clock: u32) -> Vec<Effect> {
 
 #[test]
 fn the_leader_makes_a_new_view() {
-    let mut station = Station::fresh(3, 2, 1).unwrap();
+    let mut station = Station::fresh(Size::Small, 3, 2, 1).unwrap();
     assert!(station.is_leader());
     let made = Message::NewView {
         view: 1,
@@ -36,7 +36,7 @@ fn the_leader_makes_a_new_view() {
 
 #[test]
 fn a_propose_at_7_commits_at_12() {
-    let mut station = Station::fresh(3, 2, 2).unwrap();
+    let mut station = Station::fresh(Size::Small, 3, 2, 2).unwrap();
     run_to(&mut station, 7);
     let first = propose(1, FIRST, GENESIS);
     let vote = Message::Vote { view: 1, height: 1, name: FIRST, author: 2 };
@@ -49,7 +49,7 @@ fn a_propose_at_7_commits_at_12() {
 
 #[test]
 fn a_quit_at_20_enters_at_23() {
-    let mut station = Station::fresh(3, 2, 0).unwrap();
+    let mut station = Station::fresh(Size::Small, 3, 2, 0).unwrap();
     run_to(&mut station, 20);
     station.step(&Message::BlameSet { view: 1, mask: 0b110 }.encode()).unwrap();
     assert_eq!(station.phase(), Phase::Waiting { quit: 20 });
@@ -61,36 +61,52 @@ fn a_quit_at_20_enters_at_23() {
 
 #[test]
 fn refusals_have_their_types() {
-    assert_eq!(Station::fresh(3, 2, 3).err(), Some(Refusal::Settings));
-    let mut station = Station::fresh(3, 2, 2).unwrap();
+    assert_eq!(Station::fresh(Size::Small, 3, 2, 3).err(), Some(Refusal::Settings));
+    let mut station = Station::fresh(Size::Small, 3, 2, 2).unwrap();
     assert_eq!(station.step(&[1, 2, 3]).err(), Some(Refusal::Unreadable));
-    let blame = Message::Blame { view: 33, author: 1 };
+    let blame = Message::Blame { view: Size::Small.views() + 1, author: 1 };
     assert_eq!(station.step(&blame.encode()).err(), Some(Refusal::NotAllowed));
     assert_eq!(station.offer(&FIRST).err(), Some(Refusal::NotTaken));
     assert_eq!((station.stations(), station.delay(), station.own()), (3, 2, 2));
 }
 
-/// The 129th statement stops the station; its store is kept and taken up as well as any.
+/// One statement too many stops the station; its store is kept and taken up as well as any.
 #[test]
 fn a_full_store_is_stopped_and_kept() {
-    let mut station = Station::fresh(3, 2, 2).unwrap();
-    let name = |height: u32| if height == 0 { GENESIS } else { [height as u8; 32] };
-    for height in 1..=128 {
-        let link = propose(height, name(height), name(height - 1));
-        assert_eq!(station.step(&link.encode()).unwrap().count(), 2);
+    for size in Size::ALL {
+        let mut station = Station::fresh(size, 3, 2, 2).unwrap();
+        let link = |height: u32| {
+            let name = |height: u32| std::array::from_fn(|place| height.to_be_bytes()[place % 4]);
+            propose(height, name(height), name(height - 1)).encode()
+        };
+        let room = size.statements() as u32;
+        for height in 1..=room {
+            assert_eq!(station.step(&link(height)).unwrap().count(), 2);
+        }
+        assert_eq!(station.statements(), size.statements());
+        assert_eq!(station.step(&link(1)).unwrap().count(), 0);
+        assert_eq!(station.step(&link(room + 1)).err(), Some(Refusal::Full));
+        assert_eq!(station.phase(), Phase::Stopped(Cause::Full));
+        let mut again = Station::from_store(station.store()).unwrap();
+        assert_eq!((again.phase(), again.size()), (Phase::Stopped(Cause::Full), size));
+        assert_eq!(again.tick().err(), Some(Refusal::Stopped));
     }
-    assert_eq!(station.statements(), station::STATEMENTS);
-    let over = propose(129, name(129), name(128)).encode();
-    assert_eq!(station.step(&over).err(), Some(Refusal::Full));
-    assert_eq!(station.phase(), Phase::Stopped(Cause::Full));
-    let mut again = Station::from_store(station.store()).unwrap();
-    assert_eq!(again.phase(), Phase::Stopped(Cause::Full));
-    assert_eq!(again.tick().err(), Some(Refusal::Stopped));
+}
+
+/// The last view of a size is allowed in it, and the one after it isn't.
+#[test]
+fn views_end_where_the_size_says() {
+    for size in Size::ALL {
+        let mut station = Station::fresh(size, 3, 2, 2).unwrap();
+        let blame = |view| Message::Blame { view, author: 1 }.encode();
+        assert_eq!(station.step(&blame(size.views())).unwrap().count(), 0);
+        assert_eq!(station.step(&blame(size.views() + 1)).err(), Some(Refusal::NotAllowed));
+    }
 }
 
 #[test]
 fn kept_stores_go_on_where_they_were() {
-    let mut station = Station::fresh(5, 3, 4).unwrap();
+    let mut station = Station::fresh(Size::Small, 5, 3, 4).unwrap();
     run_to(&mut station, 9);
     let first = Message::Propose {
         view: 1,
@@ -109,24 +125,29 @@ fn kept_stores_go_on_where_they_were() {
 
 #[test]
 fn other_bytes_are_no_store() {
-    let station = Station::fresh(3, 2, 2).unwrap();
-    let bytes = station.store();
-    assert_eq!(Station::from_store(&bytes[1..]).err(), Some(Refusal::Length));
-    let mut damaged = bytes.to_vec();
-    damaged[4] = 4;
-    assert_eq!(Station::from_store(&damaged).err(), Some(Refusal::Store));
-    assert_eq!(Station::from_store(&[0; station::STORE_LENGTH]).err(), Some(Refusal::Store));
+    for size in Size::ALL {
+        let station = Station::fresh(size, 3, 2, 2).unwrap();
+        let bytes = station.store();
+        assert_eq!(Station::from_store(&bytes[1..]).err(), Some(Refusal::Length));
+        let mut damaged = bytes.to_vec();
+        damaged[4] = 4;
+        assert_eq!(Station::from_store(&damaged).err(), Some(Refusal::Store));
+        damaged.fill(0);
+        assert_eq!(Station::from_store(&damaged).err(), Some(Refusal::Store));
+    }
 }
 
 /// The calls on slices answer wrong lengths, and leave all as it was.
 #[test]
 fn lengths_are_looked_at_first() {
-    let mut out = [0xa5; station::OUT_LENGTH];
-    let mut store = vec![0x5a; station::STORE_LENGTH];
-    let one = 1 << 32;
-    assert_eq!(station::ffi::fresh(&mut store[1..], 3, 2, 0), one);
-    assert_eq!(station::ffi::tick(&mut store, &mut out[1..]), one);
-    assert_eq!(station::ffi::step(&mut [], &[], &mut out), one);
-    assert_eq!(station::ffi::offer(&mut store, &[7; 31], &mut out), one);
-    assert!(store.iter().all(|&byte| byte == 0x5a) && out.iter().all(|&byte| byte == 0xa5));
+    for size in Size::ALL {
+        let mut out = vec![0xa5; size.out_length()];
+        let mut store = vec![0x5a; size.store_length()];
+        let one = 1 << 32;
+        assert_eq!(station::ffi::fresh(&mut store[1..], 3, 2, 0), one);
+        assert_eq!(station::ffi::tick(&mut store, &mut out[1..]), one);
+        assert_eq!(station::ffi::step(&mut [], &[], &mut out), one);
+        assert_eq!(station::ffi::offer(&mut store, &[7; 31], &mut out), one);
+        assert!(store.iter().all(|&byte| byte == 0x5a) && out.iter().all(|&byte| byte == 0xa5));
+    }
 }

@@ -1,18 +1,13 @@
-//! How long the check of a store takes, in the proved station and written again in plain Rust by the same methods: empty,
-//! half full, full, and full of names that end alike.
+//! How long the check of a store takes, in the proved station and written again in plain Rust by the same methods: of a
+//! small and of a large one that is empty, half full, full, and full of names that end alike.
 //! An empty message is refused with 4 right after the check, so the call's time is the check's. Both checks are then
 //! held against each other on stores with one byte changed.
 
-use station::{Refusal, STORE_LENGTH, Station};
+use station::size::{HEADER as STATEMENTS, STATEMENT, TALLY};
+use station::{Refusal, Size, Station};
 use std::hint::black_box;
 use std::time::Instant;
 
-const STATEMENTS: usize = 68;
-const STATEMENT: usize = 80;
-const TALLIES: usize = 10_308;
-const TALLY: usize = 42;
-const BLAMES: usize = 21_060;
-const LOG: usize = 21_124;
 const GENESIS: [u8; 32] = [0; 32];
 
 fn two(s: &[u8], at: usize) -> u16 {
@@ -34,6 +29,7 @@ fn zero(s: &[u8]) -> bool {
 /// A store, taken apart as far as every part of the check needs it.
 struct Look<'a> {
     s: &'a [u8],
+    size: Size,
     n: u64,
     statements: usize,
     tallies: usize,
@@ -50,7 +46,11 @@ impl Look<'_> {
     }
 
     fn certificate(&self, height: u32, view: u32, mask: u16) -> bool {
-        if view == 0 { height == 0 && mask == 0 } else { view <= 32 && self.mask(mask) }
+        if view == 0 {
+            height == 0 && mask == 0
+        } else {
+            view <= self.size.views() && self.mask(mask)
+        }
     }
 
     fn header(&self) -> bool {
@@ -61,7 +61,7 @@ impl Look<'_> {
             && (3..=15).contains(&self.n)
             && (1..=10_000).contains(&d)
             && own < self.n
-            && (1..=32).contains(&view)
+            && (1..=self.size.views()).contains(&view)
             && entry <= clock
             && clock <= 4_000_000_000
             && (phase < 4 || (entry..=clock).contains(&(phase - 4)))
@@ -83,7 +83,7 @@ impl Look<'_> {
             2 => height >= 1 && Self::block(height - 1, link) && self.mask(mask),
             _ => false,
         };
-        said && (1..=32).contains(&view)
+        said && (1..=self.size.views()).contains(&view)
             && Self::block(height, name(s, at + 8))
             && u64::from(s[at + 41]) == u64::from(view) % self.n
             && four(s, at + 76) <= four(s, 16) + 1
@@ -91,7 +91,7 @@ impl Look<'_> {
 
     fn tally(&self, at: usize) -> bool {
         let s = self.s;
-        (1..=32).contains(&four(s, at))
+        (1..=self.size.views()).contains(&four(s, at))
             && Self::block(four(s, at + 4), name(s, at + 8))
             && u64::from(two(s, at + 40)) < 1 << self.n
     }
@@ -100,7 +100,7 @@ impl Look<'_> {
     fn find(&self, begin: usize, view: u32, height: u32, block: &[u8; 32]) -> Option<usize> {
         let key = u64::from(view) << 32 | u64::from(height);
         (begin..self.tallies).chain(0..begin).find(|i| {
-            let at = TALLIES + TALLY * i;
+            let at = self.size.tallies_at() + TALLY * i;
             u64::from_be_bytes(self.s[at..at + 8].try_into().unwrap()) == key
                 && name(self.s, at + 8) == block
         })
@@ -138,7 +138,7 @@ impl Look<'_> {
         count: usize,
         same: impl Fn(usize, usize) -> bool,
     ) -> bool {
-        let mut marks = [0; 256];
+        let mut marks = [0; Size::Large.tallies()];
         for (i, mark) in marks.iter_mut().enumerate().take(count) {
             *mark = four(self.s, base + size * i + 36);
         }
@@ -160,7 +160,7 @@ impl Look<'_> {
 
     fn tallies_distinct(&self) -> bool {
         let s = self.s;
-        self.distinct(TALLIES, TALLY, self.tallies, |a, b| {
+        self.distinct(self.size.tallies_at(), TALLY, self.tallies, |a, b| {
             s[a..a + 8] == s[b..b + 8] && s[a + 8..a + 40] == s[b + 8..b + 40]
         })
     }
@@ -169,7 +169,7 @@ impl Look<'_> {
         let s = self.s;
         let (mut parent, mut begin) = (&GENESIS, 0);
         (0..self.logged).all(|i| {
-            let block = name(s, LOG + 32 * i);
+            let block = name(s, self.size.log_at() + 32 * i);
             let found = (begin..self.statements).chain(0..begin).find(|j| {
                 let at = STATEMENTS + STATEMENT * j;
                 four(s, at + 4) == i as u32 + 1
@@ -185,27 +185,29 @@ impl Look<'_> {
 }
 
 /// What docs/STORE.md calls well formed.
-fn well_formed(s: &[u8]) -> bool {
+fn well_formed(size: Size, s: &[u8]) -> bool {
     let look = Look {
         s,
+        size,
         n: s[4].into(),
         statements: two(s, 62).into(),
         tallies: two(s, 64).into(),
         logged: two(s, 66).into(),
     };
-    look.statements <= 128
-        && look.tallies <= 256
-        && look.logged <= 128
-        && zero(&s[STATEMENTS + STATEMENT * look.statements..TALLIES])
-        && zero(&s[TALLIES + TALLY * look.tallies..BLAMES])
-        && zero(&s[LOG + 32 * look.logged..])
+    let (tallies, blames, log) = (size.tallies_at(), size.blames_at(), size.log_at());
+    look.statements <= size.statements()
+        && look.tallies <= size.tallies()
+        && look.logged <= size.statements()
+        && zero(&s[STATEMENTS + STATEMENT * look.statements..tallies])
+        && zero(&s[tallies + TALLY * look.tallies..blames])
+        && zero(&s[log + 32 * look.logged..])
         && look.header()
         && (0..look.statements).all(|i| look.statement(STATEMENTS + STATEMENT * i))
-        && (0..look.tallies).all(|i| look.tally(TALLIES + TALLY * i))
+        && (0..look.tallies).all(|i| look.tally(tallies + TALLY * i))
         && look.statements_distinct()
         && look.tallies_distinct()
         && look.all_tallied()
-        && (0..32).all(|i| u64::from(two(s, BLAMES + 2 * i)) < 1 << look.n)
+        && (0..size.views() as usize).all(|i| u64::from(two(s, blames + 2 * i)) < 1 << look.n)
         && look.linked()
 }
 
@@ -215,13 +217,13 @@ fn put(s: &mut [u8], at: usize, width: usize, value: usize) {
 
 /// A store of a chain of view 1, all of it logged, with tallies of made-up names besides. A name is a number that ends so
 /// many bytes before the name does: at 4 all names end alike.
-fn store(blocks: usize, tallies: usize, ends: usize) -> Vec<u8> {
-    let mut s = Station::fresh(3, 2, 2).unwrap().store().to_vec();
+fn store(size: Size, blocks: usize, tallies: usize, ends: usize) -> Vec<u8> {
+    let mut s = Station::fresh(size, 3, 2, 2).unwrap().store().to_vec();
     for height in 0..=blocks {
         if tallies == 0 {
             break;
         }
-        let at = TALLIES + TALLY * height;
+        let at = size.tallies_at() + TALLY * height;
         put(&mut s, at, 4, 1);
         put(&mut s, at + 4, 4, height);
         put(&mut s, at + 32 - ends, 8, height);
@@ -234,11 +236,11 @@ fn store(blocks: usize, tallies: usize, ends: usize) -> Vec<u8> {
             put(&mut s, at + 40, 2, 0x0201);
             put(&mut s, at + 42, 2, 3);
             put(&mut s, at + 68 - ends, 8, height - 1);
-            put(&mut s, LOG + 32 * height - 8 - ends, 8, height);
+            put(&mut s, size.log_at() + 32 * height - 8 - ends, 8, height);
         }
     }
     for i in blocks + 1..tallies {
-        let at = TALLIES + TALLY * i;
+        let at = size.tallies_at() + TALLY * i;
         put(&mut s, at, 4, 1);
         put(&mut s, at + 4, 4, 1000 + i);
         put(&mut s, at + 32 - ends, 8, 1000 + i);
@@ -262,37 +264,50 @@ fn least(mut call: impl FnMut() -> bool) -> f64 {
     best
 }
 
+/// Every so many bytes of a full large store one is changed, since its check takes long: a number that goes round all
+/// places of a record.
+const APART: usize = 61;
+
 fn main() {
     println!("| store | proved, µs | plain Rust, µs | ratio |\n|---|---|---|---|");
-    for (what, s) in [
-        ("empty", store(0, 0, 0)),
-        ("half full", store(64, 128, 0)),
-        ("full", store(128, 256, 0)),
-        ("full, names that end alike", store(128, 256, 4)),
-    ] {
-        let mut station = Station::from_store(&s).expect("a store of ours");
-        assert!(well_formed(&s));
-        let proved = least(|| station.step(&[]).is_ok());
-        let plain = least(|| well_formed(black_box(&s)));
-        println!("| {what} | {proved:.2} | {plain:.2} | {:.2} |", proved / plain);
+    for size in Size::ALL {
+        let (statements, tallies) = (size.statements(), size.tallies());
+        for (what, s) in [
+            ("empty", store(size, 0, 0, 0)),
+            ("half full", store(size, statements / 2, tallies / 2, 0)),
+            ("full", store(size, statements, tallies, 0)),
+            ("full, names that end alike", store(size, statements, tallies, 4)),
+        ] {
+            let mut station = Station::from_store(&s).expect("a store of ours");
+            assert!(well_formed(size, &s));
+            let proved = least(|| station.step(&[]).is_ok());
+            let plain = least(|| well_formed(size, black_box(&s)));
+            let ratio = proved / plain;
+            println!("| {size:?}, {what} | {proved:.2} | {plain:.2} | {ratio:.2} |");
+        }
     }
     let (mut seed, mut tried, mut differ) = (1u64, 0, 0);
-    for base in [store(0, 0, 0), store(9, 20, 4), store(128, 256, 0)] {
-        let mut s = base.clone();
-        for at in 0..STORE_LENGTH {
-            seed = seed
-                .wrapping_mul(6_364_136_223_846_793_005)
-                .wrapping_add(1_442_695_040_888_963_407);
-            s[at] = match seed >> 62 {
-                0 => s[at].wrapping_add(1),
-                1 => s[at].wrapping_sub(1),
-                2 => 0,
-                _ => (seed >> 40) as u8,
-            };
-            let proved = !matches!(Station::from_store(&s), Err(Refusal::Store));
-            tried += 1;
-            differ += usize::from(proved != well_formed(&s));
-            s[at] = base[at];
+    for size in Size::ALL {
+        let full = store(size, size.statements(), size.tallies(), 0);
+        let apart = if size == Size::Large { APART } else { 1 };
+        for (base, apart) in [(store(size, 0, 0, 0), 1), (store(size, 9, 20, 4), 1), (full, apart)]
+        {
+            let mut s = base.clone();
+            for at in (0..base.len()).step_by(apart) {
+                seed = seed
+                    .wrapping_mul(6_364_136_223_846_793_005)
+                    .wrapping_add(1_442_695_040_888_963_407);
+                s[at] = match seed >> 62 {
+                    0 => s[at].wrapping_add(1),
+                    1 => s[at].wrapping_sub(1),
+                    2 => 0,
+                    _ => (seed >> 40) as u8,
+                };
+                let proved = !matches!(Station::from_store(&s), Err(Refusal::Store));
+                tried += 1;
+                differ += usize::from(proved != well_formed(size, &s));
+                s[at] = base[at];
+            }
         }
     }
     println!("\n{tried} stores with one byte changed, {differ} judged differently");

@@ -7,6 +7,7 @@
 
 use compare::{Met, run, sources, tell, text};
 use programs::Second;
+use station::Size;
 use std::process::ExitCode;
 
 fn main() -> ExitCode {
@@ -32,6 +33,7 @@ fn main() -> ExitCode {
 
 /// The inputs of a random run.
 fn random(seed: u64) -> String {
-    let (inputs, _) = run::<Second>(sources::Scripted::new(seed), &mut Met::default());
+    let script = sources::Scripted::new(Size::Small, seed);
+    let (inputs, _) = run::<Second>(Size::Small, script, &mut Met::default());
     text::write(&inputs)
 }

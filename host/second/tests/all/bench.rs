@@ -1,6 +1,8 @@
-//! 01's "Examples on the bench", in their order: n=3, D=2.
+//! 01's "Examples on the bench", in their order: n=3, D=2. Of those at 33 and 129 the like with the
+//! large limits beside them: 02's "257 and 513".
 
 use crate::common::*;
+use second::Limits;
 
 /// The propose of height 1 in view 1 that the examples use.
 fn first() -> Bytes {
@@ -91,7 +93,7 @@ fn one_propose_vote_puts_the_blame_off_to_18() {
 
 #[test]
 fn settings() {
-    let fresh = |n, d, own| second::Station::fresh(n, d, own).err().unwrap_or(0);
+    let fresh = |n, d, own| second::Station::fresh(Limits::SMALL, n, d, own).err().unwrap_or(0);
     assert_eq!(fresh(4, 2, 0), 10);
     assert_eq!(fresh(3, 0, 0), 10);
     assert_eq!(fresh(3, 10_001, 0), 10);
@@ -100,12 +102,15 @@ fn settings() {
 
 #[test]
 fn views_and_masks_out_of_range_are_not_allowed() {
-    let mut bench = Bench::new(3, 2, 2);
-    bench.refused_step(5, &blame(33, 1));
-    bench.refused_step(5, &blame(0, 1));
-    bench.refused_step(5, &blame_set(1, 0b1011));
-    bench.refused_step(5, &propose(1, 1, name(1), ZERO, 0b010, 1));
-    bench.refused_step(5, &status(1, name(1), 1, 0b100));
+    for (limits, over) in [(Limits::SMALL, 33), (Limits::LARGE, 257)] {
+        let mut bench = Bench::of(limits, 3, 2, 2);
+        bench.refused_step(5, &blame(over, 1));
+        bench.step(&blame(over - 1, 1));
+        bench.refused_step(5, &blame(0, 1));
+        bench.refused_step(5, &blame_set(1, 0b1011));
+        bench.refused_step(5, &propose(1, 1, name(1), ZERO, 0b010, 1));
+        bench.refused_step(5, &status(1, name(1), 1, 0b100));
+    }
 }
 
 #[test]
@@ -140,16 +145,18 @@ fn a_byte_short_or_long_is_unreadable() {
 }
 
 #[test]
-fn the_129th_new_statement_is_refused_and_a_repeat_is_not() {
+fn the_129th_or_513th_new_statement_is_refused_and_a_repeat_is_not() {
     let link = |height: u16| {
         let parent = if height == 1 { ZERO } else { name(height - 1) };
         propose(1, u32::from(height), name(height), parent, 0b011, 1)
     };
-    let mut bench = Bench::new(3, 2, 2);
-    for height in 1..=128 {
-        assert_eq!(bench.step(&link(height)).len(), 160);
+    for (limits, over) in [(Limits::SMALL, 129), (Limits::LARGE, 513)] {
+        let mut bench = Bench::of(limits, 3, 2, 2);
+        for height in 1..over {
+            assert_eq!(bench.step(&link(height)).len(), 160);
+        }
+        assert_eq!(bench.step(&link(1)), []);
+        bench.refused_step(6, &link(over));
+        bench.refused_step(3, &link(1));
     }
-    assert_eq!(bench.step(&link(1)), []);
-    bench.refused_step(6, &link(129));
-    bench.refused_step(3, &link(1));
 }

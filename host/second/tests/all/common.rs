@@ -1,10 +1,12 @@
 //! What the tests share: messages built by hand, byte by byte, and a bench that a station is put on.
 
-use second::{Cause, Phase, Station};
+use second::{Cause, Limits, Phase, Station};
 
 pub type Bytes = Vec<u8>;
 
 pub const ZERO: [u8; 32] = [0; 32];
+
+pub const ROWS: [Limits; 2] = [Limits::SMALL, Limits::LARGE];
 
 /// A name for a small number; smaller numbers have smaller names.
 pub fn name(number: u16) -> [u8; 32] {
@@ -115,8 +117,13 @@ pub struct Bench {
 }
 
 impl Bench {
+    /// A station with 01's limits.
     pub fn new(n: u64, d: u64, own: u64) -> Bench {
-        Bench { station: Station::fresh(n, d, own).expect("good settings") }
+        Bench::of(Limits::SMALL, n, d, own)
+    }
+
+    pub fn of(limits: Limits, n: u64, d: u64, own: u64) -> Bench {
+        Bench { station: Station::fresh(limits, n, d, own).expect("good settings") }
     }
 
     fn call(&mut self, call: &Call, out: &mut Bytes) -> u32 {
@@ -130,7 +137,7 @@ impl Bench {
     fn done(&mut self, call: &Call) -> Bytes {
         let mut out = Bytes::new();
         assert_eq!(self.call(call, &mut out), 0);
-        assert!(out.len() <= second::Settings::OUT);
+        assert!(out.len() <= self.station.settings().limits().out);
         out
     }
 
@@ -200,7 +207,8 @@ impl Bench {
 /// Everything that a station shows, but its phase.
 pub fn all_but_phase(station: &Station) -> impl PartialEq + std::fmt::Debug + '_ {
     let clocks = (station.view(), station.clock(), station.entry());
-    let blames: Vec<u16> = (0..=second::Settings::VIEWS).map(|view| station.blames(view)).collect();
+    let views = 0..=station.settings().limits().views;
+    let blames: Vec<u16> = views.map(|view| station.blames(view)).collect();
     let log: Vec<second::Name> = station.log().collect();
     let (settings, lock) = (station.settings(), station.lock());
     (settings, clocks, lock, station.statements(), station.tallies(), blames, log)

@@ -2,7 +2,7 @@
 //! its end and is tested beside the tick.
 
 use crate::common::*;
-use second::{Phase, Station};
+use second::{Limits, Phase, Station};
 
 /// A station of view 1 stopped by a split: height 1 committed in view 1, another in view 2.
 fn split() -> Bench {
@@ -139,32 +139,39 @@ fn number_5_is_every_sentence_of_allowed() {
 /// The nearest allowed ones to those.
 #[test]
 fn messages_at_the_edge_are_allowed() {
-    for message in [
-        new_view(32, 65_535, name(1), 31, 7, 2),
-        new_view(2, 0, ZERO, 1, 7, 2),
-        new_view(2, 0, ZERO, 0, 0, 2),
-        propose(32, 65_535, name(1), name(2), 0b11111, 2),
-        propose(6, 1, name(1), ZERO, 7, 1),
-        vote(32, 65_535, name(1), 4),
-        vote(1, 0, ZERO, 0),
-        blame(32, 4),
-        blame_set(32, 0b11100),
-        status(65_535, name(1), 32, 7),
-        status(0, ZERO, 32, 7),
-        status(0, ZERO, 0, 0),
-    ] {
-        Bench::new(5, 1, 0).step(&message);
+    for limits in ROWS {
+        let last = limits.views;
+        let leader = (last % 5) as u8;
+        for message in [
+            new_view(last, 65_535, name(1), last - 1, 7, leader),
+            new_view(2, 0, ZERO, 1, 7, 2),
+            new_view(2, 0, ZERO, 0, 0, 2),
+            propose(last, 65_535, name(1), name(2), 0b11111, leader),
+            propose(6, 1, name(1), ZERO, 7, 1),
+            vote(last, 65_535, name(1), 4),
+            vote(1, 0, ZERO, 0),
+            blame(last, 4),
+            blame_set(last, 0b11100),
+            status(65_535, name(1), last, 7),
+            status(0, ZERO, last, 7),
+            status(0, ZERO, 0, 0),
+        ] {
+            Bench::of(limits, 5, 1, 0).step(&message);
+        }
     }
 }
 
 #[test]
 fn number_6_stops_the_station() {
-    let mut bench = Bench::new(3, 1, 0);
-    for number in 0..256 {
-        bench.step(&vote(9, 1, name(number), 1));
+    for limits in ROWS {
+        let mut bench = Bench::of(limits, 3, 1, 0);
+        let room = limits.tallies as u16;
+        for number in 0..room {
+            bench.step(&vote(9, 1, name(number), 1));
+        }
+        bench.refused_step(6, &vote(9, 1, name(room), 1));
+        bench.refused(3, Call::Tick);
     }
-    bench.refused_step(6, &vote(9, 1, name(256), 1));
-    bench.refused(3, Call::Tick);
 }
 
 #[test]
@@ -233,9 +240,16 @@ fn number_10_is_each_bad_setting() {
         (3, 1, 256),
         (u64::MAX, u64::MAX, u64::MAX),
     ] {
-        assert_eq!(Station::fresh(n, d, own).err(), Some(10), "n={n} D={d} own={own}");
+        assert_eq!(
+            Station::fresh(Limits::SMALL, n, d, own).err(),
+            Some(10),
+            "n={n} D={d} own={own}"
+        );
     }
     for n in (3..=15).step_by(2) {
-        assert!(Station::fresh(n, 1, n - 1).is_ok() && Station::fresh(n, 10_000, 0).is_ok());
+        for limits in ROWS {
+            assert!(Station::fresh(limits, n, 1, n - 1).is_ok());
+            assert!(Station::fresh(limits, n, 10_000, 0).is_ok());
+        }
     }
 }

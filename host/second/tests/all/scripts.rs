@@ -1,14 +1,14 @@
 //! Scripts: the same for a seed, reaching what they should, and leaving the station in order.
 
-use crate::common::all_but_phase;
+use crate::common::{all_but_phase, ROWS};
 use second::replay::{replay, Event, Input};
 use second::scripts::Script;
-use second::{Block, Settings, Statement, Station};
+use second::{Block, Limits, Statement, Station};
 use std::collections::BTreeSet;
 
 #[test]
 fn a_seed_gives_one_script() {
-    let events = |seed| Script::new(seed).take(400).collect::<Vec<Event>>();
+    let events = |seed| Script::new(Limits::SMALL, seed).take(400).collect::<Vec<Event>>();
     for seed in 0..20 {
         assert_eq!(events(seed), events(seed));
         assert_ne!(events(seed), events(seed + 1));
@@ -17,9 +17,10 @@ fn a_seed_gives_one_script() {
 
 #[test]
 fn a_script_reads_as_a_recorded_run() {
-    for seed in 0..20 {
-        let text: String = Script::new(seed).take(300).map(|event| format!("{event}\n")).collect();
-        assert_eq!(replay(&text), Ok(text.lines().count() / 2));
+    for (seed, limits) in (0..20).zip(ROWS.into_iter().cycle()) {
+        let events = Script::new(limits, seed).take(300);
+        let text: String = events.map(|event| format!("{event}\n")).collect();
+        assert_eq!(replay(limits, &text), Ok(text.lines().count() / 2));
     }
 }
 
@@ -48,7 +49,7 @@ fn scripts_reach_every_answer_and_every_outgoing_kind() {
     let mut views = BTreeSet::new();
     let mut offers = 0;
     for seed in 0..600 {
-        let mut script = Script::new(seed);
+        let mut script = Script::new(Limits::SMALL, seed);
         for event in script.by_ref().take(1000) {
             answers.insert(event.answer.code);
             sent.extend(kinds(&event.answer.out));
@@ -67,13 +68,13 @@ fn scripts_reach_every_answer_and_every_outgoing_kind() {
 /// Over scripts, each call keeps what 01 says of refusals, and the station stays in order.
 #[test]
 fn stations_stay_in_order() {
-    for seed in 1000..1200 {
-        let mut script = Script::new(seed);
+    for (seed, limits) in (1000..1200).zip(ROWS.into_iter().cycle()) {
+        let mut script = Script::new(limits, seed);
         let mut before: Option<Station> = None;
         while let Some(event) = script.next() {
             let station = script.station().expect("a station after the first event");
             let number = event.answer.code;
-            assert!(event.answer.out.len() <= Settings::OUT);
+            assert!(event.answer.out.len() <= limits.out);
             if let (Some(before), true) = (&before, number != 0) {
                 assert!(event.answer.out.is_empty());
                 assert!(all_but_phase(station) == all_but_phase(before));
@@ -91,7 +92,8 @@ fn stations_stay_in_order() {
 /// What ruling 15 says of a well-formed store, as far as a host can see it.
 fn assert_in_order(station: &Station) {
     let (statements, tallies) = (station.statements(), station.tallies());
-    assert!(statements.len() <= Settings::STATEMENTS && tallies.len() <= Settings::TALLIES);
+    let limits = station.settings().limits();
+    assert!(statements.len() <= limits.statements && tallies.len() <= limits.tallies);
     assert!(station.entry() <= station.clock() && station.lock().view < station.view());
     let has_tally = |block: &Block| tallies.iter().any(|tally| tally.block == *block);
     for (place, statement) in statements.iter().enumerate() {

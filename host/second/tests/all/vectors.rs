@@ -1,18 +1,20 @@
 //! A sample of the recorded runs; `replay` takes any others by their paths.
 
-use second::replay::replay;
+use second::Limits;
 
 macro_rules! recorded {
-    ($($test:ident: $file:literal),* $(,)?) => {$(
+    ($limits:expr, $($test:ident: $file:literal),* $(,)?) => {$(
         #[test]
         fn $test() {
             let text = include_str!(concat!("../data/", $file));
-            assert!(replay(text).expect("answers as recorded") > 0);
+            let replayed = second::replay::replay($limits, text);
+            assert!(replayed.expect("answers as recorded") > 0);
         }
     )*};
 }
 
 recorded! {
+    Limits::SMALL,
     settings: "settings.txt",
     fuzz_002: "fuzz-002.txt",
     fuzz_005: "fuzz-005.txt",
@@ -22,8 +24,16 @@ recorded! {
     damage_5: "damage-5.txt",
 }
 
+recorded! {
+    Limits::LARGE,
+    large_fuzz_001: "large/fuzz-001.txt",
+    large_fuzz_005: "large/fuzz-005.txt",
+    large_views: "large/views.txt",
+}
+
 #[test]
 fn another_answer_is_found() {
+    let replay = |text| second::replay::replay(Limits::SMALL, text);
     assert_eq!(replay("fresh 3 1 0\n= 0 -\n# a remark\ntick\n= 0 -\n"), Ok(2));
     assert!(replay("fresh 3 1 0\n= 10 -\n").is_err());
     assert!(replay("fresh 3 1 0\n= 0 -\ntick\n= 0 00\n").is_err());
