@@ -35,9 +35,15 @@ use Rattle.choose.specs.Choose.{sizeOfKind, stations, group, reported, r
 -- ---- which one is taken
 
 -- two reports by their ranks
-pub ranked : {v h w k : ℕ} {o p : Option Certificate} → Rank v h o → Rank w k p → elim (ltb v w || (eqb v w && ltb h k)) [ true ↦ 2 | false ↦ 1 ] ≡ taken o p
+ranked : {v h w k : ℕ} {o p : Option Certificate} → Rank v h o → Rank w k p → elim (ltb v w || (eqb v w && ltb h k)) [ true ↦ 2 | false ↦ 1 ] ≡ taken o p
 unfolding taken below
 ranked r q = rw (r .is, q .is, r .view-is, q .view-is, r .height-is, q .height-is)
+
+pub ranks-higher : {v h w k : ℕ} {o p : Option Certificate} → Rank v h o → Rank w k p → (ltb v w || (eqb v w && ltb h k)) ≡ true → 2 ≡ taken o p
+ranks-higher r q t = sym (ap (λ (b : Bool). elim b [ true ↦ 2 | false ↦ 1 ]) t) ∙ ranked r q
+
+pub ranks-not-higher : {v h w k : ℕ} {o p : Option Certificate} → Rank v h o → Rank w k p → (ltb v w || (eqb v w && ltb h k)) ≡ false → 1 ≡ taken o p
+ranks-not-higher r q t = sym (ap (λ (b : Bool). elim b [ true ↦ 2 | false ↦ 1 ]) t) ∙ ranked r q
 
 -- the rank of a certificate is its own
 own-rank : (c : Certificate) → Rank (c .view) (c .height) (some c)

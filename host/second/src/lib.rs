@@ -2,13 +2,14 @@
 //! 01 and 02 and the rulings alone. The proved station is compared with it, in answers, bytes and speed.
 //!
 //! `settings` has the limits, `words` the records, `wire` the messages, `station` what a message and
-//! an offer do, `tick` what a tick does. `replay` reads recorded runs, `scripts` makes new ones.
+//! an offer do, `tick` what a tick does, `report` chooses between two reports. `replay` reads recorded runs, `scripts` makes new ones.
 
 #![forbid(unsafe_code)]
 
 pub mod random;
 pub mod refusal;
 pub mod replay;
+mod report;
 pub mod scripts;
 pub mod settings;
 pub mod station;
@@ -17,6 +18,7 @@ pub mod wire;
 pub mod words;
 
 pub use refusal::{Cause, Refusal};
+pub use report::choose;
 pub use settings::{Limits, Settings};
 pub use station::{Phase, Station};
 pub use words::{Block, Made, Name, Statement, Tally};

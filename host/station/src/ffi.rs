@@ -1,4 +1,4 @@
-//! The four calls of `include/station.h` on slices: here is the crate's only `unsafe`.
+//! The calls of `include/station.h` on slices: here is the crate's only `unsafe`.
 //!
 //! The calls answer every length and every content, and write to nothing but the store and the out
 //! buffer. A result is the refusal's number times 2^32, plus the count of bytes written: see
@@ -27,10 +27,18 @@ mod declared {
             out: *mut u8,
             out_len: usize,
         ) -> u64;
+        pub fn status_choose(
+            kind: u64,
+            n: u64,
+            first: *const u8,
+            first_len: usize,
+            second: *const u8,
+            second_len: usize,
+        ) -> u64;
     }
 }
 
-// SAFETY, of all four: each pointer comes with the length of the slice it was taken from, the slices
+// SAFETY, of all: each pointer comes with the length of the slice it was taken from, the slices
 // are borrowed for the whole call, and those that are written can't overlap another.
 
 /// A fresh store.
@@ -67,6 +75,20 @@ pub fn offer(store: &mut [u8], name: &[u8], out: &mut [u8]) -> u64 {
             name.len(),
             out.as_mut_ptr(),
             out.len(),
+        )
+    }
+}
+
+/// Whose certificate part to take: 1 the first's, 2 the second's, 0 neither's.
+pub fn choose(kind: u64, n: u64, first: &[u8], second: &[u8]) -> u64 {
+    unsafe {
+        declared::status_choose(
+            kind,
+            n,
+            first.as_ptr(),
+            first.len(),
+            second.as_ptr(),
+            second.len(),
         )
     }
 }

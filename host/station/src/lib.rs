@@ -2,7 +2,7 @@
 //!
 //! A [`Station`] takes messages, ticks and offers, and gives back [`Effects`]: what to send, and what
 //! it committed. It does no input or output of its own. The station itself is the proved archive
-//! behind the four calls in [`ffi`]; this crate owns the buffers and gives bytes their types.
+//! behind the calls in [`ffi`]; this crate owns the buffers and gives bytes their types.
 //! docs/HOST.md says what a host must do, and what it may rely on.
 //!
 //! ```
@@ -28,6 +28,7 @@ mod effect;
 pub mod ffi;
 mod message;
 mod refusal;
+mod report;
 pub mod size;
 mod station;
 mod store;
@@ -35,6 +36,7 @@ mod store;
 pub use effect::{Effect, Effects};
 pub use message::{GENESIS, Message, Name};
 pub use refusal::{Refusal, answer};
+pub use report::choose;
 pub use size::Size;
 pub use station::Station;
 pub use store::{Cause, Lock, Phase};

@@ -6,7 +6,7 @@ use Rattle.choose.specs.Choose.{taken}
 use Rattle.choose.specs.Meaning.{Ranks}
 use Rattle.choose.specs.declared.Report.{Report}
 use Rattle.choose.specs.declared.Report.the-variants.{Certified, Nothing}
-use Rattle.choose.proofs.Laws.{ranked, only-first, only-second, neither}
+use Rattle.choose.proofs.Laws.{ranks-higher, ranks-not-higher, only-first, only-second, neither}
 use borrow.Author.Needs.{needs}
 use Rattle.choose.proofs.decide.Statement.{statement}
 use Rattle.choose.proofs.decide.Tie as tie
@@ -33,7 +33,7 @@ returns c =
     let after-second = after-other .before .before in
     let after-view = after-second .before .before in
     let after-first = after-view .before .before in
-    sym (rw (c .if1 .taken)) ∙ ranked (known _ (after-view .view .given .1) (after-first .rank-of .ensures)) (known _ (after-other .other-view .given .1) (after-second .rank-of2 .ensures))
+    ranks-higher (known _ (after-view .view .given .1) (after-first .rank-of .ensures)) (known _ (after-other .other-view .given .1) (after-second .rank-of2 .ensures)) (c .if1 .taken)
 
 enum-told : tie.Need-enum-told
 enum-told c = search needs
@@ -56,7 +56,7 @@ returns-2 c =
     let after-second = after-other .before .before in
     let after-view = after-second .before .before in
     let after-first = after-view .before .before in
-    sym (rw (c .if1 .left)) ∙ ranked (known _ (after-view .view .given .1) (after-first .rank-of .ensures)) (known _ (after-other .other-view .given .1) (after-second .rank-of2 .ensures))
+    ranks-not-higher (known _ (after-view .view .given .1) (after-first .rank-of .ensures)) (known _ (after-other .other-view .given .1) (after-second .rank-of2 .ensures)) (c .if1 .left)
 
 returns-3 : tie.Need-returns-3
 returns-3 c =
