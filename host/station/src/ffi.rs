@@ -82,13 +82,6 @@ pub fn offer(store: &mut [u8], name: &[u8], out: &mut [u8]) -> u64 {
 /// Whose certificate part to take: 1 the first's, 2 the second's, 0 neither's.
 pub fn choose(kind: u64, n: u64, first: &[u8], second: &[u8]) -> u64 {
     unsafe {
-        declared::status_choose(
-            kind,
-            n,
-            first.as_ptr(),
-            first.len(),
-            second.as_ptr(),
-            second.len(),
-        )
+        declared::status_choose(kind, n, first.as_ptr(), first.len(), second.as_ptr(), second.len())
     }
 }
