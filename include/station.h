@@ -88,6 +88,13 @@ uint64_t journal_replay(const uint8_t *journal, size_t journal_len, uint8_t *sto
  * only read. Refusals 1 and 2. */
 uint64_t station_display(const uint8_t *store, size_t store_len, uint8_t *out, size_t out_len);
 
+/* Two status messages, of which a new leader's host often holds two: whose certificate part to take, in a group of this
+ * kind (0 with the small limits, 4 with the large ones) with n stations. Answers 1 for the first's part, 2 for the
+ * second's, and 0 where neither is readable and allowed; equal rank gives the first. A part is bytes 4 to 58 of its
+ * message, from the height field to the end. Nothing is written, and nothing is refused: with any other kind, or an n
+ * that isn't good, nothing is allowed. */
+uint64_t status_choose(uint64_t kind, uint64_t n, const uint8_t *first, size_t first_len, const uint8_t *second, size_t second_len);
+
 #ifdef __cplusplus
 }
 #endif

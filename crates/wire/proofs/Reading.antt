@@ -1,7 +1,7 @@
 -- Reading by places is reading: a reader moves behind field after field to the end, and what it has is the message. Assumes nothing.
 use Prim.Native.Nat.{ℕ, zero, suc, _+_, _-_, _*_, _/_, _%_, _^_, _<_, _≤_}
 use mathlib.Core.Path.{_≡_, refl, sym, ap, ap₂, subst, _∙_}
-use mathlib.Core.Bool.{Bool, true, false, _&&_, _||_, and-true}
+use mathlib.Core.Bool.{Bool, true, false, _&&_, and-true}
 use mathlib.Core.List.{List, [], _∷_, _++_, map}
 use mathlib.Core.Option.{Option, none, some, Option·map}
 use native.Mathlib.Omega.{arith}
@@ -11,10 +11,12 @@ use lib.Dec.{leb, eqb}
 use borrow.Author.Tests.{eqb-true, eqb-false, eq-eqb, ne-eqb, leb-true, leb-false, le-leb, lt-leb}
 use Rattle.fields.specs.Places.{Bytes, number}
 use Rattle.fields.proofs.Lists.{number-cons, number-piece}
-use Rattle.rules.specs.Lists.{be, unbe, within as between, any, all, keep}
+use Rattle.rules.specs.Lists.{be, unbe, iff, within as between, any, all, keep}
 use Rattle.rules.specs.Messages.{Message, Row, table, rowOf, tagsOf, width, after, readField, reads, body, read}
+use Rattle.rules.specs.Sizes.{holds}
 use Rattle.rules.proofs.Tests.{by-bool, no-bool, and-left, and-right}
-use Rattle.wire.specs.Fields.{head, isField, numberOf, behind, has, Place, value, start, moved, walked, made, ended}
+use Rattle.rules.proofs.Truths.{iff-eq}
+use Rattle.wire.specs.Fields.{head, isField, numberOf, behind, has, Tags, Place, value, start, moved, walked, made, ended}
 
 -- a field that stands at a place lies within the message
 pub field-room : (s : List ℕ) (at t w : ℕ) → isField s at t w ≡ true → at + 3 + w ≤ length s
@@ -145,22 +147,21 @@ lost ts s at h = rw (lt-leb at (length s) h, readsAt)
 within : (ts s : List ℕ) (at : ℕ) → at ≤ length s → readsAt ts s at ≡ reads ts (drop at s)
 within ts s at h = rw (le-leb at (length s) h, readsAt)
 
--- tests joined one after the other, as the code joins them
-abbrev joined : (ℕ → Bool) → Bool → List ℕ → Bool
-joined p a [] = a
-joined p a (x ∷ xs) = joined p (a || p x) xs
+-- a test of the numbers below one, tried on each
+unfoldable pub tried : (ℕ → Bool) → ℕ → Bool
+tried p zero = true
+tried p (suc n) = p n && tried p n
 
-joined-any : (p : ℕ → Bool) (a : Bool) (xs : List ℕ) → joined p a xs ≡ elim a [ true ↦ true | false ↦ any p xs ]
-unfolding any
-joined-any p true [] = refl
-joined-any p false [] = refl
-joined-any p true (x ∷ xs) = joined-any p true xs
-joined-any p false (x ∷ xs) = joined-any p (p x) xs
+tried-at : (p : ℕ → Bool) (n i : ℕ) → tried p n ≡ true → i < n → p i ≡ true
+unfolding tried
+tried-at p zero i e h = absurd (omega arith)
+tried-at p (suc n) i e h =
+    by-bool (eqb n i) (λ q. ap p (sym (eqb-true n i q)) ∙ and-left (p n) (tried p n) e)
+    (λ q. tried-at p n i (and-right (p n) (tried p n) e) (omega (arith, eqb-false n i q)))
 
--- a kind's tags, tested one after the other
-pub has-tags : (k t : ℕ) (ts : List ℕ) → tagsOf k ≡ ts → joined (eqb t) (eqb t 1) ts ≡ has k t
-unfolding has any
-has-tags k t ts e = joined-any (eqb t) (eqb t 1) ts ∙ rw e
+-- a kind's tags as bits: held against the table
+pub tags-by : (k m : ℕ) → tried (λ t. iff (holds m t) (has k t)) 9 ≡ true → Tags k m
+tags-by k m e t h = iff-eq (holds m t) (has k t) (tried-at (λ t. iff (holds m t) (has k t)) 9 t e (omega arith))
 
 -- a kind outside 1 to 6 has no row, and no tag but the first
 pub no-row : (k : ℕ) → (k ≡ 1 → ⊥) → (k ≡ 2 → ⊥) → (k ≡ 3 → ⊥) → (k ≡ 4 → ⊥) → (k ≡ 5 → ⊥) → (k ≡ 6 → ⊥) → rowOf k ≡ none
@@ -174,9 +175,14 @@ no-row (suc (suc (suc (suc (suc zero))))) a b c d e f = absurd (e refl)
 no-row (suc (suc (suc (suc (suc (suc zero)))))) a b c d e f = absurd (f refl)
 no-row (suc (suc (suc (suc (suc (suc (suc k))))))) a b c d e f = refl
 
-pub no-tags : (k : ℕ) → rowOf k ≡ none → tagsOf k ≡ []
+no-tags : (k : ℕ) → rowOf k ≡ none → tagsOf k ≡ []
 unfolding tagsOf
 no-tags k e = rw (e, tagsOf)
+
+-- such a kind has what kind 0 has
+pub tags-other : (k m : ℕ) → rowOf k ≡ none → Tags 0 m → Tags k m
+unfolding has tagsOf rowOf
+tags-other k m r h t l = h t l ∙ rw (no-tags k r, has)
 
 -- what holds of each of some numbers holds of one that is among them
 in-all : (p : ℕ → Bool) (t : ℕ) (ts : List ℕ) → all p ts ≡ true → any (eqb t) ts ≡ true → p t ≡ true
@@ -197,6 +203,14 @@ tags-within (suc (suc (suc (suc zero)))) = refl
 tags-within (suc (suc (suc (suc (suc zero))))) = refl
 tags-within (suc (suc (suc (suc (suc (suc zero)))))) = refl
 tags-within (suc (suc (suc (suc (suc (suc (suc k))))))) = refl
+
+-- and no tag above 8
+pub tag-above : (k t : ℕ) → 8 < t → false ≡ has k t
+unfolding has between
+tag-above k t h =
+    by-bool (has k t)
+    (λ e. let w = in-all (between 1 8) t (1 ∷ tagsOf k) (tags-within k) e in absurd (omega (arith, leb-true t 8 (and-right (leb 1 t) (leb t 8) w))))
+    sym
 
 above-four : (t : ℕ) → 1 ≤ t → (t ≡ 1 → ⊥) → (t ≡ 2 → ⊥) → (t ≡ 3 → ⊥) → (t ≡ 4 → ⊥) → 5 ≤ t
 above-four t l a b c d = omega arith

@@ -1,5 +1,5 @@
 -- Fields at places of a message, and the place of a reader in it. A reader that misses a field is lost: its place is past the end, where nothing stands. Assumes nothing.
-use Prim.Native.Nat.{ℕ, zero, suc, _+_, _*_, _^_, _<_}
+use Prim.Native.Nat.{ℕ, zero, suc, _+_, _*_, _^_, _<_, _≤_}
 use mathlib.Core.Path.{_≡_}
 use mathlib.Core.Bool.{Bool, true, false, _&&_}
 use mathlib.Core.List.{List, [], _∷_}
@@ -9,6 +9,7 @@ use lib.Dec.{leb, eqb}
 use Rattle.fields.specs.Places.{number}
 use Rattle.rules.specs.Lists.{any}
 use Rattle.rules.specs.Messages.{Message, width, tagsOf, rowOf}
+use Rattle.rules.specs.Sizes.{holds}
 
 -- the tag and the length of a field, as one number of three bytes
 abbrev pub head : ℕ → ℕ → ℕ
@@ -38,6 +39,10 @@ pub record Found (s : List ℕ) (at t w value next : ℕ) : Type 0 where
 unfoldable pub has : ℕ → ℕ → Bool
 unfolding any tagsOf
 has k t = any (eqb t) (1 ∷ tagsOf k)
+
+-- the same of tags as the bits of a number
+abbrev pub Tags : ℕ → ℕ → Type 0
+Tags k m = (t : ℕ) → t ≤ 8 → holds m t ≡ has k t
 
 -- a place in a message, and the values read before it: that of a tag stands at the tag's number, 0 where none was read
 pub record Place : Type 0 where

@@ -5,7 +5,7 @@ use fields::Name;
 ghost use mathlib.Core.Path.{_≡_};
 ghost use Prim.Native.Nat.{_≤_};
 ghost use Rattle.fields.specs.Names.{nameOf};
-ghost use Rattle.wire.specs.Fields.{isField, Found, has as contains, start, moved, walked, ended};
+ghost use Rattle.wire.specs.Fields.{isField, Found, has as contains, Tags, start, moved, walked, ended};
 ghost use Rattle.wire.specs.Meaning.{placeOf, readOf};
 
 // A place in a message, and the values that were read before it, 0 where none was.
@@ -92,31 +92,29 @@ fn name_at(s: &[u8], at: usize, tag: u8) -> Named
     }
 }
 
-// Whether a message of a kind has a field of a tag; every message has its kind.
+// The tags of a kind's fields, tag t as bit t; every message has its kind.
+fn tags_of(kind: u8) -> u64
+    ensures { λ r. ⌜ Tags kind r ⌝ }
+{
+    match kind {
+        1 => 0b1_1101_1110,
+        2 => 0b1_1011_1110,
+        3 => 0b1_0001_1110,
+        4 => 0b1_0000_0110,
+        5 => 0b0_1000_0110,
+        6 => 0b0_1101_1010,
+        _ => 0b0_0000_0010,
+    }
+}
+
+// Whether a message of a kind has a field of a tag.
 fn has(kind: u8, tag: u8) -> bool
     ensures { λ r. ⌜ r ≡ contains kind tag ⌝ }
 {
-    match kind {
-        1 => (tag == 1)
-            | (tag == 2)
-            | (tag == 3)
-            | (tag == 4)
-            | (tag == 6)
-            | (tag == 7)
-            | (tag == 8),
-        2 => (tag == 1)
-            | (tag == 2)
-            | (tag == 3)
-            | (tag == 4)
-            | (tag == 5)
-            | (tag == 7)
-            | (tag == 8),
-        3 => (tag == 1) | (tag == 2) | (tag == 3) | (tag == 4) | (tag == 8),
-        4 => (tag == 1) | (tag == 2) | (tag == 8),
-        5 => (tag == 1) | (tag == 2) | (tag == 7),
-        6 => (tag == 1) | (tag == 3) | (tag == 4) | (tag == 6) | (tag == 7),
-        _ => tag == 1,
+    if 8 < tag {
+        return false;
     }
+    (tags_of(kind) >> (tag as u64)) % 2 == 1
 }
 
 // The cursor behind the field of a tag, with its value; where the kind has no such field, the same cursor.

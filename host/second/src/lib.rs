@@ -3,7 +3,8 @@
 //! compared with it, in answers, bytes and speed.
 //!
 //! `settings` has the limits, `words` the records, `wire` the messages, `station` what a message and
-//! an offer do, `tick` what a tick does, `display` what the wall display shows. `replay` reads recorded runs, `scripts` makes new ones.
+//! an offer do, `tick` what a tick does, `display` what the wall display shows,
+//! `report` chooses between two reports. `replay` reads recorded runs, `scripts` makes new ones.
 
 #![forbid(unsafe_code)]
 
@@ -11,6 +12,7 @@ mod display;
 pub mod random;
 pub mod refusal;
 pub mod replay;
+mod report;
 pub mod scripts;
 pub mod settings;
 pub mod station;
@@ -20,6 +22,7 @@ pub mod words;
 
 pub use display::Shown;
 pub use refusal::{Cause, Refusal};
+pub use report::choose;
 pub use settings::{Limits, Settings};
 pub use station::{Phase, Station};
 pub use words::{Block, Made, Name, Statement, Tally};

@@ -33,6 +33,14 @@ mod declared {
             out: *mut u8,
             out_len: usize,
         ) -> u64;
+        pub fn status_choose(
+            kind: u64,
+            n: u64,
+            first: *const u8,
+            first_len: usize,
+            second: *const u8,
+            second_len: usize,
+        ) -> u64;
     }
 }
 
@@ -80,4 +88,11 @@ pub fn offer(store: &mut [u8], name: &[u8], out: &mut [u8]) -> u64 {
 /// The wall display, which leaves the store as it is.
 pub fn display(store: &[u8], out: &mut [u8]) -> u64 {
     unsafe { declared::station_display(store.as_ptr(), store.len(), out.as_mut_ptr(), out.len()) }
+}
+
+/// Whose certificate part to take: 1 the first's, 2 the second's, 0 neither's.
+pub fn choose(kind: u64, n: u64, first: &[u8], second: &[u8]) -> u64 {
+    unsafe {
+        declared::status_choose(kind, n, first.as_ptr(), first.len(), second.as_ptr(), second.len())
+    }
 }

@@ -37,6 +37,14 @@ impl Size {
         }
     }
 
+    /// The number of the kind of group that has this size, for calls without a store.
+    pub const fn kind(self) -> u64 {
+        match self {
+            Size::Small => 0,
+            Size::Large => 4,
+        }
+    }
+
     /// The last view.
     pub const fn views(self) -> u32 {
         self.row().0

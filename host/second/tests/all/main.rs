@@ -5,6 +5,7 @@ mod bench;
 mod common;
 mod limits;
 mod refusals;
+mod reports;
 mod rulings;
 mod scripts;
 mod slips;

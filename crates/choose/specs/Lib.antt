@@ -1,0 +1,3 @@
+pub mod Choose
+pub mod Meaning
+pub mod Examples
