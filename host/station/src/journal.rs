@@ -129,6 +129,11 @@ impl Journal {
         self.slots
     }
 
+    /// The place of the first blank one, into which the next record goes.
+    pub fn next(&self) -> u32 {
+        self.next
+    }
+
     /// How many of them are blank.
     pub fn room(&self) -> u32 {
         self.slots - self.next
