@@ -2,10 +2,12 @@
 //! 01 and 02 and the rulings alone. The proved station is compared with it, in answers, bytes and speed.
 //!
 //! `settings` has the limits, `words` the records, `wire` the messages, `station` what a message and
-//! an offer do, `tick` what a tick does. `replay` reads recorded runs, `scripts` makes new ones.
+//! an offer do, `tick` what a tick does, `journal` keeps inputs through power cuts. `replay` reads
+//! recorded runs, `scripts` makes new ones.
 
 #![forbid(unsafe_code)]
 
+pub mod journal;
 pub mod random;
 pub mod refusal;
 pub mod replay;

@@ -94,9 +94,7 @@ impl Refusal {
             Refusal::Length => {
                 "lend a store and an out buffer of the lengths of one `Size`, and a name of 32 bytes"
             }
-            Refusal::Store => {
-                "go back to the last store kept whole; the station counts among the f faulty"
-            }
+            Refusal::Store => "replay the journal: the store was damaged, or is of something else",
             Refusal::Stopped => "read its log; it counts among the f faulty and takes no input",
             Refusal::Unreadable => "drop it; its sender is faulty, or the link damages bytes",
             Refusal::NotAllowed => "drop it; its sender is faulty, or has other settings",

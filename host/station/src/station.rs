@@ -49,7 +49,8 @@ pub struct Station {
 }
 
 /// The calls. Each gives back what it sends and commits, or a refusal. Before a host sends any of
-/// it, it keeps the store, where stores are kept at all: what a station has said, it must not forget.
+/// it, the input is in its journal: what a station has said, it must not forget. A
+/// [`Kept`](crate::Kept) station sees to that.
 impl Station {
     /// A station in view 1 at clock 0: with the limits that all stations of its group have, one of
     /// `n`, which is odd and of 3 to 15, with the delay bound `d` of 1 to 10,000 ticks, and its own
