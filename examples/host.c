@@ -15,6 +15,7 @@
 
 enum { STATIONS = 3, DELAY = 2, TICKS = 24, CARDS = 3, LONGEST = 97, CLAIMS = 17, BOOK = 512, POST = 4096, SLOTS = 256 };
 enum kind { NEW_VIEW = 1, PROPOSE, VOTE, BLAME, BLAME_SET, STATUS };
+enum { TICK = 1, OFFER, MESSAGE }; /* kinds of inputs, in a journal */
 
 static const char *const card[CARDS] = { "card for Ada", "card for Bela", "card for Chandra" };
 
@@ -191,7 +192,7 @@ static void begin(struct host *h, const char *directory)
     char path[200];
     snprintf(path, sizeof path, "%s/station-%u.journal", directory, h->own);
     h->journal = fopen(path, "w+b");
-    if (!h->journal || ftruncate(fileno(h->journal), SLOTS * JOURNAL_SLOT) || fsync(fileno(h->journal)))
+    if (!h->journal || ftruncate(fileno(h->journal), SLOTS * JOURNAL_SLOT_LENGTH) || fsync(fileno(h->journal)))
         fail("the journal could not be made");
     if (station_fresh(h->store, sizeof h->store, STATIONS, DELAY, h->own))
         fail("bad settings");
@@ -200,7 +201,7 @@ static void begin(struct host *h, const char *directory)
 /* Writes bytes at the first blank slot, and has the disk take them. */
 static void write_slot(struct host *h, const uint8_t *bytes, size_t length)
 {
-    if (fseek(h->journal, (long)h->next * JOURNAL_SLOT, SEEK_SET) || fwrite(bytes, 1, length, h->journal) != length
+    if (fseek(h->journal, (long)h->next * JOURNAL_SLOT_LENGTH, SEEK_SET) || fwrite(bytes, 1, length, h->journal) != length
         || fflush(h->journal) || fdatasync(fileno(h->journal)))
         fail("the journal could not be written");
 }
@@ -208,7 +209,7 @@ static void write_slot(struct host *h, const uint8_t *bytes, size_t length)
 /* Keeps one input. Should that fail the host ends here, and nothing has gone out. */
 static void keep(struct host *h, uint64_t kind, const uint8_t *input, size_t length)
 {
-    uint8_t slot[JOURNAL_SLOT] = { 0 };
+    uint8_t slot[JOURNAL_SLOT_LENGTH] = { 0 };
     if (h->next == SLOTS)
         fail("the journal is full");
     if (journal_put(slot, sizeof slot, h->records, kind, input, length) != sizeof slot)
@@ -221,8 +222,8 @@ static void keep(struct host *h, uint64_t kind, const uint8_t *input, size_t len
 /* Power is cut half way into a record, and the store in memory is gone. */
 static void cut(struct host *h)
 {
-    uint8_t slot[JOURNAL_SLOT] = { 0 };
-    journal_put(slot, sizeof slot, h->records, JOURNAL_TICK, NULL, 0);
+    uint8_t slot[JOURNAL_SLOT_LENGTH] = { 0 };
+    journal_put(slot, sizeof slot, h->records, TICK, NULL, 0);
     write_slot(h, slot, 50);
     memset(h->store, 0, sizeof h->store);
     h->next = h->records = 0;
@@ -232,7 +233,7 @@ static void cut(struct host *h)
 /* Takes the station up again: fresh, with every input of its journal. */
 static void resume(struct host *h)
 {
-    static uint8_t journal[SLOTS * JOURNAL_SLOT], report[JOURNAL_REPORT(SLOTS)];
+    static uint8_t journal[SLOTS * JOURNAL_SLOT_LENGTH], report[JOURNAL_REPORT_LENGTH(SLOTS)];
     rewind(h->journal);
     if (fread(journal, 1, sizeof journal, h->journal) != sizeof journal)
         fail("the journal could not be read");
@@ -379,12 +380,12 @@ static void receive(struct host *h, const struct letter *l)
     for (int i = 0; i < count; i++)
         note_seal(h, &claim[i], l->seal[i]);
     uint64_t result = station_step(h->store, sizeof h->store, b, l->message.length, h->out, sizeof h->out);
-    done(h, result, JOURNAL_MESSAGE, b, l->message.length);
+    done(h, result, MESSAGE, b, l->message.length);
 }
 
 static void tick(struct host *h)
 {
-    done(h, station_tick(h->store, sizeof h->store, h->out, sizeof h->out), JOURNAL_TICK, NULL, 0);
+    done(h, station_tick(h->store, sizeof h->store, h->out, sizeof h->out), TICK, NULL, 0);
 }
 
 /* Offers the next card, if this station leads and is ready for it. The view is at bytes 8 to 11 of the store. */
@@ -396,7 +397,7 @@ static void offer(struct host *h)
     name_of(name, h->top_height + 1, h->top_name, card[h->offered]);
     note_text(h, name, card[h->offered]);
     uint64_t result = station_offer(h->store, sizeof h->store, name, 32, h->out, sizeof h->out);
-    h->offered += done(h, result, JOURNAL_OFFER, name, 32);
+    h->offered += done(h, result, OFFER, name, 32);
 }
 
 /* ---- the network */

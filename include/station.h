@@ -5,7 +5,7 @@
  *
  * Each call answers refusal * 2^32 + count. A result below 2^32 is done: the count of bytes written to the front of the
  * out buffer, with the rest of it as it was. A refusal's count is 0 and the out buffer stays as it was. STATION_REFUSAL
- * and STATION_COUNT take a result apart. The journal's calls say below what they count and leave.
+ * and STATION_COUNT take a result apart.
  *
  *    1  store of neither length, offered name not 32 bytes, or out buffer too short          nothing changes
  *    2  store not well formed (docs/STORE.md)                                                nothing changes
@@ -17,7 +17,7 @@
  *    8  tick at clock 4,000,000,000                                                          phase: stopped, clock
  *    9  offer not to be taken                                                                nothing changes
  *   10  bad settings for a fresh store                                                       nothing changes
- *   13  journal: no blank slot, no input, or a slot that can't be replayed                   see below
+ *   13  journal: no slot left, no input, or a slot that stops a replay                       see the journal's calls
  *
  * Order: 1, 2, 3, then 4, 5, 6 for messages; 9, 6 for offers; 8, 7, 6 for ticks. A fresh store: 1, then 10.
  */
@@ -40,6 +40,10 @@
 #define STATION_LOG 21124
 #define STATION_LOG_LARGE 84548
 
+/* The length of a journal's slot, and the least length of a replay's report for so many slots. */
+#define JOURNAL_SLOT_LENGTH 128
+#define JOURNAL_REPORT_LENGTH(slots) (12 + 4 * (size_t)(slots))
+
 #define STATION_REFUSAL(result) ((uint32_t)((uint64_t)(result) >> 32))
 #define STATION_COUNT(result) ((uint32_t)(result))
 
@@ -60,35 +64,22 @@ uint64_t station_tick(uint8_t *store, size_t store_len, uint8_t *out, size_t out
 /* Offers the station, should it be the leader, a block name of 32 bytes to propose. Refusals 1, 2, 3, 6 and 9. */
 uint64_t station_offer(uint8_t *store, size_t store_len, const uint8_t *name, size_t name_len, uint8_t *out, size_t out_len);
 
-/* The journal: slots of 128 bytes, zeroed at first, each with one input that was answered 0, 6, 7 or 8. Of what an input
- * makes a station say nothing goes out before its slot is complete. Inputs are of three kinds: a tick has no bytes, an
- * offer the 32 of its name, a message its own. */
-#define JOURNAL_SLOT 128
-#define JOURNAL_TICK 1
-#define JOURNAL_OFFER 2
-#define JOURNAL_MESSAGE 3
+/* The journal (docs/JOURNAL.md). An input's kind is 1 for a tick, with no bytes; 2 for an offer, with the name's 32; 3 for a
+ * message, with the message's. */
 
-/* The bytes of a replay's report, for a journal of so many slots. */
-#define JOURNAL_REPORT(slots) (12 + 4 * (size_t)(slots))
-
-/* Writes the record of one input into a slot, for hosts that keep the journal in a file. The sequence counts the whole
- * records before it. Done: count 128. Refusals, nothing written: 1 for a slot not of 128 bytes; 13 for one that isn't
- * blank, a sequence of 2^32 or more, or what is no input. */
+/* Writes the record of an input into one slot that is blank, under a number. Done: count 128. Refusal 1 for a slot not of
+ * 128 bytes; 13, with nothing written, for a slot not blank, a number of 2^32 or more, or what is no input. */
 uint64_t journal_put(uint8_t *slot, size_t slot_len, uint64_t sequence, uint64_t kind, const uint8_t *input, size_t input_len);
 
-/* Writes the record of one input into a journal's first blank slot, with the next sequence. Done: count is the slot's
- * place. Refusal 13, nothing written: no slot is blank, it is no input, or a slot before it would stop a replay. */
+/* Writes the record of an input into a journal's first blank slot. Done: the count is the slot's place. Refusal 13, with
+ * nothing written: no slot is blank, a slot before it stops a replay, it is no input, or there are 2^32 slots or more. */
 uint64_t journal_write(uint8_t *journal, size_t journal_len, uint64_t kind, const uint8_t *input, size_t input_len);
 
-/* Hands the input of each whole record to the station, in order, up to the first blank slot or the journal's end; torn
- * slots are passed over. The store is to be as station_fresh leaves it, with the settings that the journal was written
- * with. Done: count is the number of records. Refusals: 1 for lengths, the report's too; 2; and 13, whose count is the
- * place of a slot that can't be read, has the wrong sequence, or holds an input that the station doesn't take: the store
- * then has the records before it. The report, of 0 and 13, has numbers of four bytes: the records, the place where reading
- * ended, how many torn slots there were before that, and the place of each. The out buffer is left as the same calls one
- * after another leave it. */
-uint64_t journal_replay(const uint8_t *journal, size_t journal_len, uint8_t *store, size_t store_len, uint8_t *out,
-                        size_t out_len, uint8_t *report, size_t report_len);
+/* Hands the input of each whole record to the station. Done: the count is the number of records. Refusals 1 (also for a report
+ * below 12 + 4 bytes for each slot, and for 2^32 slots or more) and 2; 13 with the place as count where a slot stops it, and
+ * then the store holds the state of the records before it. On 0 and 13 the report has the number of records, the place where
+ * reading ended, the number of torn slots before it and their places, 4 bytes each, big-endian. */
+uint64_t journal_replay(const uint8_t *journal, size_t journal_len, uint8_t *store, size_t store_len, uint8_t *out, size_t out_len, uint8_t *report, size_t report_len);
 
 #ifdef __cplusplus
 }
