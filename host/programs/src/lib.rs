@@ -7,6 +7,7 @@ mod journals;
 mod proved;
 mod second_program;
 pub mod shown;
+pub mod words;
 
 pub use journals::Journals;
 pub use proved::Proved;
