@@ -6,8 +6,9 @@ use crate::refusal::{Refusal, answer};
 use crate::slot::{Input, SLOT};
 use crate::station::Station;
 use std::fs::{File, OpenOptions, TryLockError};
-use std::io::{self, Read, Seek, SeekFrom, Write};
+use std::io::{Read, Seek, SeekFrom, Write};
 use std::path::Path;
+use std::{fmt, io};
 
 /// What a replay found.
 #[derive(Clone, Debug, Default, PartialEq, Eq)]
@@ -43,7 +44,7 @@ impl Report {
 /// order their writes otherwise.
 #[derive(Debug)]
 pub struct Journal {
-    file: File,
+    disk: Box<dyn Disk + Send>,
     /// How many slots the file has.
     slots: u32,
     /// The first blank one.
@@ -60,7 +61,8 @@ impl Journal {
     pub fn create(path: &Path, slots: u32) -> Result<Journal, Failure> {
         let file = OpenOptions::new().read(true).write(true).create_new(true).open(path)?;
         lock(&file)?;
-        let mut journal = Journal { file, slots: 0, next: 0, records: 0, is_broken: false };
+        let disk = Box::new(file);
+        let mut journal = Journal { disk, slots: 0, next: 0, records: 0, is_broken: false };
         journal.lengthen(slots)?;
         // The file's name is on the disk too, before anything is said.
         let directory = path.parent().filter(|directory| !directory.as_os_str().is_empty());
@@ -85,7 +87,8 @@ impl Journal {
         // Fewer than 2^32: a replay answers 1 to more.
         let slots = slots.len() as u32;
         let Report { records, end: next, .. } = report;
-        Ok((Journal { file, slots, next, records, is_broken: false }, report))
+        let disk = Box::new(file);
+        Ok((Journal { disk, slots, next, records, is_broken: false }, report))
     }
 
     /// Writes one record into the first blank slot, its bytes in order, and has the disk take it. When
@@ -99,11 +102,7 @@ impl Journal {
         let mut slot = [0; SLOT];
         let (sequence, kind) = (self.records.into(), input.kind().into());
         answer(ffi::journal_put(&mut slot, sequence, kind, input.bytes()))?;
-        self.unbroken(|journal| {
-            journal.file.seek(SeekFrom::Start(at(journal.next)))?;
-            journal.file.write_all(&slot)?;
-            journal.file.sync_data()
-        })?;
+        self.unbroken(|journal| journal.disk.store(at(journal.next), &slot))?;
         let place = self.next;
         self.next += 1;
         self.records += 1;
@@ -114,12 +113,7 @@ impl Journal {
     pub fn lengthen(&mut self, slots: u32) -> Result<(), Failure> {
         self.usable()?;
         let slots = self.slots.checked_add(slots).ok_or(Refusal::Length)?;
-        self.unbroken(|journal| {
-            // What is less than a slot at the end is none, and goes: new slots start zeroed.
-            journal.file.set_len(at(journal.slots))?;
-            journal.file.set_len(at(slots))?;
-            journal.file.sync_all()
-        })?;
+        self.unbroken(|journal| journal.disk.lengthen(at(journal.slots), at(slots)))?;
         self.slots = slots;
         Ok(())
     }
@@ -151,10 +145,10 @@ impl Journal {
         }
     }
 
-    /// Has another file written from now on.
+    /// Has another disk written from now on.
     #[cfg(test)]
-    pub(crate) fn put_in_place(&mut self, file: File) {
-        self.file = file;
+    pub(crate) fn put_in_place(&mut self, disk: Box<dyn Disk + Send>) {
+        self.disk = disk;
     }
 
     /// A write, after whose failure there is no other.
@@ -163,6 +157,30 @@ impl Journal {
         write(self)?;
         self.is_broken = false;
         Ok(())
+    }
+}
+
+/// What a journal is written to.
+pub(crate) trait Disk: fmt::Debug {
+    /// Stores bytes in order, from this place on. When it is done, they are there for good.
+    fn store(&mut self, at: u64, bytes: &[u8]) -> io::Result<()>;
+
+    /// Goes on with zeros from one length to the next.
+    fn lengthen(&mut self, from: u64, to: u64) -> io::Result<()>;
+}
+
+impl Disk for File {
+    fn store(&mut self, at: u64, bytes: &[u8]) -> io::Result<()> {
+        self.seek(SeekFrom::Start(at))?;
+        self.write_all(bytes)?;
+        self.sync_data()
+    }
+
+    fn lengthen(&mut self, from: u64, to: u64) -> io::Result<()> {
+        // What is less than a slot at the end is none, and goes: new slots start zeroed.
+        self.set_len(from)?;
+        self.set_len(to)?;
+        self.sync_all()
     }
 }
 

@@ -130,17 +130,34 @@ fn is_kept(answer: Result<usize, Refusal>) -> bool {
 #[cfg(test)]
 mod tests {
     use super::*;
-    use std::fs::{self, File};
+    use crate::journal::Disk;
+    use crate::slot::{SLOT, Slot};
+    use crate::{Effect, GENESIS, Message};
+    use std::fs::{self, File, OpenOptions};
+    use std::io::{self, Write};
+    use std::path::PathBuf;
+
+    fn path(test: &str) -> PathBuf {
+        let directory = Path::new(env!("CARGO_MANIFEST_DIR")).join("../../target/host/tmp");
+        fs::create_dir_all(&directory).unwrap();
+        let path = directory.join(format!("kept-{test}.journal"));
+        let _ = fs::remove_file(&path);
+        path
+    }
+
+    /// Puts bytes in place of those that are there.
+    fn lay(path: &Path, bytes: &[u8]) -> io::Result<()> {
+        OpenOptions::new().write(true).open(path)?.write_all(bytes)
+    }
 
     /// Where the disk takes nothing nothing comes out, the station is as it was, and it is so for good.
     #[test]
     fn nothing_comes_out_that_is_not_kept() {
-        let path = std::env::temp_dir().join(format!("read-only-{}", std::process::id()));
-        let _ = fs::remove_file(&path);
+        let path = path("read-only");
         let mut kept = Kept::begin(&path, 8, Size::Small, 3, 2, 1).unwrap();
         kept.tick().unwrap();
         let bytes = fs::read(&path).unwrap();
-        kept.journal.put_in_place(File::open(&path).unwrap());
+        kept.journal.put_in_place(Box::new(File::open(&path).unwrap()));
         for _ in 0..2 {
             let Err(Failure::Disk(_)) = kept.tick() else { panic!("it can't be written") };
             assert_eq!((kept.station().clock(), kept.journal().records()), (1, 1));
@@ -150,6 +167,72 @@ mod tests {
         drop(kept);
         let (kept, report) = Kept::resume(&path, Size::Small, 3, 2, 1).unwrap();
         assert_eq!((report.records, kept.station().clock()), (1, 1));
+        fs::remove_file(&path).unwrap();
+    }
+
+    /// A disk whose power is cut after so many bytes.
+    #[derive(Debug)]
+    struct Cut {
+        path: PathBuf,
+        bytes: Vec<u8>,
+        left: usize,
+    }
+
+    impl Disk for Cut {
+        fn store(&mut self, at: u64, bytes: &[u8]) -> io::Result<()> {
+            let (at, stored) = (at as usize, bytes.len().min(self.left));
+            self.bytes[at..at + stored].copy_from_slice(&bytes[..stored]);
+            self.left -= stored;
+            if stored == bytes.len() {
+                return Ok(());
+            }
+            // What a host finds when it starts again.
+            lay(&self.path, &self.bytes)?;
+            Err(io::Error::other("the power is cut"))
+        }
+
+        fn lengthen(&mut self, _: u64, to: u64) -> io::Result<()> {
+            self.bytes.resize(to as usize, 0);
+            Ok(())
+        }
+    }
+
+    /// The power is cut after each byte of a run. What came out until then is what the records that are
+    /// then found give again: no output is without its record, and none of a whole one is kept back but
+    /// for the last.
+    #[test]
+    fn what_came_out_is_what_is_kept() {
+        let path = path("cut");
+        let blame = Message::Blame { view: 1, author: 0 }.encode();
+        let vote = Message::Vote { view: 1, height: 0, name: GENESIS, author: 0 }.encode();
+        let mut inputs = vec![Input::Tick; 5];
+        inputs.extend([Input::Message(&vote), Input::Offer(&[7; 32]), Input::Tick]);
+        inputs.extend([Input::Message(&blame), Input::Tick]);
+        drop(Kept::begin(&path, inputs.len() as u32, Size::Small, 3, 2, 1).unwrap());
+        let bytes = vec![0; inputs.len() * SLOT];
+        for left in 0..inputs.len() * SLOT {
+            lay(&path, &bytes).unwrap();
+            let (mut kept, _) = Kept::resume(&path, Size::Small, 3, 2, 1).unwrap();
+            let disk = Cut { path: path.clone(), bytes: bytes.clone(), left };
+            kept.journal.put_in_place(Box::new(disk));
+            let mut came_out: Vec<Effect> = Vec::new();
+            for input in &inputs {
+                match kept.take(*input) {
+                    Ok(effects) => came_out.extend(effects),
+                    Err(_) => break,
+                }
+            }
+            let before = kept.station().store().to_vec();
+            drop(kept);
+            let (kept, report) = Kept::resume(&path, Size::Small, 3, 2, 1).unwrap();
+            assert_eq!(report.records as usize, left / SLOT);
+            assert_eq!(kept.station().store(), before);
+            let mut again = Station::fresh(Size::Small, 3, 2, 1).unwrap();
+            let found = fs::read(&path).unwrap();
+            let said = Slot::inputs(&found)
+                .flat_map(|input| again.take(input).unwrap().collect::<Vec<Effect>>());
+            assert!(said.eq(came_out), "cut after {left}");
+        }
         fs::remove_file(&path).unwrap();
     }
 }

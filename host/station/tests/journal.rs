@@ -4,8 +4,8 @@ use station::{
     Cause, Effect, Failure, GENESIS, Input, Kept, Message, Name, Phase, Refusal, Report, SLOT,
     Size, Slot, Station, ffi,
 };
-use std::fs;
-use std::io::ErrorKind;
+use std::fs::{self, OpenOptions};
+use std::io::{self, ErrorKind, Write};
 use std::path::{Path, PathBuf};
 
 const ROOM: u32 = 64;
@@ -15,6 +15,13 @@ fn path(test: &str) -> PathBuf {
     let path = Path::new(env!("CARGO_TARGET_TMPDIR")).join(format!("{test}.journal"));
     let _ = fs::remove_file(&path);
     path
+}
+
+/// Puts these bytes, and no others, into a file that is there.
+fn lay(path: &Path, bytes: &[u8]) -> io::Result<()> {
+    let mut file = OpenOptions::new().write(true).open(path)?;
+    file.write_all(bytes)?;
+    file.set_len(bytes.len() as u64)
 }
 
 /// Station 1 of three, which leads view 1.
@@ -106,7 +113,7 @@ fn a_cut_after_any_byte_loses_no_whole_record() {
         let torn: Vec<u32> = if inside == 0 { vec![] } else { vec![before as u32] };
         let mut bytes = whole.clone();
         bytes[cut..].fill(0);
-        fs::write(&path, &bytes).unwrap();
+        lay(&path, &bytes).unwrap();
         let (mut kept, report) = resume(&path).unwrap();
         let end = (before + torn.len()) as u32;
         assert_eq!(report, Report { records: before as u32, end, torn: torn.clone() }, "{cut}");
@@ -122,7 +129,7 @@ fn a_cut_after_any_byte_loses_no_whole_record() {
         let mut bytes = fs::read(&path).unwrap();
         let next = slots + torn.len();
         bytes[(next + 1) * SLOT - 1 - cut % (SLOT - 1)..].fill(0);
-        fs::write(&path, &bytes).unwrap();
+        lay(&path, &bytes).unwrap();
         let (mut kept, report) = resume(&path).unwrap();
         assert_eq!(report.records as usize, slots, "{cut}");
         assert_eq!(report.torn, [torn.clone(), vec![next as u32]].concat(), "{cut}");
@@ -140,7 +147,7 @@ fn a_short_file_ends_with_its_last_slot() {
     let whole = fs::read(&path).unwrap();
     let slots = inputs().len();
     for length in [0, 1, 127, 128, slots * SLOT - 1, slots * SLOT, slots * SLOT + 5] {
-        fs::write(&path, &whole[..length]).unwrap();
+        lay(&path, &whole[..length]).unwrap();
         let (mut kept, report) = resume(&path).unwrap();
         let end = (length / SLOT) as u32;
         assert_eq!(report, Report { records: end, end, torn: vec![] });
@@ -198,7 +205,7 @@ fn refused_inputs_leave_no_record() {
         let place = ffi::journal_write(&mut bytes, 3, &vote(1, name(number)));
         assert_eq!(place, u64::from(number));
     }
-    fs::write(&path, &bytes).unwrap();
+    lay(&path, &bytes).unwrap();
     let (mut kept, report) = Kept::resume(&path, Size::Small, 3, 2, 2).unwrap();
     assert_eq!(report.records, room);
     let refused = kept.step(&vote(1, name(room))).err();
@@ -222,7 +229,7 @@ fn a_damaged_journal_takes_nothing() {
         let mut bytes = whole.clone();
         assert_ne!(bytes[at], byte);
         bytes[at] = byte;
-        fs::write(&path, &bytes).unwrap();
+        lay(&path, &bytes).unwrap();
         let failure = resume(&path).unwrap_err();
         let Failure::Damaged(report) = &failure else { panic!("{failure}") };
         assert_eq!((report.records, report.end), (place, place));
@@ -237,12 +244,12 @@ fn a_damaged_journal_takes_nothing() {
     // Torn, so that its number is missing in the slot after it.
     let mut bytes = whole.clone();
     bytes[4 * SLOT - 1] = 0;
-    fs::write(&path, &bytes).unwrap();
+    lay(&path, &bytes).unwrap();
     let Err(Failure::Damaged(report)) = resume(&path) else { panic!("a number is missing") };
     assert_eq!(report, Report { records: 3, end: 4, torn: vec![3] });
 
     // Another station's: an offer that this one doesn't take.
-    fs::write(&path, &whole).unwrap();
+    lay(&path, &whole).unwrap();
     let other = Kept::resume(&path, Size::Small, 3, 2, 0);
     let Err(Failure::Damaged(report)) = other else { panic!("station 0 doesn't lead") };
     assert_eq!(report, Report { records: 6, end: 6, torn: vec![] });
@@ -255,7 +262,7 @@ fn nothing_is_written_before_a_stray_slot() {
     recorded(&path);
     let mut bytes = fs::read(&path).unwrap();
     bytes[20 * SLOT + 3] = 1;
-    fs::write(&path, &bytes).unwrap();
+    lay(&path, &bytes).unwrap();
     let Err(Failure::Stray { place: 20 }) = resume(&path) else { panic!("slot 20 isn't blank") };
     assert_eq!(fs::read(&path).unwrap(), bytes);
 }
