@@ -1,7 +1,7 @@
 //! Prints how long a replay takes, as docs/SPEED.md has it: `replays [ROUNDS]`. Journals of up to 100,000
 //! records go to the proved `journal_replay` and to the second program, in one run; the least time of the
-//! rounds counts, since others who use the machine can only make it longer. A shorter journal has as many
-//! more rounds as it is shorter.
+//! rounds counts, without what others had of the processor, since they can only make it longer. A shorter
+//! journal has as many more rounds as it is shorter.
 
 use bench::script::{self, Call};
 use programs::{Journals, Proved, Second};
@@ -52,11 +52,20 @@ fn replay<P: Journals>(journal: &[u8]) -> f64 {
     let mut program = P::fresh(SIZE, N.into(), D.into(), OWN.into()).expect("good settings");
     let (mut out, slots) = (vec![0; SIZE.out_length()], journal.len() / SLOT);
     let mut report = vec![0; 12 + 4 * slots];
-    let start = Instant::now();
+    let (start, waited) = (Instant::now(), waited());
     let answer = black_box(program.replay(journal, &mut out, &mut report));
+    let waited = self::waited() - waited;
     let time = start.elapsed().as_secs_f64();
     assert_eq!(answer, slots as u64);
-    time
+    time - waited
+}
+
+/// The seconds for which others had the processor while this program could have gone on, where Linux says
+/// it.
+fn waited() -> f64 {
+    let said = std::fs::read_to_string("/proc/thread-self/schedstat").unwrap_or_default();
+    let waited = said.split(' ').nth(1).and_then(|ns| ns.parse().ok());
+    waited.unwrap_or(0.0) / 1e9
 }
 
 /// So many ticks, of a station that hears nothing.
