@@ -207,6 +207,7 @@ pub fn run<P: Journals + Clone>(size: Size, seed: u64, met: &mut Met) -> Result<
         let more = |random: &mut Random| random.pick(&[0, 0, 0, 0, 0, 1, 40, -1, -13]);
         let lengths = (more(&mut random), more(&mut random));
         fresh.replay(&damaged, lengths, met)?;
+        same_slots(&damaged)?;
         let input = random.pick(&[(1, 0), (1, 1), (2, 32), (2, 31), (3, 15), (0, 0), (4, 0)]);
         write::<P>(&mut damaged, input.0, &[7; 32][..input.1], met)?;
         let length = random.pick(&[SLOT, SLOT, SLOT, 0, SLOT - 1, SLOT + 1, 2 * SLOT]);
@@ -217,6 +218,26 @@ pub fn run<P: Journals + Clone>(size: Size, seed: u64, met: &mut Met) -> Result<
         }
         let sequence = random.pick(&[0, 1, 255, u64::from(u32::MAX), 1 << 32, u64::MAX]);
         put::<P>(&mut slot, sequence, input.0, &[0; 32][..input.1], met)?;
+    }
+    Ok(())
+}
+
+/// What a Rust host reads of each slot is what the second program reads.
+fn same_slots(journal: &[u8]) -> Result<(), String> {
+    for (place, slot) in journal.as_chunks().0.iter().enumerate() {
+        let is_same = match (station::Slot::of(slot), Slot::of(slot)) {
+            (station::Slot::Blank, Slot::Blank) => true,
+            (station::Slot::Torn, Slot::Torn) => true,
+            (station::Slot::Unreadable, Slot::Bad) => true,
+            (
+                station::Slot::Record { sequence: got, input },
+                Slot::Whole { sequence, kind, input: bytes },
+            ) => (got, input.kind(), input.bytes()) == (sequence, kind, bytes),
+            _ => false,
+        };
+        if !is_same {
+            return Err(format!("slot {place} is read otherwise by the host"));
+        }
     }
     Ok(())
 }

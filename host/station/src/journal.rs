@@ -44,7 +44,7 @@ impl Report {
 /// order their writes otherwise.
 #[derive(Debug)]
 pub struct Journal {
-    disk: Box<dyn Disk + Send>,
+    disk: Box<dyn Disk>,
     /// How many slots the file has.
     slots: u32,
     /// The first blank one.
@@ -147,7 +147,7 @@ impl Journal {
 
     /// Has another disk written from now on.
     #[cfg(test)]
-    pub(crate) fn put_in_place(&mut self, disk: Box<dyn Disk + Send>) {
+    pub(crate) fn put_in_place(&mut self, disk: Box<dyn Disk>) {
         self.disk = disk;
     }
 
@@ -161,7 +161,7 @@ impl Journal {
 }
 
 /// What a journal is written to.
-pub(crate) trait Disk: fmt::Debug {
+pub(crate) trait Disk: fmt::Debug + Send + Sync {
     /// Stores bytes in order, from this place on. When it is done, they are there for good.
     fn store(&mut self, at: u64, bytes: &[u8]) -> io::Result<()>;
 
