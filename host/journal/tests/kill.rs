@@ -12,9 +12,9 @@ use std::process::{Child, Command, Stdio};
 use std::time::{Duration, Instant};
 
 const STATIONS: usize = 3;
-const RUNS: u64 = 3;
-const KILLS: u32 = 100;
-const CARDS: usize = 60;
+const RUNS: u64 = 2;
+const KILLS: u32 = 125;
+const CARDS: usize = 40;
 
 /// What the killed ones have said, station by station.
 #[derive(Default)]
@@ -147,7 +147,7 @@ fn what_was_committed_outlives_every_kill() {
         let mut said = Said::default();
         for _ in 0..KILLS {
             // Some are killed while they start, at any moment of that.
-            let lines = if random.one_in(8) { 0 } else { 1 + random.below(12) };
+            let lines = if random.one_in(8) { 0 } else { 1 + random.below(5) };
             let wait = Duration::from_micros(random.below(3000));
             let found = life(&directory, &mut said, Some(lines), wait);
             kills += u32::from(!found.is_done);
