@@ -3,8 +3,8 @@
      cc -o host examples/host.c target/archive/libstation.a && ./host DIRECTORY
 
    Shown is all that a host has to do: seals (in place of signatures) for every claim of a message, names that fix a
-   block's height, parent and text, a store that is kept before anything is sent, offers by the leader, and an answer to
-   every refusal. host/station/examples/host.rs is the same host in Rust. */
+   block's height, parent and text, a journal that has each input before anything is sent, its replay after a power cut,
+   offers by the leader, and an answer to every refusal. host/station/examples/host.rs is the same host in Rust. */
 #define _POSIX_C_SOURCE 200809L
 #include <stdio.h>
 #include <stdlib.h>
@@ -13,8 +13,9 @@
 
 #include "../include/station.h"
 
-enum { STATIONS = 3, DELAY = 2, TICKS = 24, CARDS = 3, LONGEST = 97, CLAIMS = 17, BOOK = 512, POST = 4096 };
+enum { STATIONS = 3, DELAY = 2, TICKS = 24, CARDS = 3, LONGEST = 97, CLAIMS = 17, BOOK = 512, POST = 4096, SLOTS = 256 };
 enum kind { NEW_VIEW = 1, PROPOSE, VOTE, BLAME, BLAME_SET, STATUS };
+enum { TICK = 1, OFFER, MESSAGE }; /* kinds of inputs, in a journal */
 
 static const char *const card[CARDS] = { "card for Ada", "card for Bela", "card for Chandra" };
 
@@ -152,12 +153,13 @@ struct letter {
     const char *text;
 };
 
-/* One station with its host. */
+/* One station with its host. What stands here besides the station a real host keeps on the disk as well. */
 struct host {
     uint8_t own;
     uint8_t store[STATION_STORE_LENGTH];
     uint8_t out[STATION_OUT_LENGTH];
-    char file[200];
+    FILE *journal;
+    uint32_t next, records; /* the journal's first blank slot, and the whole records before it */
     struct { /* seals of claims, made here or received: a certificate that is sent needs them again */
         struct message claim;
         uint64_t seal;
@@ -184,28 +186,69 @@ static void fail(const char *what)
     exit(1);
 }
 
-/* Keeps the store: whole in a new file, which then takes the place of the old one. */
-static void keep(const struct host *h)
+/* A new journal, of blank slots. */
+static void begin(struct host *h, const char *directory)
 {
-    char beside[210];
-    snprintf(beside, sizeof beside, "%s.new", h->file);
-    FILE *f = fopen(beside, "wb");
-    if (!f || fwrite(h->store, 1, sizeof h->store, f) != sizeof h->store || fflush(f) || fsync(fileno(f)) || fclose(f)
-        || rename(beside, h->file))
-        fail("the store could not be kept");
+    char path[200];
+    snprintf(path, sizeof path, "%s/station-%u.journal", directory, h->own);
+    h->journal = fopen(path, "w+b");
+    if (!h->journal || ftruncate(fileno(h->journal), SLOTS * JOURNAL_SLOT_LENGTH) || fsync(fileno(h->journal)))
+        fail("the journal could not be made");
+    if (station_fresh(h->store, sizeof h->store, STATIONS, DELAY, h->own))
+        fail("bad settings");
 }
 
-/* Takes the store up again from its file. */
-static void restart(struct host *h)
+/* Writes bytes at the first blank slot, and has the disk take them. */
+static void write_slot(struct host *h, const uint8_t *bytes, size_t length)
 {
-    static const uint8_t nothing[1];
-    FILE *f = fopen(h->file, "rb");
+    if (fseek(h->journal, (long)h->next * JOURNAL_SLOT_LENGTH, SEEK_SET) || fwrite(bytes, 1, length, h->journal) != length
+        || fflush(h->journal) || fdatasync(fileno(h->journal)))
+        fail("the journal could not be written");
+}
+
+/* Keeps one input. Should that fail the host ends here, and nothing has gone out. */
+static void keep(struct host *h, uint64_t kind, const uint8_t *input, size_t length)
+{
+    uint8_t slot[JOURNAL_SLOT_LENGTH] = { 0 };
+    if (h->next == SLOTS)
+        fail("the journal is full");
+    if (journal_put(slot, sizeof slot, h->records, kind, input, length) != sizeof slot)
+        fail("no input for a journal");
+    write_slot(h, slot, sizeof slot);
+    h->next++;
+    h->records++;
+}
+
+/* Power is cut half way into a record, and the store in memory is gone. */
+static void cut(struct host *h)
+{
+    uint8_t slot[JOURNAL_SLOT_LENGTH] = { 0 };
+    journal_put(slot, sizeof slot, h->records, TICK, NULL, 0);
+    write_slot(h, slot, 50);
     memset(h->store, 0, sizeof h->store);
-    if (!f || fread(h->store, 1, sizeof h->store, f) != sizeof h->store || fclose(f))
-        fail("the store could not be read");
-    /* No message is empty: the answer is 4 exactly when the store is well formed and its station not stopped. */
-    if (STATION_REFUSAL(station_step(h->store, sizeof h->store, nothing, 0, h->out, sizeof h->out)) != 4)
-        fail("the kept store is not that of a running station");
+    h->next = h->records = 0;
+    printf("tick %u: the power is cut at station %u\n", now, h->own);
+}
+
+/* Takes the station up again: fresh, with every input of its journal. */
+static void resume(struct host *h)
+{
+    static uint8_t journal[SLOTS * JOURNAL_SLOT_LENGTH], report[JOURNAL_REPORT_LENGTH(SLOTS)];
+    rewind(h->journal);
+    if (fread(journal, 1, sizeof journal, h->journal) != sizeof journal)
+        fail("the journal could not be read");
+    station_fresh(h->store, sizeof h->store, STATIONS, DELAY, h->own);
+    uint64_t result = journal_replay(journal, sizeof journal, h->store, sizeof h->store, h->out, sizeof h->out, report,
+                                     sizeof report);
+    if (STATION_REFUSAL(result)) { /* somebody has to look; nothing is written to such a journal */
+        fprintf(stderr, "host: station %u's journal answers %u at slot %u\n", h->own, STATION_REFUSAL(result),
+                STATION_COUNT(result));
+        exit(1);
+    }
+    h->records = number(report);
+    h->next = number(report + 4);
+    printf("tick %u: station %u goes on from its journal: %u records, %u torn\n", now, h->own, h->records,
+           number(report + 8));
 }
 
 static uint64_t *find_seal(struct host *h, const struct message *claim)
@@ -284,21 +327,25 @@ static void effect(struct host *h, uint8_t tag, const uint8_t *value, size_t len
             send_one(h, to, &m);
 }
 
-/* What every call ends with: first the store is kept, then letters go out. Gives back whether it was done. */
-static int done(struct host *h, uint64_t result)
+/* What every call ends with: first the input is kept, then letters go out. Gives back whether it was done. */
+static int done(struct host *h, uint64_t result, uint64_t kind, const uint8_t *input, size_t length)
 {
     switch (STATION_REFUSAL(result)) {
     case 0:
+    case 6: /* the station is now stopped, and remembers it */
+    case 7:
+    case 8:
+        keep(h, kind, input, length);
         break;
     case 4: /* the message is dropped */
     case 5:
     case 9: /* the offer is made again after the next input */
         return 0;
-    default: /* the station is stopped, or its buffers are wrong: somebody has to look */
+    }
+    if (STATION_REFUSAL(result)) { /* it is stopped, or its buffers are wrong: somebody has to look */
         fprintf(stderr, "host: station %u answers %u\n", h->own, STATION_REFUSAL(result));
         exit(1);
     }
-    keep(h);
     for (size_t at = 0; at < STATION_COUNT(result);) {
         size_t length = (size_t)h->out[at + 1] << 8 | h->out[at + 2];
         effect(h, h->out[at], h->out + at + 3, length);
@@ -332,7 +379,13 @@ static void receive(struct host *h, const struct letter *l)
     }
     for (int i = 0; i < count; i++)
         note_seal(h, &claim[i], l->seal[i]);
-    done(h, station_step(h->store, sizeof h->store, b, l->message.length, h->out, sizeof h->out));
+    uint64_t result = station_step(h->store, sizeof h->store, b, l->message.length, h->out, sizeof h->out);
+    done(h, result, MESSAGE, b, l->message.length);
+}
+
+static void tick(struct host *h)
+{
+    done(h, station_tick(h->store, sizeof h->store, h->out, sizeof h->out), TICK, NULL, 0);
 }
 
 /* Offers the next card, if this station leads and is ready for it. The view is at bytes 8 to 11 of the store. */
@@ -343,7 +396,8 @@ static void offer(struct host *h)
         return;
     name_of(name, h->top_height + 1, h->top_name, card[h->offered]);
     note_text(h, name, card[h->offered]);
-    h->offered += done(h, station_offer(h->store, sizeof h->store, name, 32, h->out, sizeof h->out));
+    uint64_t result = station_offer(h->store, sizeof h->store, name, 32, h->out, sizeof h->out);
+    h->offered += done(h, result, OFFER, name, 32);
 }
 
 /* ---- the network */
@@ -374,23 +428,19 @@ static void forge(uint32_t due)
 int main(int argc, char **argv)
 {
     for (uint8_t own = 0; own < STATIONS; own++) {
-        struct host *h = &hosts[own];
-        h->own = own;
-        snprintf(h->file, sizeof h->file, "%s/station-%u.store", argc > 1 ? argv[1] : ".", own);
-        if (station_fresh(h->store, sizeof h->store, STATIONS, DELAY, own))
-            fail("bad settings");
-        keep(h);
+        hosts[own].own = own;
+        begin(&hosts[own], argc > 1 ? argv[1] : ".");
     }
     forge(9);
     for (now = 1; now <= TICKS; now++) {
         for (int i = 0; i < STATIONS; i++)
-            done(&hosts[i], station_tick(hosts[i].store, sizeof hosts[i].store, hosts[i].out, sizeof hosts[i].out));
+            tick(&hosts[i]);
         deliver();
         for (int i = 0; i < STATIONS; i++)
             offer(&hosts[i]);
         if (now == 10) {
-            restart(&hosts[2]);
-            printf("tick %u: station 2 goes on from its kept store\n", now);
+            cut(&hosts[2]);
+            resume(&hosts[2]);
         }
     }
     /* The log's count is at 66: docs/STORE.md. */

@@ -11,7 +11,7 @@ place=$PWD/target/tests/host
 rm -rf "$place"
 mkdir -p "$place/c" "$place/rust"
 
-# both examples print what docs/HOST.md says, and keep the same stores
+# both examples print what docs/HOST.md says, and keep the same journals
 cc -std=c11 -O2 -Wall -Wextra -Werror -o "$place/example" examples/host.c target/archive/libstation.a
 "$place/example" "$place/c" >"$place/c.txt"
 "$built/examples/host" "$place/rust" >"$place/rust.txt"
@@ -19,7 +19,7 @@ sed -n '/^Both print the same/,$s/^    //p' docs/HOST.md >"$place/said.txt"
 diff "$place/said.txt" "$place/c.txt"
 diff "$place/said.txt" "$place/rust.txt"
 for own in 0 1 2; do
-    cmp "$place/c/station-$own.store" "$place/rust/station-$own.store"
+    cmp "$place/c/station-$own.journal" "$place/rust/station-$own.journal"
 done
 echo "both examples do as docs/HOST.md says"
 

@@ -1,11 +1,12 @@
 #!/bin/bash
-# The script program against the second program, which says to the byte what must be printed: of the test scripts, and of
-# random runs as compare prints them. Then printed messages are handed over again, in words and in hex; and README's run.
+# The script program against the second program, which says to the byte what must be printed: of the test scripts, of random
+# runs as compare prints them, and of a journal's records. Then printed messages are handed over again, in words and in hex;
+# and README's run.
 set -euo pipefail
 cd "$(dirname "$0")/.."
 export CARGO_NET_OFFLINE=true
 tools/archive >/dev/null
-(cd host && cargo build --release -j1 --quiet -p compare --bins)
+(cd host && cargo build --release -j1 --quiet -p compare -p journal -p station --bins --examples)
 tell=target/host/release/tell
 place=target/tests/scripts
 rm -rf "$place"
@@ -27,6 +28,17 @@ for seed in $(seq 1 20); do
     cat "$place/played.txt" >>"$place/all.txt"
 done
 echo "20 random runs print what the second program says"
+
+# the journals of the example host, as scripts
+target/host/release/examples/host "$place" >/dev/null
+for own in 0 1 2; do
+    target/host/release/journal --script 3 2 "$own" "$place/station-$own.journal" >"$place/journal.txt"
+    tools/play "$place/journal.txt" >"$place/journal.played"
+    "$tell" "$place/journal.txt" | diff - <(comparable "$place/journal.played")
+    target/host/release/journal 3 2 "$own" "$place/station-$own.journal" | sed -n '/^log: /,$p' |
+        diff - <(sed -n 's/^line [0-9]*: \(log: \)/\1/; /^log: /,/^line /p' "$place/journal.played" | sed '$d')
+done
+echo "three journals as scripts print what the second program says, and the same log"
 
 # printed messages as lines of a script: the words, and the bytes behind the field's head, each to a fresh station
 grep -E '^  to ' "$place/all.txt" | head -n 2000 >"$place/messages.txt"

@@ -20,7 +20,7 @@ use Rattle.slots.proofs.OneForm.{judged-torn, blank-only, zero-byte, not-blank,
 pub length-storing : (n : ℕ) (r s : List ℕ) → length (storing n r s) ≡ length s
 unfolding storing
 length-storing zero r s = refl
-length-storing (suc n) r s = length-set (storing n r s) n (getD r n 0) ∙ length-storing n r s
+length-storing (suc n) r s = simp length-set (length-storing n r s)
 
 -- the bytes stored, and those that were there
 stored-below : (n : ℕ) (r s : List ℕ) (i : ℕ) → n ≤ length s → i < n → getD (storing n r s) i 0 ≡ getD r i 0

@@ -5,8 +5,8 @@ use libc::STDIN_FILENO;
 mod play;
 mod sent;
 mod show;
+mod spell;
 mod stored;
-mod words;
 
 // The most bytes of a line, without its end.
 const LONGEST: usize = 4096;

@@ -1,9 +1,9 @@
 // What each line does to the station.
 use crate::show;
 use crate::show::Out;
+use crate::spell;
 use crate::stored;
 use crate::stored::Store;
-use crate::words;
 use lines::Line;
 use page::Page;
 
@@ -157,6 +157,6 @@ fn quiet(page: &mut Page, at: usize, number: u64, from: u64, to: u64) -> usize {
     }
     let started = show::start(page, at, number, b"ticks ");
     let first = page::decimal(page, started, from + 1);
-    let last = words::number(page, first, b" to ", to);
+    let last = spell::number(page, first, b" to ", to);
     page::say(page, last, b": 0 done, 0 bytes each\n")
 }

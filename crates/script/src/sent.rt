@@ -1,7 +1,7 @@
 // Outgoing fields in words: any bytes can be shown, and each field goes by its own length.
 ghost use Prim.Native.Nat.{_≤_, _<_};
 ghost use lib.ListN.{length};
-use crate::words;
+use crate::spell;
 use page::Page;
 use wire::Read;
 
@@ -69,7 +69,7 @@ fn saying(page: &mut Page, at: usize, field: &[u8]) -> usize {
             message(page, addressed, &field[3..])
         }
         0x11 => {
-            let addressed = words::number(page, at, b"to ", wide(field[3]) as u64);
+            let addressed = spell::number(page, at, b"to ", wide(field[3]) as u64);
             let marked = page::say(page, addressed, b": ");
             message(page, marked, &field[4..])
         }
@@ -89,7 +89,7 @@ fn message(page: &mut Page, at: usize, message: &[u8]) -> usize {
         let start = page::say(page, at, b"message ");
         return page::bytes(page, start, message);
     };
-    words::message(page, at, said)
+    spell::message(page, at, said)
 }
 
 // A committed block, by its height and its name.
@@ -98,7 +98,7 @@ fn committed(page: &mut Page, at: usize, value: &[u8]) -> usize {
         return unknown(page, at);
     }
     let height = fields::get(value, 0, 4);
-    words::committed(page, at, height, fields::get_name(value, 4))
+    spell::committed(page, at, height, fields::get_name(value, 4))
 }
 
 // A propose on the wall display, by its height, its name and its ticks left.
@@ -109,5 +109,5 @@ fn shown(page: &mut Page, at: usize, value: &[u8]) -> usize {
     let height = fields::get(value, 0, 4);
     let name = fields::get_name(value, 4);
     let left = fields::get(value, 36, 8);
-    words::shown(page, at, height, name, left)
+    spell::shown(page, at, height, name, left)
 }

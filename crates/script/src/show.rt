@@ -3,7 +3,7 @@ ghost use mathlib.Core.Path.{_≡_};
 ghost use lib.ListN.{length};
 ghost use Rattle.rules.specs.Limits.{leastOutSmall};
 use crate::sent;
-use crate::words;
+use crate::spell;
 use lines::Flaw;
 use page::Page;
 use settings::Settings;
@@ -23,7 +23,7 @@ const UNIT: u64 = 4_294_967_296;
 
 // The line's number, and what it is.
 pub fn start(page: &mut Page, at: usize, line: u64, what: &[u8]) -> usize {
-    let numbered = words::number(page, at, b"line ", line);
+    let numbered = spell::number(page, at, b"line ", line);
     let marked = page::say(page, numbered, b": ");
     page::say(page, marked, what)
 }
@@ -60,7 +60,7 @@ pub fn refusal(answer: u64) -> u64 {
 
 // A refusal's number and reason.
 pub fn refused(page: &mut Page, at: usize, refusal: u64) -> usize {
-    let numbered = words::number(page, at, b": ", refusal);
+    let numbered = spell::number(page, at, b": ", refusal);
     reason(page, numbered, refusal)
 }
 
@@ -71,7 +71,7 @@ pub fn answer(page: &mut Page, at: usize, answer: u64, out: &Out) -> usize {
         return refused(page, at, number);
     }
     let count = answer % UNIT;
-    let counted = words::number(page, at, b": 0 done, ", count);
+    let counted = spell::number(page, at, b": 0 done, ", count);
     let told = page::say(page, counted, b" bytes\n");
     sent::first(page, told, out, count as usize)
 }
@@ -108,8 +108,8 @@ pub fn long(line: u64) {
 // The count of the lines and of the bad ones.
 pub fn end_of_script(lines: u64, bad: u64) {
     let mut page = io::buffer();
-    let counted = words::number(&mut page, 0, b"end of script: ", lines);
-    let marked = words::number(&mut page, counted, b" lines, ", bad);
+    let counted = spell::number(&mut page, 0, b"end of script: ", lines);
+    let marked = spell::number(&mut page, counted, b" lines, ", bad);
     let end = page::say(&mut page, marked, b" bad\n");
     page::finish(&page, end);
 }

@@ -5,12 +5,12 @@ ghost use Prim.Native.Nat.{_^_, _<_};
 ghost use Rattle.rules.specs.Limits.{mostStatements};
 ghost use Rattle.store.specs.Layout.{smallLength, sizeIn};
 use crate::show;
-use crate::words;
+use crate::spell;
 use page::Page;
 use store::Cause;
 use store::Phase;
 use store::Station;
-use store::Tally;
+use words::Certificate;
 
 // A store of the exact length.
 pub type Store = [u8; store::LENGTH];
@@ -57,7 +57,7 @@ fn logged(page: &mut Page, at: usize, store: &Store) -> usize {
     }
     let station = Station::load(store);
     let count = station.logged;
-    let counted = words::number(page, at, b": ", count as u64);
+    let counted = spell::number(page, at, b": ", count as u64);
     let told = page::say(page, counted, b" logged\n");
     entries(page, told, store, count)
 }
@@ -82,7 +82,7 @@ fn entry(page: &mut Page, at: usize, store: &Store, i: usize) -> usize
 {
     let indented = page::say(page, at, b"  ");
     let name = store::name_at(store, i);
-    let said = words::committed(page, indented, i as u64 + 1, name);
+    let said = spell::committed(page, indented, i as u64 + 1, name);
     page::put(page, said, b'\n')
 }
 
@@ -102,30 +102,30 @@ fn standing(page: &mut Page, at: usize, store: &Store) -> usize {
     let station = Station::load(store);
     let kind = station.phase;
     let phased = phase(page, at, kind, station.view as u64);
-    let entered = words::number(page, phased, b", entered at ", station.entry as u64);
-    let timed = words::number(page, entered, b", clock ", station.clock as u64);
+    let entered = spell::number(page, phased, b", entered at ", station.entry as u64);
+    let timed = spell::number(page, entered, b", clock ", station.clock as u64);
     lock(page, timed, station.lock)
 }
 
 // The phase, of a view.
 fn phase(page: &mut Page, at: usize, phase: Phase, view: u64) -> usize {
     match phase {
-        Phase::InView => words::number(page, at, b": in view ", view),
+        Phase::InView => spell::number(page, at, b": in view ", view),
         Phase::Waiting(quit) => {
-            let said = words::number(page, at, b": waiting after view ", view);
-            words::number(page, said, b", quit at ", quit as u64)
+            let said = spell::number(page, at, b": waiting after view ", view);
+            spell::number(page, said, b", quit at ", quit as u64)
         }
         Phase::Stopped(cause) => match cause {
-            Cause::Full => words::number(page, at, b": stopped, full, in view ", view),
-            Cause::Split => words::number(page, at, b": stopped, split, in view ", view),
-            Cause::Clock => words::number(page, at, b": stopped, clock, in view ", view),
+            Cause::Full => spell::number(page, at, b": stopped, full, in view ", view),
+            Cause::Split => spell::number(page, at, b": stopped, split, in view ", view),
+            Cause::Clock => spell::number(page, at, b": stopped, clock, in view ", view),
         },
     }
 }
 
 // The lock.
-fn lock(page: &mut Page, at: usize, lock: Tally) -> usize {
+fn lock(page: &mut Page, at: usize, lock: Certificate) -> usize {
     let started = page::say(page, at, b"\n  lock: ");
-    let said = words::status(page, started, lock.height, lock.name, lock.view, lock.mask);
+    let said = spell::status(page, started, lock.height, lock.name, lock.view, lock.mask);
     page::put(page, said, b'\n')
 }

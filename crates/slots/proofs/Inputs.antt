@@ -8,8 +8,12 @@ use native.Mathlib.Omega.{arith}
 use lib.ListN.{length}
 use lib.Dec.{leb, eqb}
 use borrow.Author.Tests.{eqb-true, ne-eqb, leb-true, le-leb, lt-leb}
+use Rattle.rules.specs.Messages as messages
 use Rattle.rules.specs.Messages.{read}
+use Rattle.rules.proofs.Bytes.{Bytes}
+use Rattle.rules.proofs.ReadBack.{write-read}
 use Rattle.rules.proofs.Tests.{by-bool, and-left, and-right}
+use Rattle.outgoing.proofs.Writing.{length-write-most}
 use Rattle.wire.specs.Meaning.{readOf, messageOf}
 use Rattle.wire.specs.declared.Message.{Message}
 use Rattle.wire.specs.declared.Read.{Read}
@@ -58,3 +62,7 @@ module _ (k : ℕ) (bs : List ℕ) where
             (λ q. let u : (eqb k 3 && isReadable bs) ≡ true = rw (p, q) at t in omega (arith, eqb-true k 3 (and-left (eqb k 3) (isReadable bs) u)))),
         l,
       )
+
+-- every message fits a slot
+pub readable-fits : (bs : List ℕ) (m : messages.Message) → Bytes bs → read bs ≡ some m → length bs ≤ mostInput
+readable-fits bs m b e = omega (arith, ap length (write-read bs m b e), length-write-most m)

@@ -1,10 +1,9 @@
 //! Prints the measured part of docs/SPEED.md: `bench [ROUNDS]`.
 
 mod measure;
-mod script;
 
+use bench::script::{self, Input, Kind};
 use measure::{PARTS, Round, SIZE, Settings};
-use script::{Input, Kind};
 use std::process::Command;
 
 const D: u32 = 2;

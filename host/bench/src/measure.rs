@@ -1,6 +1,6 @@
 //! Times of a script, by how full the tables were and by kind of input.
 
-use crate::script::{Call, Input, Kind};
+use bench::script::{Call, Input, Kind};
 use programs::{Answer, Program, Proved, Second};
 use station::Size;
 use std::hint::black_box;

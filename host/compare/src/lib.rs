@@ -6,7 +6,9 @@
 
 #![forbid(unsafe_code)]
 
+pub mod journals;
 pub mod pair;
+pub mod recorded;
 pub mod shrink;
 pub mod sources;
 pub mod tell;

@@ -1,15 +1,16 @@
 //! Compares the proved station with the second program:
 //!
-//!     compare [--inputs N] [--seconds S] [--seed SEED]    random scripts, after 01's bench
+//!     compare [--inputs N] [--seconds S] [--seed SEED]    random scripts and journals, after 01's bench
 //!     compare [--large] SCRIPT..                          scripts of yours
 //!
 //! The bench, and runs to the last record and the last view, are those of both sizes; of the random
-//! scripts one in eight is for the large one. It ends after N inputs (a million, if nothing is said),
+//! scripts one in eight is for the large one. With each goes a random journal, cut and damaged in many
+//! ways. It ends after N inputs (a million, if nothing is said),
 //! or after S seconds, or at the first difference, which it prints as a short script. The exit is 0
 //! exactly when there was none.
 
 use compare::sources::{self, Scripted};
-use compare::{Difference, Met, replay, run, shrink, text};
+use compare::{Difference, Met, journals, replay, run, shrink, text};
 use programs::Proved;
 use second::random::Random;
 use second::replay::Input;
@@ -40,17 +41,17 @@ fn main() -> ExitCode {
             return ExitCode::from(2);
         }
     };
-    let mut met = Met::default();
+    let (mut met, mut kept) = (Met::default(), journals::Met::default());
     let start = Instant::now();
     let compared = match asked.scripts.is_empty() {
-        true => fixed(&mut met).and_then(|()| random(&asked, &mut met)),
+        true => fixed(&mut met).and_then(|()| random(&asked, &mut met, &mut kept)),
         false => asked.scripts.iter().try_for_each(|path| given(asked.size, path, &mut met)),
     };
     if let Err(report) = compared {
         print!("{report}");
         return ExitCode::FAILURE;
     }
-    summary(&met, start.elapsed());
+    summary(&met, &kept, start.elapsed());
     ExitCode::SUCCESS
 }
 
@@ -92,8 +93,8 @@ fn fixed(met: &mut Met) -> Result<(), String> {
     Ok(())
 }
 
-/// Random scripts, until there were enough of them.
-fn random(asked: &Asked, met: &mut Met) -> Result<(), String> {
+/// Random scripts, each with a random journal, until there were enough of them.
+fn random(asked: &Asked, met: &mut Met, kept: &mut journals::Met) -> Result<(), String> {
     println!("seed {}", asked.seed);
     let mut seeds = Random::new(asked.seed);
     let start = Instant::now();
@@ -104,6 +105,9 @@ fn random(asked: &Asked, met: &mut Met) -> Result<(), String> {
             let title = format!("seed {}, run {}", asked.seed, met.runs);
             return Err(report(&title, size, inputs, &found));
         }
+        let seed = seeds.number();
+        journals::run::<Proved>(size, seed, kept)
+            .map_err(|how| format!("journal {seed}, {size:?}: {how}\n"))?;
     }
     Ok(())
 }
@@ -134,7 +138,7 @@ fn report(title: &str, size: Size, inputs: Vec<Input>, found: &Difference) -> St
     )
 }
 
-fn summary(met: &Met, time: Duration) {
+fn summary(met: &Met, kept: &journals::Met, time: Duration) {
     let numbers: Vec<String> = met
         .numbers
         .iter()
@@ -145,5 +149,11 @@ fn summary(met: &Met, time: Duration) {
     let [all, one, commits] = met.effects;
     println!("answers {}", numbers.join(", "));
     println!("messages to all {all}, to one {one}; commits {commits}");
+    if kept.journals > 0 {
+        let journals::Met { journals, replay: [done, _, stopped], records, torn, .. } = kept;
+        println!(
+            "{journals} journals: {done} replays done, {stopped} stopped; {records} records, {torn} torn slots"
+        );
+    }
     println!("{} inputs in {} runs, 0 differ, {:.1} s", met.inputs, met.runs, time.as_secs_f64());
 }

@@ -1,24 +1,11 @@
 //! What the script program, whose limits are 01's, must print of a script, by the second program.
 
 use crate::text::{self, Line};
+use programs::words;
 use programs::{Program, Second};
 use second::replay::Input;
-use station::{Cause, Effect, Effects, GENESIS, Message, Name, Phase, Size};
+use station::{Effect, Effects, Size};
 use std::fmt::Write;
-
-/// The reasons of 01's "When the desk says no".
-const REASONS: [&str; 10] = [
-    "store not of its exact length, offered name not 32 bytes, or out buffer too short",
-    "store not well formed",
-    "already stopped",
-    "unreadable message",
-    "message not allowed",
-    "no record free for what this input must add",
-    "a due commit differs from the log at a height",
-    "tick at clock 4,000,000,000",
-    "offer not to be taken",
-    "bad settings for a fresh store",
-];
 
 /// Bytes of a propose on the wall display.
 const SHOWN: usize = 47;
@@ -103,17 +90,13 @@ impl Teller {
 
     fn answered(&mut self, number: usize, what: &str, refusal: u32, out: &[u8]) {
         if refusal != 0 {
-            let reason = REASONS[refusal as usize - 1];
+            let reason = words::reason(refusal);
             self.print(format_args!("line {number}: {what}: {refusal} {reason}"));
             return;
         }
         self.print(format_args!("line {number}: {what}: 0 done, {} bytes", out.len()));
-        let mut effects = Effects::new(out);
-        loop {
-            let before = effects.bytes();
-            let Some(effect) = effects.next() else { return };
-            let field = &before[..before.len() - effects.bytes().len()];
-            self.print(format_args!("  {} # {}", said(effect), hex(field)));
+        for said in words::effects(Effects::new(out)) {
+            self.print(format_args!("  {said}"));
         }
     }
 
@@ -159,7 +142,7 @@ impl Teller {
         let log = station.log();
         self.print(format_args!("line {number}: log: {} logged", log.len()));
         for (height, name) in (1..).zip(log) {
-            self.print(format_args!("  {}", said(Effect::Committed { height, name })));
+            self.print(format_args!("  {}", words::effect(Effect::Committed { height, name })));
         }
     }
 
@@ -172,8 +155,9 @@ impl Teller {
         let display = station.display();
         self.print(format_args!("line {number}: display: 0 done, {} bytes", out.len()));
         for (shown, field) in display.iter().zip(out.chunks(SHOWN)) {
-            let (height, name, left) = (shown.height, digits(shown.name), left(shown.ticks_left));
-            let field = hex(field);
+            let (height, name, left) =
+                (shown.height, words::name(shown.name), left(shown.ticks_left));
+            let field = words::hex(field);
             self.print(format_args!("  shown: height {height} name {name}, {left} # {field}"));
         }
     }
@@ -182,17 +166,10 @@ impl Teller {
         let Some(station) = &self.station else {
             return self.answered(number, "state", 2, &[]);
         };
-        let view = station.view();
-        let phase = match station.phase() {
-            Phase::InView => format!("in view {view}"),
-            Phase::Waiting { quit } => format!("waiting after view {view}, quit at {quit}"),
-            Phase::Stopped(Cause::Full) => format!("stopped, full, in view {view}"),
-            Phase::Stopped(Cause::Split) => format!("stopped, split, in view {view}"),
-            Phase::Stopped(Cause::Clock) => format!("stopped, clock, in view {view}"),
-        };
+        let phase = words::phase(station.phase(), station.view());
         let (entry, clock) = (station.station().entry(), station.station().clock());
         let lock = station.lock();
-        let (height, name, view) = (lock.height, digits(lock.name), lock.view);
+        let (height, name, view) = (lock.height, words::name(lock.name), lock.view);
         self.print(format_args!(
             "line {number}: state: {phase}, entered at {entry}, clock {clock}"
         ));
@@ -210,58 +187,4 @@ fn left(ticks: i64) -> String {
         1.. => format!("{} left", count(ticks.unsigned_abs())),
         _ => format!("overdue by {}", count(ticks.unsigned_abs())),
     }
-}
-
-/// What an outgoing field says.
-fn said(effect: Effect) -> String {
-    match effect {
-        Effect::ToAll(message) => format!("to all: {}", words(message)),
-        Effect::ToOne { station, message } => format!("to {station}: {}", words(message)),
-        Effect::Committed { height, name } => {
-            format!("committed: height {height} name {}", digits(name))
-        }
-    }
-}
-
-/// A message as a line of a script.
-fn words(message: Message) -> String {
-    match message {
-        Message::NewView { view, height, name, certificate_view, mask, author } => format!(
-            "new-view view {view} height {height} name {} certificate {certificate_view} mask {} author {author}",
-            digits(name),
-            stations(mask)
-        ),
-        Message::Propose { view, height, name, parent, mask, author } => format!(
-            "propose view {view} height {height} name {} parent {} mask {} author {author}",
-            digits(name),
-            digits(parent),
-            stations(mask)
-        ),
-        Message::Vote { view, height, name, author } => {
-            format!("vote view {view} height {height} name {} author {author}", digits(name))
-        }
-        Message::Blame { view, author } => format!("blame view {view} author {author}"),
-        Message::BlameSet { view, mask } => {
-            format!("blame-set view {view} mask {}", stations(mask))
-        }
-        Message::Status { height, name, certificate_view, mask } => format!(
-            "status height {height} name {} certificate {certificate_view} mask {}",
-            digits(name),
-            stations(mask)
-        ),
-    }
-}
-
-fn hex(bytes: &[u8]) -> String {
-    bytes.iter().map(|byte| format!("{byte:02x}")).collect()
-}
-
-fn digits(name: Name) -> String {
-    if name == GENESIS { "0".into() } else { hex(&name).trim_start_matches('0').into() }
-}
-
-fn stations(mask: u16) -> String {
-    let stations = (0..16).filter(|station| mask >> station & 1 == 1);
-    let words: Vec<String> = stations.map(|station: u16| station.to_string()).collect();
-    if words.is_empty() { "-".into() } else { words.join("+") }
 }

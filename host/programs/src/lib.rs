@@ -3,10 +3,13 @@
 
 #![forbid(unsafe_code)]
 
+mod journals;
 mod proved;
 mod second_program;
 pub mod shown;
+pub mod words;
 
+pub use journals::Journals;
 pub use proved::Proved;
 pub use second_program::{Second, limits};
 use station::{Lock, Name, Phase, Shown, Size};

@@ -66,6 +66,15 @@ impl Program for Proved {
 }
 
 impl Proved {
+    pub fn station(&self) -> &Station {
+        &self.station
+    }
+
+    /// Goes on as another station.
+    pub(crate) fn take_up(&mut self, station: Station) {
+        self.station = station;
+    }
+
     /// An offer of a name of another length, which `Station` has no type for.
     fn offer_misfit(&mut self, name: &[u8]) -> Answer<'_> {
         let mut store = self.station.store().to_vec();

@@ -16,6 +16,10 @@ impl Second {
     pub fn station(&self) -> &Station {
         &self.station
     }
+
+    pub(crate) fn station_mut(&mut self) -> &mut Station {
+        &mut self.station
+    }
 }
 
 impl Program for Second {

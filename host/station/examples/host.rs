@@ -1,20 +1,22 @@
 //! A complete small host: three stations in one process, with a network that takes one tick.
 //!
 //! Shown is all that a host has to do: seals (in place of signatures) for every claim of a message,
-//! names that fix a block's height, parent and text, a store that is kept before anything is sent,
-//! offers by the leader, and an answer to every refusal. `examples/host.c` is the same host in C.
+//! names that fix a block's height, parent and text, a journal that has each input before anything is
+//! sent, its replay after a power cut, offers by the leader, and an answer to every refusal.
+//! `examples/host.c` is the same host in C.
 //!
 //!     cargo run --release --example host -- DIRECTORY
 
-use station::{Effect, GENESIS, Message, Name, Refusal, Size, Station};
+use station::{Effect, Failure, GENESIS, Input, Kept, Message, Name, Refusal, SLOT, Size, ffi};
 use std::collections::HashMap;
-use std::fs::{self, File};
-use std::io::{self, Write};
+use std::fs::{self, OpenOptions};
+use std::io::{self, Seek, SeekFrom, Write};
 use std::path::{Path, PathBuf};
 
 const STATIONS: u8 = 3;
 const DELAY: u32 = 2;
 const TICKS: u32 = 24;
+const SLOTS: u32 = 256;
 const CARDS: [&str; 3] = ["card for Ada", "card for Bela", "card for Chandra"];
 
 /// Stands where a signature belongs. It protects nothing: a real host signs, with a key that no
@@ -50,11 +52,12 @@ struct Letter {
     text: Option<&'static str>,
 }
 
-/// One station with its host.
+/// One station with its host. What stands here besides the station a real host keeps on the disk as
+/// well.
 struct Host {
     own: u8,
-    station: Station,
-    file: PathBuf,
+    kept: Kept,
+    journal: PathBuf,
     /// Seals of claims, made here or received: a certificate that is sent needs them again.
     seals: HashMap<Vec<u8>, Seal>,
     texts: HashMap<Name, &'static str>,
@@ -65,32 +68,40 @@ struct Host {
 
 impl Host {
     fn new(own: u8, directory: &Path) -> io::Result<Host> {
-        let station = Station::fresh(Size::Small, STATIONS.into(), DELAY.into(), own.into());
-        let station = station.map_err(io::Error::other)?;
-        let file = directory.join(format!("station-{own}.store"));
+        let journal = directory.join(format!("station-{own}.journal"));
+        // Each run of this example is a new group; a real host never does away with a journal.
+        let _ = fs::remove_file(&journal);
+        let (n, d) = (STATIONS.into(), DELAY.into());
+        let kept = Kept::begin(&journal, SLOTS, Size::Small, n, d, own.into())?;
         let (seals, texts) = (HashMap::new(), HashMap::new());
-        let host = Host { own, station, file, seals, texts, top: (0, GENESIS), offered: 0 };
-        host.keep()?;
-        Ok(host)
+        Ok(Host { own, kept, journal, seals, texts, top: (0, GENESIS), offered: 0 })
     }
 
-    /// Keeps the store: whole in a new file, which then takes the place of the old one.
-    fn keep(&self) -> io::Result<()> {
-        let beside = self.file.with_extension("new");
-        let mut file = File::create(&beside)?;
-        file.write_all(self.station.store())?;
-        file.sync_all()?;
-        fs::rename(&beside, &self.file)
-    }
+    /// Power is cut half way into a record, and the station in memory is gone. It is taken up again:
+    /// fresh, with every input of its journal.
+    fn cut(self, clock: u32) -> io::Result<Host> {
+        let Host { own, kept, journal, .. } = &self;
+        println!("tick {clock}: the power is cut at station {own}");
+        let (sequence, next) = (kept.journal().records(), kept.journal().next());
+        let mut slot = [0; SLOT];
+        ffi::journal_put(&mut slot, sequence.into(), Input::Tick.kind().into(), &[]);
+        let mut file = OpenOptions::new().write(true).open(journal)?;
+        file.seek(SeekFrom::Start(u64::from(next) * SLOT as u64))?;
+        file.write_all(&slot[..50])?;
 
-    /// Takes the station up again from its file.
-    fn restart(&mut self) -> io::Result<()> {
-        self.station = Station::from_store(&fs::read(&self.file)?).map_err(io::Error::other)?;
-        Ok(())
+        let Host { own, kept, journal, seals, texts, top, offered } = self;
+        drop(kept);
+        let (n, d) = (STATIONS.into(), DELAY.into());
+        let (kept, report) = Kept::resume(&journal, Size::Small, n, d, own.into())?;
+        let (records, torn) = (report.records, report.torn.len());
+        println!(
+            "tick {clock}: station {own} goes on from its journal: {records} records, {torn} torn"
+        );
+        Ok(Host { own, kept, journal, seals, texts, top, offered })
     }
 
     fn tick(&mut self, clock: u32) -> io::Result<Vec<Letter>> {
-        let effects = self.station.tick().map(Iterator::collect);
+        let effects = self.kept.tick().map(Iterator::collect);
         self.done(clock, effects)
     }
 
@@ -117,40 +128,39 @@ impl Host {
         for (claim, seal) in claims.iter().zip(letter.seals) {
             self.seals.insert(claim.encode(), seal);
         }
-        let effects = self.station.step(&letter.message.encode()).map(Iterator::collect);
+        let effects = self.kept.step(&letter.message.encode()).map(Iterator::collect);
         self.done(clock, effects)
     }
 
     /// Offers the next card, if this station leads and is ready for it.
     fn offer(&mut self, clock: u32) -> io::Result<Vec<Letter>> {
         let Some(text) = CARDS.get(self.offered) else { return Ok(Vec::new()) };
-        if !self.station.is_leader() {
+        if !self.kept.station().is_leader() {
             return Ok(Vec::new());
         }
         let (height, parent) = self.top;
         let name = name_of(height + 1, &parent, text);
         self.texts.insert(name, text);
-        let effects = self.station.offer(&name).map(Iterator::collect);
+        let effects = self.kept.offer(&name).map(Iterator::collect);
         self.offered += usize::from(effects.is_ok());
         self.done(clock, effects)
     }
 
-    /// What every call ends with: first the store is kept, then letters go out.
+    /// What every call ends with: its input is in the journal, and letters go out.
     fn done(
         &mut self,
         clock: u32,
-        effects: Result<Vec<Effect>, Refusal>,
+        effects: Result<Vec<Effect>, Failure>,
     ) -> io::Result<Vec<Letter>> {
         let effects = match effects {
             Ok(effects) => effects,
             // The offer is made again after the next input, and a bad message is dropped.
-            Err(Refusal::NotTaken | Refusal::Unreadable | Refusal::NotAllowed) => {
-                return Ok(Vec::new());
-            }
-            // The station is stopped, or its buffers are wrong: somebody has to look.
-            Err(refusal) => return Err(io::Error::other(refusal)),
+            Err(Failure::Refused(
+                Refusal::NotTaken | Refusal::Unreadable | Refusal::NotAllowed,
+            )) => return Ok(Vec::new()),
+            // The station is stopped, or the journal can't be written: somebody has to look.
+            Err(failure) => return Err(failure.into()),
         };
-        self.keep()?;
         let own = self.own;
         let mut letters = Vec::new();
         for effect in effects {
@@ -222,12 +232,12 @@ fn main() -> io::Result<()> {
             post.extend(host.offer(clock)?);
         }
         if clock == 10 {
-            hosts[2].restart()?;
-            println!("tick {clock}: station 2 goes on from its kept store");
+            let host = hosts.remove(2);
+            hosts.insert(2, host.cut(clock)?);
         }
     }
-    let log = hosts[0].station.log();
-    let alike = hosts.iter().all(|host| host.station.log() == log);
+    let log = hosts[0].kept.station().log();
+    let alike = hosts.iter().all(|host| host.kept.station().log() == log);
     println!("{} entries in each log, {}", log.len(), if alike { "alike" } else { "not alike" });
     Ok(())
 }

@@ -1,9 +1,9 @@
 //! The calls of `include/station.h` on slices: here is the crate's only `unsafe`.
 //!
-//! The calls answer every length and every content, and write to nothing but the store and the out
-//! buffer. A result is the refusal's number times 2^32, plus the count of bytes written: see
+//! The calls answer every length and every content, and write to nothing but the slices that they are
+//! lent to write. A result is the refusal's number times 2^32, plus a count: see
 //! [`answer`](crate::answer). For hosts that keep their own buffers; others use
-//! [`Station`](crate::Station).
+//! [`Station`](crate::Station) and [`Journal`](crate::Journal).
 
 #![allow(unsafe_code)]
 
@@ -40,6 +40,31 @@ mod declared {
             first_len: usize,
             second: *const u8,
             second_len: usize,
+        ) -> u64;
+        pub fn journal_put(
+            slot: *mut u8,
+            slot_len: usize,
+            sequence: u64,
+            kind: u64,
+            input: *const u8,
+            input_len: usize,
+        ) -> u64;
+        pub fn journal_write(
+            journal: *mut u8,
+            journal_len: usize,
+            kind: u64,
+            input: *const u8,
+            input_len: usize,
+        ) -> u64;
+        pub fn journal_replay(
+            journal: *const u8,
+            journal_len: usize,
+            store: *mut u8,
+            store_len: usize,
+            out: *mut u8,
+            out_len: usize,
+            report: *mut u8,
+            report_len: usize,
         ) -> u64;
     }
 }
@@ -94,5 +119,49 @@ pub fn display(store: &[u8], out: &mut [u8]) -> u64 {
 pub fn choose(kind: u64, n: u64, first: &[u8], second: &[u8]) -> u64 {
     unsafe {
         declared::status_choose(kind, n, first.as_ptr(), first.len(), second.as_ptr(), second.len())
+    }
+}
+
+/// One record into a blank slot. Count: 128.
+pub fn journal_put(slot: &mut [u8], sequence: u64, kind: u64, input: &[u8]) -> u64 {
+    unsafe {
+        declared::journal_put(
+            slot.as_mut_ptr(),
+            slot.len(),
+            sequence,
+            kind,
+            input.as_ptr(),
+            input.len(),
+        )
+    }
+}
+
+/// One record into a journal's first blank slot. Count: the slot's place.
+pub fn journal_write(journal: &mut [u8], kind: u64, input: &[u8]) -> u64 {
+    unsafe {
+        declared::journal_write(
+            journal.as_mut_ptr(),
+            journal.len(),
+            kind,
+            input.as_ptr(),
+            input.len(),
+        )
+    }
+}
+
+/// Every whole record of a journal to the station of a store. Count: the records; of refusal 13 the
+/// place at which reading ended.
+pub fn journal_replay(journal: &[u8], store: &mut [u8], out: &mut [u8], report: &mut [u8]) -> u64 {
+    unsafe {
+        declared::journal_replay(
+            journal.as_ptr(),
+            journal.len(),
+            store.as_mut_ptr(),
+            store.len(),
+            out.as_mut_ptr(),
+            out.len(),
+            report.as_mut_ptr(),
+            report.len(),
+        )
     }
 }

@@ -2,7 +2,8 @@
 //!
 //! A [`Station`] takes messages, ticks and offers, and gives back [`Effects`]: what to send, and what
 //! it committed. It does no input or output of its own. The station itself is the proved archive
-//! behind the calls in [`ffi`]; this crate owns the buffers and gives bytes their types.
+//! behind the calls in [`ffi`]; this crate owns the buffers and gives bytes their types. A [`Kept`]
+//! station has each input in a [`Journal`] on the disk before its effects are given back.
 //! docs/HOST.md says what a host must do, and what it may rely on.
 //!
 //! ```
@@ -26,19 +27,27 @@
 
 mod display;
 mod effect;
+mod failure;
 pub mod ffi;
+mod journal;
+mod kept;
 mod message;
 mod refusal;
 mod report;
 pub mod size;
+mod slot;
 mod station;
 mod store;
 
 pub use display::Shown;
 pub use effect::{Effect, Effects};
+pub use failure::Failure;
+pub use journal::{Journal, Report};
+pub use kept::Kept;
 pub use message::{GENESIS, Message, Name};
 pub use refusal::{Refusal, answer};
 pub use report::choose;
 pub use size::Size;
+pub use slot::{Input, SLOT, Slot};
 pub use station::Station;
 pub use store::{Cause, Lock, Phase};

@@ -1,4 +1,4 @@
-//! "When the desk says no": the refusals with 01's numbers, each with what to do about it.
+//! "When the desk says no": the refusals with the numbers of 01 and 02, each with what to do about it.
 
 use std::fmt;
 
@@ -36,11 +36,13 @@ pub enum Refusal {
     NotTaken = 9,
     /// Bad settings for a fresh store.
     Settings = 10,
+    /// No blank slot left in the journal, or a slot that replay can't read past.
+    Journal = 13,
 }
 
 impl Refusal {
     /// Every refusal, in the order of the numbers.
-    pub const ALL: [Refusal; 10] = [
+    pub const ALL: [Refusal; 11] = [
         Refusal::Length,
         Refusal::Store,
         Refusal::Stopped,
@@ -51,9 +53,10 @@ impl Refusal {
         Refusal::Clock,
         Refusal::NotTaken,
         Refusal::Settings,
+        Refusal::Journal,
     ];
 
-    /// 01's number.
+    /// The number that 01 or 02 gives it.
     pub fn number(self) -> u32 {
         self as u32
     }
@@ -81,6 +84,7 @@ impl Refusal {
             Refusal::Clock => "the clock is at its end, and the station is now stopped",
             Refusal::NotTaken => "the offer is not to be taken now",
             Refusal::Settings => "the settings are bad",
+            Refusal::Journal => "the journal has no blank slot, or one that can't be read",
         }
     }
 
@@ -90,9 +94,7 @@ impl Refusal {
             Refusal::Length => {
                 "lend a store and an out buffer of the lengths of one `Size`, and a name of 32 bytes"
             }
-            Refusal::Store => {
-                "go back to the last store kept whole; the station counts among the f faulty"
-            }
+            Refusal::Store => "replay the journal: the store was damaged, or is of something else",
             Refusal::Stopped => "read its log; it counts among the f faulty and takes no input",
             Refusal::Unreadable => "drop it; its sender is faulty, or the link damages bytes",
             Refusal::NotAllowed => "drop it; its sender is faulty, or has other settings",
@@ -105,6 +107,9 @@ impl Refusal {
                 "offer it again after the next input while this station leads, else to the leader"
             }
             Refusal::Settings => "take an odd n of 3 to 15, D of 1 to 10,000, and own below n",
+            Refusal::Journal => {
+                "make a full one longer; with a damaged one the station counts among the f faulty"
+            }
         }
     }
 }
@@ -117,16 +122,16 @@ impl fmt::Display for Refusal {
 
 impl std::error::Error for Refusal {}
 
-/// A call's result taken apart: the count of bytes written, or the refusal.
+/// A call's result taken apart: its count, or the refusal.
 ///
 /// # Panics
-/// If the number is none of 01's, as no station answers it.
+/// If no refusal has the number, as no call answers it.
 pub fn answer(result: u64) -> Result<usize, Refusal> {
     let number = (result >> 32) as u32;
     if number == 0 {
         return Ok(result as usize);
     }
-    Err(Refusal::from_number(number).expect("a refusal of 1 to 10"))
+    Err(Refusal::from_number(number).expect("the number of a refusal"))
 }
 
 #[cfg(test)]
@@ -134,19 +139,21 @@ mod tests {
     use super::*;
 
     #[test]
-    fn numbers_are_those_of_01() {
-        for (place, refusal) in Refusal::ALL.into_iter().enumerate() {
-            assert_eq!(refusal.number() as usize, place + 1);
-            assert_eq!(Refusal::from_number(refusal.number()), Some(refusal));
-            assert!(refusal.to_string().starts_with(&format!("refusal {}: ", place + 1)));
+    fn numbers_are_those_of_01_and_02() {
+        for (number, refusal) in (1..=10).chain([13]).zip(Refusal::ALL) {
+            assert_eq!(refusal.number(), number);
+            assert_eq!(Refusal::from_number(number), Some(refusal));
+            assert!(refusal.to_string().starts_with(&format!("refusal {number}: ")));
         }
-        assert_eq!(Refusal::from_number(0), None);
-        assert_eq!(Refusal::from_number(11), None);
+        for number in [0, 11, 12, 14] {
+            assert_eq!(Refusal::from_number(number), None);
+        }
     }
 
     #[test]
     fn results_come_apart() {
         assert_eq!(answer(132), Ok(132));
         assert_eq!(answer(7 << 32), Err(Refusal::Split));
+        assert_eq!(answer(13 << 32 | 5), Err(Refusal::Journal));
     }
 }

@@ -2,10 +2,13 @@
 
 use crate::display::{self, Shown};
 use crate::effect::Effects;
+use crate::failure::Failure;
 use crate::ffi;
+use crate::journal::Report;
 use crate::message::Name;
 use crate::refusal::{Refusal, answer};
 use crate::size::Size;
+use crate::slot::{Input, SLOT};
 use crate::store::{self, Lock, Phase};
 use std::fmt;
 
@@ -47,7 +50,8 @@ pub struct Station {
 }
 
 /// The calls. Each gives back what it sends and commits, or a refusal. Before a host sends any of
-/// it, it keeps the store, where stores are kept at all: what a station has said, it must not forget.
+/// it, the input is in its journal: what a station has said, it must not forget. A
+/// [`Kept`](crate::Kept) station sees to that.
 impl Station {
     /// A station in view 1 at clock 0: with the limits that all stations of its group have, one of
     /// `n`, which is odd and of 3 to 15, with the delay bound `d` of 1 to 10,000 ticks, and its own
@@ -60,14 +64,12 @@ impl Station {
 
     /// A message from another station, whose signatures the host has checked. Refusals: 3, 4, 5, 6.
     pub fn step(&mut self, message: &[u8]) -> Result<Effects<'_>, Refusal> {
-        let result = ffi::step(&mut self.store, message, &mut self.out);
-        self.effects(result)
+        self.take(Input::Message(message))
     }
 
     /// One tick of the group's common clock. Refusals: 3, 8, 7, 6.
     pub fn tick(&mut self) -> Result<Effects<'_>, Refusal> {
-        let result = ffi::tick(&mut self.store, &mut self.out);
-        self.effects(result)
+        self.take(Input::Tick)
     }
 
     /// The name of a block to propose, if this station leads. Refusals: 3, 9, 6.
@@ -80,12 +82,28 @@ impl Station {
     /// # Ok::<(), Refusal>(())
     /// ```
     pub fn offer(&mut self, name: &Name) -> Result<Effects<'_>, Refusal> {
-        let result = ffi::offer(&mut self.store, name, &mut self.out);
-        self.effects(result)
+        self.take(Input::Offer(name))
     }
 
-    fn effects(&self, result: u64) -> Result<Effects<'_>, Refusal> {
-        answer(result).map(|count| Effects::new(&self.out[..count]))
+    /// Any input.
+    pub fn take(&mut self, input: Input<'_>) -> Result<Effects<'_>, Refusal> {
+        let count = self.call(input)?;
+        Ok(self.said(count))
+    }
+
+    /// The call of an input: how many bytes it wrote, or the refusal.
+    pub(crate) fn call(&mut self, input: Input<'_>) -> Result<usize, Refusal> {
+        let (store, out) = (&mut self.store, &mut self.out);
+        answer(match input {
+            Input::Tick => ffi::tick(store, out),
+            Input::Offer(name) => ffi::offer(store, name, out),
+            Input::Message(message) => ffi::step(store, message, out),
+        })
+    }
+
+    /// What the last call wrote, if that was so many bytes.
+    pub(crate) fn said(&self, count: usize) -> Effects<'_> {
+        Effects::new(&self.out[..count])
     }
 
     fn around(size: Size, store: Vec<u8>) -> Station {
@@ -124,6 +142,42 @@ impl Station {
             Err(refusal) => Err(refusal),
             Ok(_) => unreachable!("an empty message is unreadable"),
         }
+    }
+}
+
+/// A station and its journal.
+impl Station {
+    /// Hands over every whole record of a journal: of all its slots, from the first on. A fresh station
+    /// is then as the one that wrote them was when it was cut; see [`Journal`](crate::Journal), which
+    /// replays a file. Refusals: 13, with the report, where a slot can't be read or is not of this
+    /// station, which then has the records before it; 1 for 2^32 slots or more.
+    ///
+    /// ```
+    /// use station::{Input, Report, SLOT, Size, Station, ffi};
+    ///
+    /// let mut journal = [0; 4 * SLOT];
+    /// journal[2] = 4; // a torn slot
+    /// assert_eq!(ffi::journal_write(&mut journal, Input::Tick.kind().into(), &[]), 1);
+    ///
+    /// let mut station = Station::fresh(Size::Small, 3, 2, 0)?;
+    /// let report = station.replay(&journal)?;
+    /// assert_eq!(report, Report { records: 1, end: 2, torn: vec![0] });
+    /// assert_eq!(station.clock(), 1);
+    /// # Ok::<(), station::Failure>(())
+    /// ```
+    pub fn replay(&mut self, journal: &[u8]) -> Result<Report, Failure> {
+        let mut report = vec![0; Report::length(journal.len() / SLOT)];
+        let result = ffi::journal_replay(journal, &mut self.store, &mut self.out, &mut report);
+        match answer(result) {
+            Ok(_) => Ok(Report::read(&report)),
+            Err(Refusal::Journal) => Err(Failure::Damaged(Report::read(&report))),
+            Err(refusal) => Err(refusal.into()),
+        }
+    }
+
+    /// Takes up a store that this station had before.
+    pub(crate) fn go_back(&mut self, store: &[u8]) {
+        self.store.copy_from_slice(store);
     }
 }
 

@@ -3,6 +3,7 @@
 
 mod bench;
 mod common;
+mod journals;
 mod limits;
 mod refusals;
 mod reports;

@@ -145,7 +145,7 @@ pub fn message(page: &mut Page, at: usize, said: Message) -> usize {
         }
         Message::BlameSet { view, mask } => {
             let blamed = number(page, at, b"blame-set view ", view as u64);
-            crate::words::mask(page, blamed, b" mask ", mask)
+            crate::spell::mask(page, blamed, b" mask ", mask)
         }
         Message::Status {
             height,
