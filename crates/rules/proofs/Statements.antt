@@ -79,6 +79,11 @@ pub same-no-conflict : (x y : Statement) → sameStatement x y ≡ true → conf
 unfolding conflict
 same-no-conflict x y e = rw e
 
+-- of two that conflict one has something against the other
+pub conflict-against : (x y : Statement) → conflict x y ≡ true → (against x y ≡ true) ⊎ (against y x ≡ true)
+unfolding conflict
+conflict-against x y e = or-2 (against x y) (against y x) (and-2 (not (sameStatement x y) && eqb (x .view) (y .view)) _ e .1)
+
 -- two of one view that don't conflict are the same, or neither has anything against the other
 pub no-conflict-against : (x w : Statement) → conflict x w ≡ false → w .view ≡ x .view → sameStatement x w ≡ false → (against x w ≡ false) × (against w x ≡ false)
 unfolding conflict
@@ -104,6 +109,20 @@ no-conflict-newView x w c v kx kw =
       | yes d ↦ no-bool (sym (le-leb (x .height) (w .height) d) ∙ l)
       | no d ↦ omega arith
     ]
+
+-- two of one view and height that don't conflict have one name, of whatever kind they are
+pub no-conflict-level : (x w : Statement) → conflict x w ≡ false → w .view ≡ x .view → w .height ≡ x .height → w .name ≡ x .name
+unfolding against
+no-conflict-level x w c v h =
+    by-bool (x .isNewView)
+    (λ kx.
+    by-bool (w .isNewView)
+    (λ kw.
+    by-bool (sameStatement x w) (λ s. ap (λ (y : Statement). y .name) (same-like x w s))
+    (λ s. no-bool (rw (kx, kw) at (no-conflict-against x w c v s .0))))
+    (λ kw. let z = no-conflict-newView w x (conflict-sym w x ∙ c) (sym v) kw kx in absurd (omega arith)))
+    (λ kx.
+    by-bool (w .isNewView) (λ kw. let z = no-conflict-newView x w c v kx kw in absurd (omega arith)) (λ kw. no-conflict-propose x w c v kx kw h))
 
 -- ---- what is stored
 
