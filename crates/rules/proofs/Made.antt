@@ -27,13 +27,12 @@ none-first p xs h = by-option (first p xs) (λ e. e) (λ z e. no-bool (sym (firs
 
 -- a propose above the top of the view
 module _ (v : ℕ) (xs : List Statement) (clean : Clean v xs) (y : Statement) (t : top v xs ≡ some y)
-    (x : Statement) (kind : x .isNewView ≡ false) (view : x .view ≡ v) (height : x .height ≡ y .height + 1) (parent : x .link ≡ y .name) where
+    (x : Statement) (isPropose : x .isNewView ≡ false) (view : x .view ≡ v) (height : x .height ≡ y .height + 1) (parent : x .link ≡ y .name) where
   module _ (z : Statement) (m : List·Memᴰ z xs) (w : z .view ≡ v) where
     under : z .height ≤ y .height
     under =
         let (u, s, l) = top-some v xs z m w in
-        let e = ap (λ (a : Statement). a .height) (Option·some-injective u y (sym s ∙ t)) in
-        omega arith
+        omega (arith, l, ap (λ (a : Statement). a .height) (Option·some-injective u y (sym s ∙ t)))
 
     -- what is stored as high as the top has its name
     level : z .height ≡ y .height → z .name ≡ y .name
@@ -43,38 +42,30 @@ module _ (v : ℕ) (xs : List Statement) (clean : Clean v xs) (y : Statement) (t
 
     not-against : against x z ≡ true → ⊥
     unfolding against
-    not-against a = go (or-2 (not (z .isNewView) && eqb (x .height) (z .height) && not (eqb (x .name) (z .name))) _ (rw kind at a))
+    not-against a = go (or-2 (not (z .isNewView) && eqb (x .height) (z .height) && not (eqb (x .name) (z .name))) _ (rw isPropose at a))
       where
         go : ((not (z .isNewView) && eqb (x .height) (z .height) && not (eqb (x .name) (z .name))) ≡ true)
             ⊎ ((eqb (x .height) (z .height + 1) && not (eqb (x .link) (z .name))) ≡ true) → ⊥
         go (inl b) =
-            let e = eqb-true _ _ (and-3 (not (z .isNewView)) (eqb (x .height) (z .height)) _ b .1) in
-            let u = under in
-            omega arith
+            omega (arith, height, under, eqb-true (x .height) (z .height) (and-3 (not (z .isNewView)) (eqb (x .height) (z .height)) _ b .1))
         go (inr b) =
             let (p, q) = and-2 (eqb (x .height) (z .height + 1)) _ b in
-            let e = eqb-true _ _ p in
-            let n = level (omega arith) in
+            let n = level (omega (arith, height, eqb-true (x .height) (z .height + 1) p)) in
             no-bool (sym (rw (eq-eqb (x .link) (z .name) (parent ∙ sym n)) at q))
 
     none-against : against z x ≡ true → ⊥
     unfolding against
     none-against a =
-        let u = under in
         by-bool (z .isNewView)
-        (λ k. let l = leb-true (x .height) (z .height) (rw (k, kind) at a) in omega arith)
+        (λ k. omega (arith, height, under, leb-true (x .height) (z .height) (rw (k, isPropose) at a)))
         (λ k. go (or-2 (not (x .isNewView) && eqb (z .height) (x .height) && not (eqb (z .name) (x .name))) _ (rw k at a)))
       where
         go : ((not (x .isNewView) && eqb (z .height) (x .height) && not (eqb (z .name) (x .name))) ≡ true)
             ⊎ ((eqb (z .height) (x .height + 1) && not (eqb (z .link) (x .name))) ≡ true) → ⊥
         go (inl b) =
-            let e = eqb-true _ _ (and-3 (not (x .isNewView)) (eqb (z .height) (x .height)) _ b .1) in
-            let u = under in
-            omega arith
+            omega (arith, height, under, eqb-true (z .height) (x .height) (and-3 (not (x .isNewView)) (eqb (z .height) (x .height)) _ b .1))
         go (inr b) =
-            let e = eqb-true _ _ (and-2 (eqb (z .height) (x .height + 1)) _ b .0) in
-            let u = under in
-            omega arith
+            omega (arith, height, under, eqb-true (z .height) (x .height + 1) (and-2 (eqb (z .height) (x .height + 1)) _ b .0))
 
   above-clean : first (conflict x) xs ≡ none
   above-clean =

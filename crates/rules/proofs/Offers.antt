@@ -31,14 +31,17 @@ top-mem v (y ∷ ys) x e =
 pub top-some : (v : ℕ) (xs : List Statement) (z : Statement) → List·Memᴰ z xs → z .view ≡ v → (x : Statement) × (top v xs ≡ some x) × (z .height ≤ x .height)
 unfolding top
 top-some v (y ∷ ys) z (List·Memᴰ·head e) w =
-    let q : eqb (y .view) v ≡ true = eq-eqb (y .view) v (ap (λ (x : Statement). x .view) (sym e) ∙ w) in
-    let h = ap (λ (x : Statement). x .height) e in
-    by-option (top v ys) (λ r. (y, rw (q, r, top) refl, omega arith)) λ x r.
-    by-bool (ltb (y .height) (x .height)) (λ k. let l = ltb-true _ _ k in (x, rw (q, r, k, top) refl, omega arith)) (λ k. (y, rw (q, r, k, top) refl, omega arith))
+    let q : eqb (y .view) v ≡ true = eq-eqb (y .view) v (ap (λ (u : Statement). u .view) (sym e) ∙ w) in
+    let h : z .height ≡ y .height = ap (λ (u : Statement). u .height) e in
+    by-option (top v ys) (λ r. (y, rw (q, r, top) refl, omega (arith, h))) λ x r.
+    by-bool (ltb (y .height) (x .height)) (λ k. (x, rw (q, r, k, top) refl, omega (arith, h, ltb-true (y .height) (x .height) k)))
+    (λ k. (y, rw (q, r, k, top) refl, omega (arith, h)))
 top-some v (y ∷ ys) z (List·Memᴰ·tail m) w =
     let (x, r, l) = top-some v ys z m w in
     by-bool (eqb (y .view) v)
-    (λ q. by-bool (ltb (y .height) (x .height)) (λ k. (x, rw (q, r, k, top) refl, l)) (λ k. let n = ltb-false _ _ k in (y, rw (q, r, k, top) refl, omega arith)))
+    (λ q.
+    by-bool (ltb (y .height) (x .height)) (λ k. (x, rw (q, r, k, top) refl, l))
+    (λ k. (y, rw (q, r, k, top) refl, omega (arith, l, ltb-false (y .height) (x .height) k))))
     (λ q. (x, rw (q, top) r, l))
 
 pub offer-made : (b : ℕ) (s : State) (m : Message) → offered b s ≡ some m

@@ -199,6 +199,9 @@ leading =
     ∷ station 1 (hears (newView 1 0 0 0 0 1) ⇒ bytes 132 ∷ idle 5 ∷ [])
     ∷ station 2 (hears (blameSet 1 3) ⇒ bytes 19 ∷ idle 3 ∷ hears (newView 2 0 0 0 0 2) ⇒ bytes 132 ∷ hears (status 3 79 1 3) ⇒ bytes 0 ∷ idle 4
     ∷ ticks ⇒ says (toAll (newView 2 0 0 0 0 2) ∷ toAll (newView 2 3 79 1 3 2) ∷ []) ∷ [])
+    -- so it is where an offer was taken above that one: its own new-view conflicts with its own propose
+    ∷ station 2 (hears (blameSet 1 3) ⇒ bytes 19 ∷ idle 3 ∷ hears (newView 2 0 0 0 0 2) ⇒ bytes 132 ∷ hears (vote 2 0 0 0) ⇒ bytes 0 ∷ hears (status 3 79 1 3) ⇒ bytes 0 ∷ idle 2
+    ∷ isOffered 77 ⇒ bytes 160 ∷ idle 2 ∷ ticks ⇒ says (toAll (newView 2 0 0 0 0 2) ∷ toAll (newView 2 3 79 1 3 2) ∷ []) ∷ [])
     -- the highest certificate: of an earlier view, a quorum, of two alike the smaller name
     ∷ station 2 (hears (status 3 79 1 3) ⇒ bytes 0 ∷ hears (status 3 50 1 5) ⇒ bytes 0 ∷ hears (status 3 60 1 6) ⇒ bytes 0 ∷ hears (status 9 99 2 3) ⇒ bytes 0 ∷ hears (vote 1 8 88 0) ⇒ bytes 0
     ∷ hears (blameSet 1 3) ⇒ bytes 19 ∷ idle 7 ∷ ticks ⇒ says (toAll (newView 2 3 50 1 5 2) ∷ toAll (vote 2 3 50 2) ∷ []) ∷ [])
