@@ -14,7 +14,7 @@ use Rattle.rules.specs.Words.{Statement, ownBlock, voters, State}
 use Rattle.rules.specs.Inputs.{leads, extendable, above, offered}
 use Rattle.rules.proofs.Truths.{and-2}
 use Rattle.rules.proofs.Allowed.{sizes, block-made, mask-made}
-use Rattle.rules.proofs.Offers.{offer-made}
+use Rattle.rules.proofs.Offers.{top-mem, offer-made}
 use Rattle.kept.specs.Parts.{Formed}
 use Rattle.kept.specs.Said.{Sendable}
 use Rattle.kept.proofs.Sendable.{sendable}
@@ -39,4 +39,4 @@ module _ {s : State} (f : Formed s) where
       (n, d .name)
 
   pub offered-sendable : (b : ℕ) (m : Message) → b < 256 ^ 32 → offered b s ≡ some m → Sendable (s .settings) m
-  offered-sendable b m n e = let (x, i, v, l, z, k, f) = offer-made b s m e in rw (← f) (above-sendable x b i k l z n)
+  offered-sendable b m n e = let (x, t, l, o, z, k, f) = offer-made b s m e in rw (← f) (above-sendable x b (top-mem (s .view) (s .statements) x t .0) k l z n)

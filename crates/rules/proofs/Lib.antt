@@ -13,6 +13,7 @@ pub mod Offers
 pub mod Answers
 pub mod Moves
 pub mod Kept
+pub mod Made
 pub mod Orderly
 pub mod Held
 pub mod Views

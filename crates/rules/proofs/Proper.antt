@@ -18,7 +18,7 @@ use Rattle.rules.proofs.Tests.{by-bool}
 use Rattle.rules.proofs.Searches.{All, all-append, all-split, all-map, all-of, all-alter}
 use Rattle.rules.proofs.Masks.{joined-bit}
 use Rattle.rules.proofs.Tallies.{bit-only, no-bit, block-eq, voters-tally, highest-tally}
-use Rattle.rules.proofs.Offers.{offer-made}
+use Rattle.rules.proofs.Offers.{top-mem, offer-made}
 use Rattle.rules.proofs.Moves.{Outside, Origin, handed, led, made, carried, arrived, Move, joins, stores, passes, casts, clashes, accuses, fills, complains, entersFull, entersPair, enters, Moves, here, more, voting-low, voting-high, carried-certificate}
 
 message-noted : (c : ℕ) (x : Statement) → message (noted c x) ≡ message x
@@ -159,7 +159,8 @@ module _ (P : ℕ → ℕ → ℕ → ℕ → Type 0) (parentOf : ℕ → ℕ) w
       origin-right s i m (led e) =
           record { backed = λ u k. subst Backed (Option·some-injective _ u k) (highest-backed (s .settings) (s .view) (s .tallies) (i .tallies)); parent = tt }
       origin-right s i m (made b r e) =
-          let (x, k, v, l, z, q, f) = offer-made b s m e in
+          let (x, t, l, o, z, q, f) = offer-made b s m e in
+          let (k, v) = top-mem (s .view) (s .statements) x t in
           let c : x .height + 1 - 1 ≡ x .height = omega arith in
           let back : Backed (record { view = s .view; height = x .height + 1 - 1; name = x .name; mask = voters (ownBlock x 0) (s .tallies) }) =
           λ j y. subst₂ (λ (a d : ℕ). P a d (x .name) j) v (sym c) (voters-backed x (s .tallies) (i .tallies) j y) in

@@ -10,10 +10,10 @@ use mathlib.Core.Option.{Option, none, some, Option·map, Option·some-injective
 use lib.Dec.{eqb, leb}
 use borrow.Author.Tests.{eqb-true, le-leb, eq-eqb, not-true}
 use Rattle.rules.specs.Lists.{iff, first, any, keep, alter, distinct}
-use Rattle.rules.specs.Words.{Statement, sameStatement, conflict, State}
+use Rattle.rules.specs.Words.{Statement, sameStatement, against, conflict, State}
 use Rattle.rules.specs.Inputs.{noted, pair, current, inOrder}
 use Rattle.rules.proofs.Tests.{by-bool, by-option, no-some, no-bool}
-use Rattle.rules.proofs.Truths.{eqb-sym, and-2, or-2, iff-eq, iff-refl, iff-sym}
+use Rattle.rules.proofs.Truths.{eqb-sym, and-2, or-2, or-not, or-sym, iff-eq, iff-refl, iff-sym}
 use Rattle.rules.proofs.Searches.{by-mem, any-append, any-alter, any-sorted, any-mem, first-any, mem-keep, mem-sorted, first-mem}
 
 -- ---- the same statement
@@ -68,17 +68,7 @@ conflict-cong x y z e = sym (ap (λ (w : Statement). conflict w z) (same-like x 
 
 pub conflict-sym : (x y : Statement) → conflict x y ≡ conflict y x
 unfolding conflict
-conflict-sym x y =
-    rw (same-sym x y, eqb-sym (x .view) (y .view))
-    (ap (λ (b : Bool). not (sameStatement y x) && eqb (y .view) (x .view) && b) (go (x .isNewView) (y .isNewView)))
-  where
-    go : (a b : Bool)
-        → _≡_ {A = Bool} (elim a as (λ _. Bool) [ true ↦ b || leb (y .height) (x .height) | false ↦ elim b as (λ _. Bool) [ true ↦ leb (x .height) (y .height) | false ↦ eqb (x .height) (y .height) && not (eqb (x .name) (y .name)) ] ])
-        (elim b as (λ _. Bool) [ true ↦ a || leb (x .height) (y .height) | false ↦ elim a as (λ _. Bool) [ true ↦ leb (y .height) (x .height) | false ↦ eqb (y .height) (x .height) && not (eqb (y .name) (x .name)) ] ])
-    go true true = refl
-    go true false = refl
-    go false true = refl
-    go false false = rw (eqb-sym (x .height) (y .height), eqb-sym (x .name) (y .name))
+conflict-sym x y = rw (same-sym x y, eqb-sym (x .view) (y .view), or-sym (against x y) (against y x))
 
 pub conflict-view : (x y : Statement) → conflict x y ≡ true → x .view ≡ y .view
 unfolding conflict
@@ -89,26 +79,50 @@ pub same-no-conflict : (x y : Statement) → sameStatement x y ≡ true → conf
 unfolding conflict
 same-no-conflict x y e = rw e
 
+-- of two that conflict one has something against the other
+pub conflict-against : (x y : Statement) → conflict x y ≡ true → (against x y ≡ true) ⊎ (against y x ≡ true)
+unfolding conflict
+conflict-against x y e = or-2 (against x y) (against y x) (and-2 (not (sameStatement x y) && eqb (x .view) (y .view)) _ e .1)
+
+-- two of one view that don't conflict are the same, or neither has anything against the other
+pub no-conflict-against : (x w : Statement) → conflict x w ≡ false → w .view ≡ x .view → sameStatement x w ≡ false → (against x w ≡ false) × (against w x ≡ false)
+unfolding conflict
+no-conflict-against x w c v s = or-not (against x w) (against w x) (rw (s, eq-eqb (x .view) (w .view) (sym v)) at c)
+
 -- two proposes of one view and height that don't conflict have one name
 pub no-conflict-propose : (x w : Statement) → conflict x w ≡ false → w .view ≡ x .view → x .isNewView ≡ false → w .isNewView ≡ false
     → w .height ≡ x .height → w .name ≡ x .name
-unfolding conflict
+unfolding against
 no-conflict-propose x w c v kx kw h =
     by-bool (sameStatement x w) (λ s. ap (λ (y : Statement). y .name) (same-like x w s)) λ s.
     by-bool (eqb (x .name) (w .name)) (λ e. sym (eqb-true (x .name) (w .name) e)) λ e.
-    no-bool (rw (s, eq-eqb (x .view) (w .view) (sym v), kx, kw, eq-eqb (x .height) (w .height) (sym h), e) at c)
+    no-bool (rw (kx, kw, eq-eqb (x .height) (w .height) (sym h), e) at (no-conflict-against x w c v s .0))
 
 -- a new-view that doesn't conflict with a propose of its view is below it
 pub no-conflict-newView : (x w : Statement) → conflict x w ≡ false → w .view ≡ x .view → x .isNewView ≡ false → w .isNewView ≡ true
     → w .height < x .height
-unfolding conflict
+unfolding against
 no-conflict-newView x w c v kx kw =
     by-bool (sameStatement x w) (λ s. no-bool (sym kw ∙ ap (λ (y : Statement). y .isNewView) (same-like x w s) ∙ kx)) λ s.
-    by-bool (leb (x .height) (w .height)) (λ l. no-bool (rw (s, eq-eqb (x .view) (w .view) (sym v), kx, kw, l) at c)) λ l.
+    by-bool (leb (x .height) (w .height)) (λ l. no-bool (rw (kx, kw, l) at (no-conflict-against x w c v s .1))) λ l.
     elim (decLe (x .height) (w .height)) [
       | yes d ↦ no-bool (sym (le-leb (x .height) (w .height) d) ∙ l)
       | no d ↦ omega arith
     ]
+
+-- two of one view and height that don't conflict have one name, of whatever kind they are
+pub no-conflict-level : (x w : Statement) → conflict x w ≡ false → w .view ≡ x .view → w .height ≡ x .height → w .name ≡ x .name
+unfolding against
+no-conflict-level x w c v h =
+    by-bool (x .isNewView)
+    (λ kx.
+    by-bool (w .isNewView)
+    (λ kw.
+    by-bool (sameStatement x w) (λ s. ap (λ (y : Statement). y .name) (same-like x w s))
+    (λ s. no-bool (rw (kx, kw) at (no-conflict-against x w c v s .0))))
+    (λ kw. let z = no-conflict-newView w x (conflict-sym w x ∙ c) (sym v) kw kx in absurd (omega arith)))
+    (λ kx.
+    by-bool (w .isNewView) (λ kw. let z = no-conflict-newView x w c v kx kw in absurd (omega arith)) (λ kw. no-conflict-propose x w c v kx kw h))
 
 -- ---- what is stored
 

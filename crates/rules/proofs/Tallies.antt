@@ -209,7 +209,7 @@ higher-true t b e = go (or-2 (below b t) _ e)
 
 higher-false : (t b : Certificate) → higher t b ≡ false → Above b t
 unfolding higher
-higher-false t b e = not-below b t (or-not (below b t) _ e)
+higher-false t b e = not-below b t (or-not (below b t) _ e .0)
 
 -- ---- the highest certificate
 

@@ -52,9 +52,15 @@ pub or-right : (a : Bool) {b : Bool} → b ≡ true → (a || b) ≡ true
 or-right true p = refl
 or-right false p = p
 
-pub or-not : (a b : Bool) → (a || b) ≡ false → a ≡ false
+pub or-not : (a b : Bool) → (a || b) ≡ false → (a ≡ false) × (b ≡ false)
 or-not true b e = no-bool e
-or-not false b e = refl
+or-not false b e = (refl, e)
+
+pub or-sym : (a b : Bool) → (a || b) ≡ (b || a)
+or-sym true true = refl
+or-sym true false = refl
+or-sym false true = refl
+or-sym false false = refl
 
 -- ---- iff
 

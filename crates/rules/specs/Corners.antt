@@ -98,14 +98,17 @@ conflicts : List Bool
 unfolding both nv pr
 conflicts =
     both false (nv 2 3 7 1) (nv 2 3 7 1) ∷ both true (nv 2 3 7 1) (nv 2 3 7 0) ∷ both true (nv 2 3 7 1) (nv 2 4 8 1) ∷ both false (nv 2 3 7 1) (nv 3 3 8 1)
-    ∷ both true (pr 2 3 7 5) (pr 2 3 8 5) ∷ both false (pr 2 3 7 5) (pr 2 3 7 6) ∷ both false (pr 2 3 7 5) (pr 2 4 8 5) ∷ both false (pr 2 3 7 5) (pr 3 3 8 5)
-    ∷ both true (nv 2 3 7 1) (pr 2 3 8 5) ∷ both true (nv 2 3 7 1) (pr 2 2 8 5) ∷ both false (nv 2 3 7 1) (pr 2 4 8 7) ∷ both false (nv 2 3 7 1) (pr 1 3 8 5)
+    ∷ both true (pr 2 3 7 5) (pr 2 3 8 5) ∷ both false (pr 2 3 7 5) (pr 2 3 7 6) ∷ both false (pr 2 3 7 5) (pr 3 3 8 5)
+    ∷ both true (nv 2 3 7 1) (pr 2 3 8 5) ∷ both true (nv 2 3 7 1) (pr 2 2 8 5) ∷ both false (nv 2 3 7 1) (pr 1 3 8 5)
+    -- a child with the wrong parent, above a propose and above a new-view; of another view; two heights apart
+    ∷ both true (pr 2 3 7 5) (pr 2 4 8 5) ∷ both false (pr 2 3 7 5) (pr 2 4 8 7) ∷ both true (nv 2 3 7 1) (pr 2 4 8 5) ∷ both false (nv 2 3 7 1) (pr 2 4 8 7)
+    ∷ both false (pr 2 3 7 5) (pr 3 4 8 5) ∷ both false (nv 2 3 7 1) (pr 3 4 8 5) ∷ both false (pr 2 3 7 5) (pr 2 5 8 5) ∷ both false (nv 2 3 7 1) (pr 2 5 8 5)
     ∷ []
 
 -- ---- statement, vote, status, blame
 
 stated : List Bool
-unfolding station block other child voters
+unfolding station block other child voters goes fresh group entering
 stated =
     -- a repeat joins its certificate and is not stored again; what is sent has the mask as first received
     station 2 (hears block ⇒ bytes 160 ∷ hears (propose 1 1 77 0 5 1) ⇒ bytes 0
@@ -117,6 +120,12 @@ stated =
     && eqb (voters (record { view = 1; height = 2; name = 79; mask = 0 }) (s .tallies)) 4) ∷ [])
     -- one height and name, another parent: no conflict, both are voted for
     ∷ station 2 (hears child ⇒ bytes 160 ∷ hears (propose 1 2 79 70 3 1) ⇒ bytes 160 ∷ [])
+    -- a child with the wrong parent quits above a propose and above a new-view, whichever comes first; two heights apart it is voted for
+    ∷ station 2 (hears block ⇒ bytes 160 ∷ hears orphan ⇒ says (toAll block ∷ toAll orphan ∷ []) ∷ idle 5 ∷ [])
+    ∷ station 2 (hears orphan ⇒ bytes 160 ∷ hears block ⇒ says (toAll orphan ∷ toAll block ∷ []) ∷ idle 5 ∷ [])
+    ∷ second (hears (newView 2 1 77 1 3 2) ⇒ bytes 132 ∷ hears (propose 2 2 79 70 3 2) ⇒ says (toAll (newView 2 1 77 1 3 2) ∷ toAll (propose 2 2 79 70 3 2) ∷ []) ∷ [])
+    ∷ second (hears (propose 2 2 79 70 3 2) ⇒ bytes 160 ∷ hears (newView 2 1 77 1 3 2) ⇒ says (toAll (propose 2 2 79 70 3 2) ∷ toAll (newView 2 1 77 1 3 2) ∷ []) ∷ [])
+    ∷ second (hears (newView 2 1 77 1 3 2) ⇒ bytes 132 ∷ hears (propose 2 3 79 70 3 2) ⇒ bytes 160 ∷ hears (propose 2 5 80 71 3 2) ⇒ bytes 160 ∷ [])
     -- the earliest stored conflicting one is sent; after the quit statements are only kept
     ∷ station 0 (hears (blameSet 1 3) ⇒ bytes 19 ∷ idle 2 ∷ ticks ⇒ bytes 62 ∷ hears (newView 2 0 0 0 0 2) ⇒ says (toAll (newView 2 0 0 0 0 2) ∷ toAll (vote 2 0 0 0) ∷ [])
     ∷ hears (propose 2 1 77 0 3 2) ⇒ bytes 160 ∷ hears (newView 2 1 77 1 3 2) ⇒ says (toAll (newView 2 0 0 0 0 2) ∷ toAll (newView 2 1 77 1 3 2) ∷ [])
@@ -129,6 +138,14 @@ stated =
     -- blames join; the set has the mask now held
     ∷ station 2 (hears (blame 1 0) ⇒ bytes 0 ∷ hears (blame 1 0) ⇒ bytes 0 ∷ hears (blame 2 1) ⇒ bytes 0 ∷ hears (blame 1 1) ⇒ says (toAll (blameSet 1 3) ∷ []) ∷ hears (blame 1 2) ⇒ bytes 0 ∷ [])
     ∷ []
+  where
+    -- a child of another block than 77
+    orphan : Message
+    orphan = propose 1 2 79 70 6 1
+
+    -- station 0 in view 2
+    second : List Line → Bool
+    second ls = goes (entering 2 genesis (fresh (group 0))) ls
 
 -- ---- offer of a name
 
@@ -182,19 +199,27 @@ leading =
     ∷ station 1 (hears (newView 1 0 0 0 0 1) ⇒ bytes 132 ∷ idle 5 ∷ [])
     ∷ station 2 (hears (blameSet 1 3) ⇒ bytes 19 ∷ idle 3 ∷ hears (newView 2 0 0 0 0 2) ⇒ bytes 132 ∷ hears (status 3 79 1 3) ⇒ bytes 0 ∷ idle 4
     ∷ ticks ⇒ says (toAll (newView 2 0 0 0 0 2) ∷ toAll (newView 2 3 79 1 3 2) ∷ []) ∷ [])
+    -- so it is where an offer was taken above that one: its own new-view conflicts with its own propose
+    ∷ station 2 (hears (blameSet 1 3) ⇒ bytes 19 ∷ idle 3 ∷ hears (newView 2 0 0 0 0 2) ⇒ bytes 132 ∷ hears (vote 2 0 0 0) ⇒ bytes 0 ∷ hears (status 3 79 1 3) ⇒ bytes 0 ∷ idle 2
+    ∷ isOffered 77 ⇒ bytes 160 ∷ idle 2 ∷ ticks ⇒ says (toAll (newView 2 0 0 0 0 2) ∷ toAll (newView 2 3 79 1 3 2) ∷ []) ∷ [])
     -- the highest certificate: of an earlier view, a quorum, of two alike the smaller name
     ∷ station 2 (hears (status 3 79 1 3) ⇒ bytes 0 ∷ hears (status 3 50 1 5) ⇒ bytes 0 ∷ hears (status 3 60 1 6) ⇒ bytes 0 ∷ hears (status 9 99 2 3) ⇒ bytes 0 ∷ hears (vote 1 8 88 0) ⇒ bytes 0
     ∷ hears (blameSet 1 3) ⇒ bytes 19 ∷ idle 7 ∷ ticks ⇒ says (toAll (newView 2 3 50 1 5 2) ∷ toAll (vote 2 3 50 2) ∷ []) ∷ [])
     ∷ []
 
 entries : List Bool
-unfolding station group goes fresh entering genesis
+unfolding station group goes fresh entering
 entries =
     -- the pair of least places; the station waits again
-    station 0 (hears (propose 2 2 80 77 3 2) ⇒ bytes 0 ∷ hears (propose 2 1 77 0 3 2) ⇒ bytes 0 ∷ hears (propose 2 1 78 0 3 2) ⇒ bytes 0 ∷ hears (propose 2 1 79 0 3 2) ⇒ bytes 0
+    station 0 (hears (propose 2 3 80 77 3 2) ⇒ bytes 0 ∷ hears (propose 2 1 77 0 3 2) ⇒ bytes 0 ∷ hears (propose 2 1 78 0 3 2) ⇒ bytes 0 ∷ hears (propose 2 1 79 0 3 2) ⇒ bytes 0
     ∷ hears (blameSet 1 3) ⇒ bytes 19 ∷ idle 2
     ∷ ticks ⇒ says (toOne 2 (status 0 0 0 0) ∷ toAll (propose 2 1 77 0 3 2) ∷ toAll (propose 2 1 78 0 3 2) ∷ [])
     ∷ idle 2 ∷ holds (λ s. eqb (s .view) 2) ∷ idle 1 ∷ holds (λ s. eqb (s .view) 3) ∷ [])
+    -- a child with the wrong parent is found at entry, above a propose and above a new-view
+    ∷ station 0 (hears (propose 2 2 80 77 3 2) ⇒ bytes 0 ∷ hears (propose 2 1 77 0 3 2) ⇒ bytes 0 ∷ hears (propose 2 1 78 0 3 2) ⇒ bytes 0 ∷ hears (blameSet 1 3) ⇒ bytes 19 ∷ idle 2
+    ∷ ticks ⇒ says (toOne 2 (status 0 0 0 0) ∷ toAll (propose 2 2 80 77 3 2) ∷ toAll (propose 2 1 78 0 3 2) ∷ []) ∷ [])
+    ∷ station 0 (hears (newView 2 1 78 1 3 2) ⇒ bytes 0 ∷ hears (propose 2 2 80 77 3 2) ⇒ bytes 0 ∷ hears (blameSet 1 3) ⇒ bytes 19 ∷ idle 2
+    ∷ ticks ⇒ says (toOne 2 (status 1 78 1 3) ∷ toAll (newView 2 1 78 1 3 2) ∷ toAll (propose 2 2 80 77 3 2) ∷ []) ∷ [])
     -- a full blame mask; with a pair besides, the set only; the leader of view 3 reports to nobody
     ∷ station 0 (hears (propose 2 1 77 0 3 2) ⇒ bytes 0 ∷ hears (propose 2 1 78 0 3 2) ⇒ bytes 0 ∷ hears (blameSet 2 6) ⇒ bytes 0 ∷ hears (blameSet 1 3) ⇒ bytes 19 ∷ idle 2
     ∷ ticks ⇒ says (toOne 2 (status 0 0 0 0) ∷ toAll (blameSet 2 6) ∷ []) ∷ idle 3 ∷ holds (λ s. eqb (s .view) 3) ∷ [])

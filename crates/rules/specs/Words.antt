@@ -1,5 +1,5 @@
 -- 01, 'Words used': statement, same, tally, certified, rank, highest, conflict, and the state of a station. Assumes nothing.
-use Prim.Native.Nat.{ℕ, suc, _-_}
+use Prim.Native.Nat.{ℕ, suc, _+_, _-_}
 use mathlib.Core.Bool.{Bool, true, false, not, _&&_, _||_}
 use mathlib.Core.List.{List, [], _∷_}
 use mathlib.Core.Option.{Option, none, some}
@@ -37,18 +37,22 @@ sameStatement x y =
     iff (x .isNewView) (y .isNewView) && eqb (x .view) (y .view) && eqb (x .height) (y .height) && eqb (x .name) (y .name)
     && eqb (x .link) (y .link) && eqb (x .author) (y .author)
 
--- "two different statements of one view conflict when: both are new-views; both are proposes of one height with
--- different names; or one is a new-view and the other a propose of no greater height"
-unfoldable pub conflict : Statement → Statement → Bool
-unfolding sameStatement
-conflict x y =
-    not (sameStatement x y) && eqb (x .view) (y .view)
-    && elim (x .isNewView) [
+-- What a statement has against another of its view: "both are new-views; both are proposes of one height with different
+-- names; or one is a new-view and the other a propose of no greater height"; and 02, request 4: "at adjacent heights, the
+-- upper a propose whose parent is not the lower's name".
+unfoldable pub against : Statement → Statement → Bool
+against x y =
+    elim (x .isNewView) [
       | true ↦ y .isNewView || leb (y .height) (x .height)
       | false ↦
-          elim (y .isNewView)
-          [ true ↦ leb (x .height) (y .height) | false ↦ eqb (x .height) (y .height) && not (eqb (x .name) (y .name)) ]
+          not (y .isNewView) && eqb (x .height) (y .height) && not (eqb (x .name) (y .name))
+          || eqb (x .height) (y .height + 1) && not (eqb (x .link) (y .name))
     ]
+
+-- "two different statements of one view conflict when" either has something against the other
+unfoldable pub conflict : Statement → Statement → Bool
+unfolding sameStatement against
+conflict x y = not (sameStatement x y) && eqb (x .view) (y .view) && (against x y || against y x)
 
 -- a block of a view, with voters: what a statement, a vote or a status carries, and the lock
 pub record Certificate : Type 0 where

@@ -5,14 +5,15 @@ use mathlib.Core.Bool.{Bool, true, false, not, _&&_, _||_, Bool·beq}
 use mathlib.Core.Option.{Option, none}
 use native.Mathlib.Omega.{arith}
 use lib.Dec.{leb, ltb, eqb}
-use borrow.Author.Tests.{eq-eqb, ne-eqb, leb-true, ltb-true, not-true}
+use borrow.Author.Tests.{eq-eqb, ne-eqb, leb-true, ltb-true}
 use Rattle.rules.specs.Limits.{firstView, lastView}
-use Rattle.rules.specs.Lists.{iff, within}
+use Rattle.rules.specs.Lists.{within}
 use Rattle.rules.specs.Sizes.{Settings, leader}
 use Rattle.rules.specs.Messages.{newView, propose, viewAllowed, blockAllowed, maskAllowed, certificateAllowed, allowed}
-use Rattle.rules.specs.Words.{Statement, message, sameStatement, conflict, Certificate, certificate, below, State}
+use Rattle.rules.specs.Words.{Statement, message, sameStatement, against, conflict, Certificate, certificate, below, State}
 use Rattle.rules.specs.Inputs.{belowLock}
 use Rattle.rules.proofs.Bounds.{views-most}
+use Rattle.rules.proofs.Statements.{same-like, same-sym}
 use Rattle.rules.proofs.Tests.{by-bool, and-left, and-right, no-bool}
 use Rattle.rules.proofs.Truths.{beq-iff}
 use Rattle.fields.specs.Names.{nameOf}
@@ -21,56 +22,64 @@ use Rattle.wire.specs.Meaning.{statementOf}
 use Rattle.wire.specs.declared.Statement as code
 use Rattle.words.specs.Meaning.{Certifies, ranksBelow}
 
--- a conflict, where it is known whether the statements are the same
-abbrev conflictIf : Bool → Statement → Statement → Bool
-conflictIf s x y =
-    not s && eqb (x .view) (y .view)
-    && elim (x .isNewView) [
-      | true ↦ y .isNewView || leb (y .height) (x .height)
-      | false ↦
-          elim (y .isNewView)
-          [ true ↦ leb (x .height) (y .height) | false ↦ eqb (x .height) (y .height) && not (eqb (x .name) (y .name)) ]
-    ]
-
-unless-same : (s a : Bool) → (a ≡ true → s ≡ false) → a ≡ not s && true && a
-unless-same true true h = no-bool (h refl)
-unless-same true false h = refl
-unless-same false a h = refl
-
 module _ (x y : Statement) where
-  by-same : conflict x y ≡ conflictIf (sameStatement x y) x y
-  unfolding conflict
-  by-same = refl
+  -- ---- what one has against the other, by its kind and the heights
 
-  other-kind : iff (x .isNewView) (y .isNewView) ≡ false → sameStatement x y ≡ false
-  unfolding sameStatement
-  other-kind d = rw d
+  pub against-new-view : x .isNewView ≡ true → (y .isNewView || leb (y .height) (x .height)) ≡ against x y
+  unfolding against
+  against-new-view p = rw p
 
-  other-name : eqb (x .name) (y .name) ≡ false → sameStatement x y ≡ false
-  unfolding sameStatement
-  other-name d = by-bool (iff (x .isNewView) (y .isNewView) && eqb (x .view) (y .view) && eqb (x .height) (y .height)) (λ q. rw (q, d)) (λ q. rw q)
+  pub against-level : x .isNewView ≡ false → x .height ≡ y .height → (not (y .isNewView) && not (eqb (x .name) (y .name))) ≡ against x y
+  unfolding against
+  against-level p h =
+      rw (p, eq-eqb _ _ h, ne-eqb (x .height) (y .height + 1) (λ (e : x .height ≡ y .height + 1). omega (arith, h)))
+      (go (y .isNewView) (not (eqb (x .name) (y .name))))
+    where
+      go : (a b : Bool) → (not a && b) ≡ (not a && true && b || false && not (eqb (x .link) (y .name)))
+      go true b = refl
+      go false true = refl
+      go false false = refl
+
+  pub against-above : x .isNewView ≡ false → (x .height ≡ y .height → ⊥)
+      → (eqb (x .height) (y .height + 1) && not (eqb (x .link) (y .name))) ≡ against x y
+  unfolding against
+  against-above p d = rw (p, ne-eqb _ _ d) (go (y .isNewView))
+    where
+      go : (a : Bool) → (eqb (x .height) (y .height + 1) && not (eqb (x .link) (y .name)))
+          ≡ (not a && false && not (eqb (x .name) (y .name)) || eqb (x .height) (y .height + 1) && not (eqb (x .link) (y .name)))
+      go true = refl
+      go false = refl
+
+  -- ---- a conflict
 
   pub other-view : (x .view ≡ y .view → ⊥) → false ≡ conflict x y
-  other-view d = by-bool (sameStatement x y) (λ q. rw (by-same, q)) (λ q. rw (by-same, q, ne-eqb _ _ d))
+  unfolding conflict
+  other-view d = by-bool (sameStatement x y) (λ q. rw q) (λ q. rw (q, ne-eqb _ _ d))
 
-  module _ (v : x .view ≡ y .view) where
-    pub new-views : x .isNewView ≡ true → y .isNewView ≡ true → not (sameStatement x y) ≡ conflict x y
-    new-views p q = by-bool (sameStatement x y) (λ e. rw (by-same, e)) (λ e. rw (by-same, e, eq-eqb _ _ v, p, q))
+  pub new-views : x .view ≡ y .view → (x .isNewView && y .isNewView) ≡ true → not (sameStatement x y) ≡ conflict x y
+  unfolding conflict
+  new-views v p =
+      let k = and-left _ _ p in
+      let l = and-right (x .isNewView) _ p in
+      by-bool (sameStatement x y) (λ e. rw e) (λ e. rw (e, eq-eqb _ _ v, sym (against-new-view k), l))
 
-    pub new-view-first : x .isNewView ≡ true → y .isNewView ≡ false → leb (y .height) (x .height) ≡ conflict x y
-    unfolding iff
-    new-view-first p q = rw (by-same, eq-eqb _ _ v, other-kind (rw (p, q)), p, q)
+-- of the same, a propose has nothing against the other
+same-against : (x y : Statement) → sameStatement x y ≡ true → x .isNewView ≡ false → against x y ≡ false
+same-against x y e p =
+    let k = same-like x y e in
+    let q : y .isNewView ≡ false = ap (λ (z : Statement). z .isNewView) k ∙ p in
+    sym (against-level x y p (sym (ap (λ (z : Statement). z .height) k)))
+    ∙ rw (q, eq-eqb _ _ (sym (ap (λ (z : Statement). z .name) k)))
 
-    pub propose-first : x .isNewView ≡ false → y .isNewView ≡ true → leb (x .height) (y .height) ≡ conflict x y
-    unfolding iff
-    propose-first p q = rw (by-same, eq-eqb _ _ v, other-kind (rw (p, q)), p, q)
-
-    proposes-if : (s : Bool) → x .isNewView ≡ false → y .isNewView ≡ false → (eqb (x .name) (y .name) ≡ false → s ≡ false)
-        → (eqb (x .height) (y .height) && not (eqb (x .name) (y .name))) ≡ conflictIf s x y
-    proposes-if s p q h = rw (eq-eqb _ _ v, p, q) (unless-same s _ (λ e. h (not-true _ (and-right (eqb (x .height) (y .height)) _ e))))
-
-    pub proposes : x .isNewView ≡ false → y .isNewView ≡ false → (eqb (x .height) (y .height) && not (eqb (x .name) (y .name))) ≡ conflict x y
-    proposes p q = proposes-if (sameStatement x y) p q other-name ∙ sym by-same
+pub unless-new-views : (x y : Statement) → x .view ≡ y .view → (x .isNewView && y .isNewView) ≡ false → (against x y || against y x) ≡ conflict x y
+unfolding conflict
+unless-new-views x y v n =
+    by-bool (sameStatement x y)
+    (λ e.
+    let k = ap (λ (z : Statement). z .isNewView) (same-like x y e) in
+    let p : x .isNewView ≡ false = by-bool (x .isNewView) (λ a. no-bool (sym (rw (a, k ∙ a) refl) ∙ n)) (λ a. a) in
+    rw (e, same-against x y e p, same-against y x (same-sym y x ∙ e) (k ∙ p)))
+    (λ e. rw (e, eq-eqb _ _ v))
 
 -- ---- the code's statements
 

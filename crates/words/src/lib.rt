@@ -45,6 +45,20 @@ pub fn same(x: Statement, y: Statement) -> bool
         & (x.author == y.author)
 }
 
+// What a statement has against another of its view: at one height, one above the other, or as a new-view.
+fn against(x: Statement, y: Statement) -> bool
+    ensures { λ r. ⌜ r ≡ words.against (statementOf x none) (statementOf y none) ⌝ }
+{
+    if x.is_new_view {
+        return y.is_new_view | (y.height <= x.height);
+    }
+    if x.height == y.height {
+        return !y.is_new_view & !x.name.same(y.name);
+    }
+    let above = (x.height as u64) == (y.height as u64) + 1;
+    above & !x.link.same(y.name)
+}
+
 // Whether two statements conflict.
 pub fn conflicts(x: Statement, y: Statement) -> bool
     ensures { λ r. ⌜ r ≡ conflict (statementOf x none) (statementOf y none) ⌝ }
@@ -52,16 +66,10 @@ pub fn conflicts(x: Statement, y: Statement) -> bool
     if x.view != y.view {
         return false;
     }
-    if x.is_new_view {
-        if y.is_new_view {
-            return !same(x, y);
-        }
-        return y.height <= x.height;
+    if x.is_new_view & y.is_new_view {
+        return !same(x, y);
     }
-    if y.is_new_view {
-        return x.height <= y.height;
-    }
-    (x.height == y.height) & !x.name.same(y.name)
+    against(x, y) | against(y, x)
 }
 
 // The certificate that a statement carries.

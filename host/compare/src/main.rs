@@ -80,10 +80,11 @@ fn asked() -> Result<Asked, String> {
     Ok(asked)
 }
 
-/// 01's examples, and the limits, of both sizes.
+/// 01's examples, the limits and children with a wrong parent, of both sizes.
 fn fixed(met: &mut Met) -> Result<(), String> {
     for size in Size::ALL {
-        for (title, inputs) in [sources::bench(size), sources::limits(size)].concat() {
+        let runs = [sources::bench(size), sources::limits(size), sources::parents()];
+        for (title, inputs) in runs.concat() {
             let (inputs, found) = run::<Proved>(size, sources::Fixed::new(&inputs), met);
             if let Some(found) = found {
                 return Err(report(title, size, inputs, &found));

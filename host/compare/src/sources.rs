@@ -108,6 +108,30 @@ pub fn bench(size: Size) -> Runs {
     ]
 }
 
+/// 02, request 4: children with the right parent and with a wrong one, above a propose and above a
+/// new-view, two heights above and of another view; in both orders, in their view and at its entry.
+pub fn parents() -> Runs {
+    let child = |height, parent| of_view(2, propose(height, name(8), parent));
+    let lower = [below(), of_view(2, link(2))];
+    let wrong = name(7);
+    let upper = [child(3, name(2)), child(3, wrong), child(4, wrong), of_view(3, child(3, wrong))];
+    let mut runs = Runs::new();
+    for known in lower {
+        for upper in upper {
+            let enter = || [step(blame_set(0b110)), ticks(3)].concat();
+            for pair in [[known, upper], [upper, known]] {
+                let pair = || pair.into_iter().flat_map(step).collect();
+                runs.push(("a child in its view", of(0, [enter(), pair(), ticks(12)])));
+                runs.push(("a child at the entry", of(0, [pair(), enter(), ticks(12)])));
+            }
+        }
+    }
+    // One height and name with another parent.
+    let twins = [link(2), propose(2, name(2), wrong)].map(step).concat();
+    runs.push(("two parents", of(0, [twins, ticks(12)])));
+    runs
+}
+
 /// Runs to the last statement, the last tally and the last view of a size, and past them.
 pub fn limits(size: Size) -> Runs {
     let (room, tallies) = (size.statements() as u32, size.tallies() as u32);

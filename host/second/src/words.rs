@@ -131,17 +131,24 @@ impl Statement {
 
     /// "Two different statements of one view conflict when: both are new-views; both are proposes
     /// of one height with different names; or one is a new-view and the other a propose of no
-    /// greater height."
+    /// greater height." 02, request 4, adds a fourth case.
     pub fn conflicts(&self, other: &Statement) -> bool {
         let (one, two) = (&self.block, &other.block);
         if one.view != two.view {
             return false;
         }
-        match (self.is_new_view(), other.is_new_view()) {
+        let listed = match (self.is_new_view(), other.is_new_view()) {
             (true, true) => !self.is_same(other),
             (false, false) => one.height == two.height && one.name != two.name,
             (true, false) => two.height <= one.height,
             (false, true) => one.height <= two.height,
-        }
+        };
+        listed || self.is_wrong_child(other) || other.is_wrong_child(self)
+    }
+
+    /// Of two "at adjacent heights, the upper a propose whose parent is not the lower's name".
+    fn is_wrong_child(&self, lower: &Statement) -> bool {
+        let adjacent = self.block.height == lower.block.height + 1;
+        adjacent && self.parent().is_some_and(|parent| parent != lower.block.name)
     }
 }

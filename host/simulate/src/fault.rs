@@ -2,6 +2,7 @@
 //! that station sends but for what its kind does otherwise.
 
 use crate::group::{Letter, Plan};
+use crate::watch::Block;
 use station::{Effect, Message, Name};
 use std::fmt;
 use std::str::FromStr;
@@ -19,13 +20,22 @@ pub enum Fault {
     Late,
     /// It proposes one block to half of the group, another to the rest.
     Splitting,
+    /// It splits the group, and shows all of them a child of either block as soon as that has the
+    /// votes: for half of them a child with the wrong parent, before they know the other block.
+    Planting,
     /// It sends anything that the premises allow, whenever it likes.
     Wild,
 }
 
 impl Fault {
-    pub const ALL: [Fault; 5] =
-        [Fault::Silent, Fault::Equivocating, Fault::Late, Fault::Splitting, Fault::Wild];
+    pub const ALL: [Fault; 6] = [
+        Fault::Silent,
+        Fault::Equivocating,
+        Fault::Late,
+        Fault::Splitting,
+        Fault::Planting,
+        Fault::Wild,
+    ];
 
     /// What it is called where it is asked for.
     pub fn word(self) -> &'static str {
@@ -34,6 +44,7 @@ impl Fault {
             Fault::Equivocating => "equivocating",
             Fault::Late => "late",
             Fault::Splitting => "splitting",
+            Fault::Planting => "planting",
             Fault::Wild => "wild",
         }
     }
@@ -45,6 +56,7 @@ impl Fault {
             Fault::Equivocating => "two blocks to all",
             Fault::Late => "a second block, late",
             Fault::Splitting => "splits the group",
+            Fault::Planting => "a wrong parent's child",
             Fault::Wild => "says anything",
         }
     }
@@ -116,7 +128,9 @@ impl Faulty<'_> {
             Fault::Equivocating => {
                 [self.to(self.others(), message, d), self.to(self.others(), twin, d)].concat()
             }
-            Fault::Splitting => [self.to(some, message, 0), self.to(rest, twin, 0)].concat(),
+            Fault::Splitting | Fault::Planting => {
+                [self.to(some, message, 0), self.to(rest, twin, 0)].concat()
+            }
             _ => {
                 let mut others = self.plan.sound();
                 let first = others.remove(0);
@@ -126,11 +140,19 @@ impl Faulty<'_> {
         }
     }
 
+    /// A child of a block of its view, with these voters, at once.
+    pub fn child(&self, (view, height, parent): Block, mask: u16) -> Vec<Letter> {
+        let (height, name, author) = (height + 1, self.spare, self.own);
+        self.to(self.others(), Message::Propose { view, height, name, parent, mask, author }, 0)
+    }
+
     /// Its votes go with its blocks.
     fn misvoted(&self, message: Message, twin: Message) -> Vec<Letter> {
         let (some, rest) = self.halves();
         match self.fault {
-            Fault::Splitting => [self.to(some, message, 0), self.to(rest, twin, 0)].concat(),
+            Fault::Splitting | Fault::Planting => {
+                [self.to(some, message, 0), self.to(rest, twin, 0)].concat()
+            }
             _ => self.to(self.others(), message, self.plan.d),
         }
     }

@@ -58,6 +58,11 @@ impl Plan {
         (0..self.n).filter(|&station| self.is_sound(station)).collect()
     }
 
+    /// The stations with this fault.
+    pub fn with(&self, fault: Fault) -> Vec<u8> {
+        (0..self.n).filter(|&station| self.faults[usize::from(station)] == Some(fault)).collect()
+    }
+
     /// f+1.
     pub fn quorum(&self) -> u32 {
         u32::from(self.n) / 2 + 1
@@ -153,6 +158,8 @@ impl<P: Program> Group<P> {
         for station in 0..self.plan.n {
             self.offer(station)?;
         }
+        self.deliver()?;
+        self.plant()?;
         self.post_wild()?;
         self.deliver()
     }
@@ -256,11 +263,25 @@ impl<P: Program> Group<P> {
         Ok(())
     }
 
+    /// Planting leaders send a child of each of two rival blocks, once it has the votes.
+    fn plant(&mut self) -> Result<(), Breach> {
+        for own in self.plan.with(Fault::Planting) {
+            for (block, mask) in self.watch.plantable(own) {
+                let (fault, clock, spare) = (Fault::Planting, self.clock, self.spare_name());
+                let plan = &self.plan;
+                let faulty = Faulty { fault, own, clock, plan, proposes: true, spare };
+                let letters = faulty.child(block, mask);
+                self.trace.sent(&letters);
+                self.send(letters)?;
+            }
+        }
+        Ok(())
+    }
+
     /// Wild stations send something, some times.
     fn post_wild(&mut self) -> Result<(), Breach> {
         let view = self.stations.iter().map(Program::view).max().unwrap_or(1);
-        let is_wild = |own: &u8| self.plan.faults[usize::from(*own)] == Some(Fault::Wild);
-        let wild: Vec<u8> = (0..self.plan.n).filter(is_wild).collect();
+        let wild = self.plan.with(Fault::Wild);
         for own in wild.repeat(self.random.place(4)) {
             let (clock, spare) = (self.clock, self.spare_name());
             let (plan, watch, random) = (&self.plan, &self.watch, &mut self.random);

@@ -3,8 +3,8 @@
 //!     simulate [--large] [--n N] [--d D] [--leaders KIND,KIND..] [--ticks T] [--seed SEED] [--program NAME] [--svg FILE]
 //!     simulate [--large] --many RUNS [--seed SEED] [--program NAME]
 //!
-//! The kinds are those of stations 1, 2, ..: sound, silent, equivocating, late, splitting, wild. The
-//! program is `proved` or `second`. With `--large` every station has the large limits. The exit is 0
+//! The kinds are those of stations 1, 2, ..: sound, silent, equivocating, late, splitting, planting,
+//! wild. The program is `proved` or `second`. With `--large` every station has the large limits. The exit is 0
 //! exactly when demand 3 held.
 
 use programs::{Program, Proved, Second};

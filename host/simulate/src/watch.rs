@@ -29,6 +29,9 @@ impl fmt::Display for Breach {
     }
 }
 
+/// (view, height, name)
+pub type Block = (u32, u32, Name);
+
 /// A sound station's vote for a propose.
 #[derive(Clone, Copy, Debug)]
 struct Voted {
@@ -213,6 +216,28 @@ impl Watch {
     /// The voters that a certificate of a block may name.
     pub fn voters(&self, view: u32, height: u32, name: Name) -> u16 {
         self.backers(|author| Message::Vote { view, height, name, author })
+    }
+
+    /// The blocks of a leader that have a rival of their view and height, enough votes and no child,
+    /// with their voters.
+    pub fn plantable(&self, leader: u8) -> Vec<(Block, u16)> {
+        let all: Vec<(Block, Name)> = self
+            .statements
+            .iter()
+            .filter_map(|statement| match *statement {
+                Message::Propose { view, height, name, parent, author, .. } => {
+                    (author == leader).then_some(((view, height, name), parent))
+                }
+                _ => None,
+            })
+            .collect();
+        let rival = |one: Block, two: Block| (one.0, one.1) == (two.0, two.1) && one.2 != two.2;
+        all.iter()
+            .map(|&(block, _)| (block, self.voters(block.0, block.1, block.2)))
+            .filter(|(_, mask)| mask.count_ones() >= self.plan.quorum())
+            .filter(|&(block, _)| all.iter().any(|&(other, _)| rival(block, other)))
+            .filter(|&(block, _)| all.iter().all(|&(_, parent)| parent != block.2))
+            .collect()
     }
 
     /// The stations that a blame set of a view may name.

@@ -1,7 +1,7 @@
 //! A faulty station that knows all that was said, and sends what it likes within the premises.
 
 use crate::group::{Letter, Plan};
-use crate::watch::Watch;
+use crate::watch::{Block, Watch};
 use second::random::Random;
 use station::{GENESIS, Message, Name};
 
@@ -15,9 +15,6 @@ pub struct Wild<'a> {
     pub random: &'a mut Random,
     pub spare: Name,
 }
-
-/// (view, height, name)
-type Block = (u32, u32, Name);
 
 impl Wild<'_> {
     /// Letters of one message, or none.

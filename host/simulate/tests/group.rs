@@ -38,6 +38,19 @@ fn a_block_that_one_station_committed_stays() {
     assert!(group.watch.commits >= 8);
 }
 
+/// A child with the wrong parent makes a station quit where the other block alone isn't known yet.
+#[test]
+fn a_wrong_parents_child_is_seen_before_the_other_block() {
+    let quits = |fault, clock| {
+        let mut group = Group::<Proved>::new(plan(3, 2, &[fault], Delays::Longest, 1));
+        assert_eq!(group.run_to(clock), Ok(()));
+        group.watch.quits
+    };
+    // The new-view of clock 5 is certified at 7, and both blocks are proposed.
+    assert_eq!([quits(Fault::Splitting, 8), quits(Fault::Planting, 7)], [0, 2]);
+    assert_eq!(quits(Fault::Splitting, 9), 2);
+}
+
 /// A group with the large limits goes on where one with the small limits is full.
 #[test]
 fn large_groups_last_longer() {

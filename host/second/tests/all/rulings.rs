@@ -49,8 +49,8 @@ fn the_smaller_name_is_the_higher() {
 #[test]
 fn a_chain_starts_with_its_own_record() {
     let mut bench = Bench::new(3, 1, 0);
-    bench.step(&propose(1, 1, name(1), ZERO, 0b110, 1));
-    // Of one name: the parent of the first is missing, that of the second is there.
+    bench.step(&propose(2, 1, name(1), ZERO, 0b110, 2));
+    // Of one name: the parent of the first is missing, that of the second is there, of another view.
     bench.step(&propose(1, 2, name(2), name(9), 0b110, 1));
     assert_eq!(bench.step(&propose(1, 2, name(2), name(1), 0b110, 1)).len(), 160);
     // From the parent on it is the first stored that counts.
@@ -232,21 +232,22 @@ fn a_new_view_meets_the_earliest_propose_it_conflicts_with() {
     assert_eq!(bench.step(&low), to_all(&[low.clone(), vote(1, 0, ZERO, 0)]));
 
     let mut bench = Bench::new(3, 1, 0);
-    let at = |height, number: u16| propose(2, height, name(number), name(99), 0b110, 2);
+    let at =
+        |height: u32| propose(2, height, name(height as u16), name(height as u16 - 1), 0b110, 2);
     bench.step(&blame_set(1, 0b110));
     bench.run_to(2);
-    bench.step(&at(4, 4));
-    bench.step(&at(3, 3));
-    bench.step(&at(2, 2));
+    bench.step(&at(5));
+    bench.step(&at(3));
+    bench.step(&at(2));
     let high = new_view(2, 3, name(7), 1, 0b110, 2);
-    assert_eq!(bench.step(&high), to_all(&[at(3, 3), high]));
+    assert_eq!(bench.step(&high), to_all(&[at(3), high]));
 }
 
 /// "one is a new-view and the other a propose of no greater height": whichever came first.
 #[test]
 fn a_propose_conflicts_with_a_new_view_of_its_height() {
     let known = new_view(2, 3, name(3), 1, 0b110, 2);
-    let at = |height, number: u16| propose(2, height, name(number), name(99), 0b110, 2);
+    let at = |height, number: u16| propose(2, height, name(number), name(3), 0b110, 2);
     for (height, conflicts) in [(2, true), (3, true), (4, false)] {
         let mut bench = Bench::new(3, 1, 0);
         bench.step(&blame_set(1, 0b110));
@@ -261,19 +262,54 @@ fn a_propose_conflicts_with_a_new_view_of_its_height() {
     }
 }
 
+/// 02, request 4: "two statements of one view at adjacent heights, the upper a propose whose parent is
+/// not the lower's name", whichever came first, and at an entry; not two heights apart, and not of
+/// two views.
+#[test]
+fn a_child_with_the_wrong_parent_conflicts() {
+    let child = |height, parent: u16| propose(2, height, name(8), name(parent), 0b110, 2);
+    let lower = [new_view(2, 3, name(3), 1, 0b110, 2), propose(2, 3, name(3), name(2), 0b110, 2)];
+    let other_view = propose(3, 4, name(8), name(7), 0b110, 0);
+    for known in lower {
+        let cases = [
+            (child(4, 7), true),
+            (child(4, 3), false),
+            (child(5, 7), false),
+            (other_view.clone(), false),
+        ];
+        for (upper, conflicts) in cases {
+            for [first, then] in [[&known, &upper], [&upper, &known]] {
+                let mut bench = Bench::new(3, 1, 0);
+                bench.step(&blame_set(1, 0b110));
+                bench.run_to(2);
+                bench.step(first);
+                let pair = to_all(&[first.clone(), then.clone()]);
+                assert_eq!(bench.step(then) == pair, conflicts, "{first:?} {then:?}");
+
+                let mut bench = Bench::new(3, 1, 0);
+                assert_eq!(bench.step(first), []);
+                assert_eq!(bench.step(then), []);
+                bench.step(&blame_set(1, 0b110));
+                bench.run_to(1);
+                assert_eq!(bench.tick().ends_with(&pair), conflicts, "{first:?} {then:?}");
+            }
+        }
+    }
+}
+
 /// On entry: "new-view first, then by height, then by place".
 #[test]
 fn an_entry_votes_new_view_first_then_by_height() {
     let mut bench = Bench::new(3, 1, 2);
     let at = |height, parent: u16| propose(2, height, name(height as u16), name(parent), 0b110, 2);
-    let new_view = new_view(2, 1, name(1), 1, 0b110, 2);
+    let new_view = new_view(2, 0, ZERO, 1, 0b110, 2);
     let stored = [at(4, 3), at(2, 1), at(3, 2), new_view.clone(), at(2, 8)];
     stored.iter().for_each(|statement| assert_eq!(bench.step(statement), []));
     bench.step(&blame_set(1, 0b011));
     bench.quiet_to(1);
     let voted = |height: u32| vote(2, height, name(height as u16), 2);
     let order = [
-        [new_view, vote(2, 1, name(1), 2)],
+        [new_view, vote(2, 0, ZERO, 2)],
         [at(2, 1), voted(2)],
         [at(2, 8), voted(2)],
         [at(3, 2), voted(3)],

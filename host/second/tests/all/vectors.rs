@@ -18,8 +18,9 @@ recorded! {
     settings: "settings.txt",
     fuzz_002: "fuzz-002.txt",
     fuzz_005: "fuzz-005.txt",
-    fuzz_011: "fuzz-011.txt",
-    fuzz_012: "fuzz-012.txt",
+    fuzz_010: "fuzz-010.txt",
+    fuzz_017: "fuzz-017.txt",
+    parents: "parents.txt",
     sim_001: "sim-001.txt",
     damage_5: "damage-5.txt",
     display: "display.txt",
@@ -27,8 +28,8 @@ recorded! {
 
 recorded! {
     Limits::LARGE,
-    large_fuzz_001: "large/fuzz-001.txt",
-    large_fuzz_005: "large/fuzz-005.txt",
+    large_fuzz_000: "large/fuzz-000.txt",
+    large_fuzz_003: "large/fuzz-003.txt",
     large_views: "large/views.txt",
 }
 
