@@ -7,7 +7,7 @@ use native.Mathlib.Decide.{decLt}
 use mathlib.Core.Bool.{true}
 use Rattle.rules.specs.Limits.{lastView}
 use Rattle.rules.specs.Sizes.{Settings, bit, quorum}
-use Rattle.rules.specs.Messages.{Message, blameSet, toAll}
+use Rattle.rules.specs.Messages.{Message, blameSet, viewOf, toAll}
 use Rattle.rules.specs.Words.{Statement, message, inView}
 use Rattle.rules.specs.Inputs.{blameFull}
 use Rattle.rules.proofs.Tests.{no-bool}
@@ -16,7 +16,7 @@ use Rattle.rules.proofs.Statements.{In, conflict-view}
 use Rattle.rules.proofs.Kept.{by-phase}
 use Rattle.rules.proofs.Orderly.{Told, full, two, Past, start, onward}
 use Rattle.rules.proofs.Held.{Held, held-stored}
-use Rattle.rules.proofs.Views.{viewOf, view-message}
+use Rattle.rules.proofs.Views.{view-message}
 use Rattle.agreement.proofs.Clock.{last-of}
 use Rattle.agreement.proofs.Group.{Group, st, ck, Ok, G, SaidAt, at-settings, at-clock, kept-run, orderly-run, view-run, prompt, says-views, NearFrom, reach-near}
 

@@ -12,7 +12,7 @@ use lib.ListN.{length, length-replicate}
 use Rattle.rules.specs.Limits.{Size, firstView, lastView}
 use Rattle.rules.specs.Lists.{distinct}
 use Rattle.rules.specs.Sizes.{Settings, goodSettings, bit, count}
-use Rattle.rules.specs.Messages.{Message, newView, propose, vote, blame, blameSet, status, read, write, allowed, Effect, toAll, toOne, committed}
+use Rattle.rules.specs.Messages.{Message, newView, propose, vote, blame, blameSet, status, viewOf, read, write, allowed, Effect, toAll, toOne, committed}
 use Rattle.rules.specs.Words.{Statement, message, sameStatement, Certificate, State, waiting, fresh}
 use Rattle.rules.specs.Inputs.{offered}
 use Rattle.rules.specs.Refusals.{Outcome, running, step}
@@ -22,7 +22,7 @@ use Rattle.rules.proofs.Moves.{carried, Moves}
 use Rattle.rules.proofs.Kept.{no-phase, moves-fixed, Kept, kept-refl, kept-trans, moves-kept, moves-late, settled-waits}
 use Rattle.rules.proofs.Orderly.{Orderly, fresh-orderly, moves-orderly, past-range}
 use Rattle.rules.proofs.Held.{Held, held-kept, step-held, HeldSaid, moves-said}
-use Rattle.rules.proofs.Views.{viewOf, ViewSaid, moves-views}
+use Rattle.rules.proofs.Views.{ViewSaid, moves-views}
 use Rattle.rules.proofs.Votes.{Cast, CastSaid, moves-cast}
 use Rattle.rules.proofs.Proper.{Right, Proper, Known, Parented, fresh-proper, proper-map, moves-proper}
 use Rattle.kept.specs.Parts.{WellFormed}

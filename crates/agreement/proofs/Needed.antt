@@ -7,14 +7,14 @@ use mathlib.Core.Logic.{_⊎_, inl, inr}
 use mathlib.Core.Option.{some, Option·some-injective}
 use Rattle.rules.specs.Limits.{Size}
 use Rattle.rules.specs.Sizes.{Settings, bit}
-use Rattle.rules.specs.Messages.{Message, newView, propose, vote, blame, blameSet, status, write, allowed}
+use Rattle.rules.specs.Messages.{Message, newView, propose, vote, blame, blameSet, status, viewOf, write, allowed}
 use Rattle.rules.specs.Words.{Certificate}
 use Rattle.rules.specs.Refusals.{Outcome, running, step}
 use Rattle.rules.proofs.Tests.{no-some}
 use Rattle.rules.proofs.Tallies.{bit-only}
 use Rattle.rules.proofs.Moves.{carried}
 use Rattle.rules.proofs.Held.{step-taken}
-use Rattle.rules.proofs.Views.{viewOf}
+use Rattle.rules.proofs.Views.{not-ahead}
 use Rattle.rules.proofs.Proper.{Parented}
 use Rattle.agreement.specs.Schedule.{Event, commonTick, given, happens, ticks, IsCommon, at, clock, HasVoted, Sound, GoodSettings, SoundRun, ProperBuffers, Sends, Genuine, OneBlock, Premises, Run, run}
 use Rattle.agreement.proofs.Events.{happens-given}
@@ -22,7 +22,7 @@ use Rattle.agreement.proofs.Whole.{settings-alike, settings-at, sent-al
 use Rattle.agreement.proofs.Clock.{last-of, clock-alike, one-tick}
 use Rattle.agreement.proofs.Group.{Group}
 
--- who runs takes what was sent to it: it can be read, is allowed, and there is room
+-- who runs takes what was sent to it and is at most one view ahead: it can be read, is allowed, and there is room
 pub running-takes : (size : Size) (n D : ℕ) (event : ℕ → Event) (faulty : ℕ) → GoodSettings (run size n D event) → ProperBuffers (run size n D event) → SoundRun (run size n D event) faulty
     → (i j : ℕ) → Sound (run size n D event) faulty i → Sound (run size n D event) faulty j → (l h : ℕ) (m : Message) → Sends (run size n D event) i j l m → l < h → event h ≡ given j (write m)
     → viewOf m ≤ at size n D event j h .view + 1 → happens j (event h) (at size n D event j h) .number ≡ 0
@@ -33,7 +33,7 @@ running-takes size n D event faulty g lent runs i j hi hj l h m s o e v =
     let (r, a) = sent-allowed size n D event lent i (settings-alike size n D i g (hi .0)) j l m s in
     let b = subst (λ (y : Settings). allowed y m ≡ true) (sym (settings-at size n D event lent j (settings-alike size n D j g (hj .0)) h)) a in
     ap (λ (x : Outcome). x .number) z
-    ∙ step-taken (write m) m t (runs j hj h) r b (subst (λ (x : Outcome). running (x .next) ≡ true) z (runs j hj (suc h)))
+    ∙ step-taken (write m) m t (runs j hj h) r b (not-ahead m t v) (subst (λ (x : Outcome). running (x .next) ≡ true) z (runs j hj (suc h)))
 
 module _ (size : Size) (n D : ℕ) (event : ℕ → Event) (faulty : ℕ) (heightOf parentOf : ℕ → ℕ) where
   abbrev R : Run
