@@ -27,7 +27,7 @@ use Rattle.rules.proofs.Votes.{Cast, CastSaid, moves-cast}
 use Rattle.rules.proofs.Proper.{Right, Proper, Known, Parented, fresh-proper, proper-map, moves-proper}
 use Rattle.kept.specs.Parts.{WellFormed}
 use Rattle.kept.proofs.Statements.{stored-said}
-use Rattle.agreement.specs.Schedule.{Event, idle, commonTick, tickOf, given, offeredTo, happens, ticks, IsCommon, settingsOf, at, out, clock, Says, Sound, IsLent, Sends, Hands, Offers, Run, run}
+use Rattle.agreement.specs.Schedule.{Event, idle, commonTick, tickOf, given, offeredTo, happens, ticks, IsCommon, settingsOf, at, out, clock, Says, Sound, IsLent, Sends, Speaks, Hands, Offers, Run, run}
 use Rattle.agreement.proofs.Whole.{settings-alike, formed-at, sent-allowed}
 use Rattle.agreement.proofs.Clock.{clock-suc, clock-mono, clock-before}
 use Rattle.agreement.proofs.Events.{GivenBy, OfferedBy, Brings, begun, before, event-moves, begun-clock, begun-same, begun-kept, begun-orderly, begun-proper, before-all, mem-after, event-settled, ticks-two, happens-given}
@@ -50,8 +50,8 @@ pub record Group : Type 0 where
   -- what a sound station sent a sound one is handed over after that and before the tick D + 1 later
   pub reaches : (i j : ℕ) → Sound (run size n D event) faulty i → Sound (run size n D event) faulty j → (l k : ℕ) (m : Message) → Sends (run size n D event) i j l m
       → clock event 0 (suc l) + D + 1 ≤ next k → (h : ℕ) × (l < h) × (h < k) × (event h ≡ given j (write m))
-  -- and is taken: of no message at most one view ahead of the receiver is the answer a refusal
-  pub takes : (i j : ℕ) → Sound (run size n D event) faulty i → Sound (run size n D event) faulty j → (l h : ℕ) (m : Message) → Sends (run size n D event) i j l m
+  -- a message of a sound station that is at most one view ahead of a sound one is taken by it: the answer is no refusal
+  pub takes : (i j : ℕ) → Sound (run size n D event) faulty i → Sound (run size n D event) faulty j → (l h : ℕ) (m : Message) → Speaks (run size n D event) i l m
       → l < h → event h ≡ given j (write m) → viewOf m ≤ at size n D event j h .view + 1 → happens j (event h) (at size n D event j h) .number ≡ 0
   pub voters : (k j : ℕ) (m : Message) → Hands (run size n D event) faulty k j m → (t : Certificate) → carried m ≡ some t → (i : ℕ) → Sound (run size n D event) faulty i → bit (t .mask) i ≡ 1
       → (l : ℕ) × (l < k) × Says (run size n D event) i l (toAll (vote (t .view) (t .height) (t .name) i))
@@ -242,7 +242,7 @@ module _ (X : Group) where
 
   -- ---- what is said to all is held by all, the sender too, before the tick D + 1 later
 
-  taken-held : (i j : ℕ) → Ok i → Ok j → (l h : ℕ) (m : Message) → Sends R i j l m → l < h → event h ≡ given j (write m)
+  taken-held : (i j : ℕ) → Ok i → Ok j → (l h : ℕ) (m : Message) → Speaks R i l m → l < h → event h ≡ given j (write m)
       → viewOf m ≤ st j h .view + 1 → Held (G j) (st j (suc h)) m
   unfolding at
   taken-held i j hi hj l h m s o e v =
@@ -285,7 +285,7 @@ module _ (X : Group) where
         | no q ↦ (
             let (h, lo, lh, ev) = X .reaches i j hi hj l k m (inl (s, q)) (omega arith) in
             let o = clock-mono event (suc l) h (omega arith) in
-            held-kept (G j) (kept-run j hj (suc h) k (omega arith)) m (taken-held i j hi hj l h m (inl (s, q)) lo ev (near h (omega arith))))
+            held-kept (G j) (kept-run j hj (suc h) k (omega arith)) m (taken-held i j hi hj l h m (inl s) lo ev (near h (omega arith))))
       ]
 
   -- ---- L4 in the run: a vote at event k

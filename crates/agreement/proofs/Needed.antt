@@ -16,15 +16,15 @@ use Rattle.rules.proofs.Moves.{carried}
 use Rattle.rules.proofs.Held.{step-taken}
 use Rattle.rules.proofs.Views.{not-ahead}
 use Rattle.rules.proofs.Proper.{Parented}
-use Rattle.agreement.specs.Schedule.{Event, commonTick, given, happens, ticks, IsCommon, at, clock, HasVoted, Sound, GoodSettings, SoundRun, ProperBuffers, Sends, Genuine, OneBlock, Premises, Run, run}
+use Rattle.agreement.specs.Schedule.{Event, commonTick, given, happens, ticks, IsCommon, at, clock, HasVoted, Sound, GoodSettings, SoundRun, ProperBuffers, Sends, Speaks, Genuine, OneBlock, Premises, Run, run}
 use Rattle.agreement.proofs.Events.{happens-given}
 use Rattle.agreement.proofs.Whole.{settings-alike, settings-at, sent-allowed}
 use Rattle.agreement.proofs.Clock.{last-of, clock-alike, one-tick}
 use Rattle.agreement.proofs.Group.{Group}
 
--- who runs takes what was sent to it and is at most one view ahead: it can be read, is allowed, and there is room
+-- who runs takes a message of a sound station that is at most one view ahead: it can be read, is allowed, and there is room
 pub running-takes : (size : Size) (n D : ℕ) (event : ℕ → Event) (faulty : ℕ) → GoodSettings (run size n D event) → ProperBuffers (run size n D event) → SoundRun (run size n D event) faulty
-    → (i j : ℕ) → Sound (run size n D event) faulty i → Sound (run size n D event) faulty j → (l h : ℕ) (m : Message) → Sends (run size n D event) i j l m → l < h → event h ≡ given j (write m)
+    → (i j : ℕ) → Sound (run size n D event) faulty i → Sound (run size n D event) faulty j → (l h : ℕ) (m : Message) → Speaks (run size n D event) i l m → l < h → event h ≡ given j (write m)
     → viewOf m ≤ at size n D event j h .view + 1 → happens j (event h) (at size n D event j h) .number ≡ 0
 unfolding at
 running-takes size n D event faulty g lent runs i j hi hj l h m s o e v =
