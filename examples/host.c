@@ -290,8 +290,9 @@ static int done(struct host *h, uint64_t result)
     switch (STATION_REFUSAL(result)) {
     case 0:
         break;
-    case 4: /* the message is dropped */
+    case 4: /* the message is dropped: no sound station's is refused so */
     case 5:
+    case 11:
     case 9: /* the offer is made again after the next input */
         return 0;
     default: /* the station is stopped, or its buffers are wrong: somebody has to look */

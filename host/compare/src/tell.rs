@@ -6,8 +6,8 @@ use second::replay::Input;
 use station::{Cause, Effect, Effects, GENESIS, Message, Name, Phase, Size};
 use std::fmt::Write;
 
-/// The reasons of 01's "When the desk says no".
-const REASONS: [&str; 10] = [
+/// The reasons of 01's "When the desk says no", and of 02's number.
+const REASONS: [&str; 11] = [
     "store not of its exact length, offered name not 32 bytes, or out buffer too short",
     "store not well formed",
     "already stopped",
@@ -18,6 +18,7 @@ const REASONS: [&str; 10] = [
     "tick at clock 4,000,000,000",
     "offer not to be taken",
     "bad settings for a fresh store",
+    "more than one view ahead of the view held or last quit",
 ];
 
 /// What is printed. Of a bad line it doesn't say what is wrong, and of a lock not the mask.

@@ -143,8 +143,9 @@ impl Host {
     ) -> io::Result<Vec<Letter>> {
         let effects = match effects {
             Ok(effects) => effects,
-            // The offer is made again after the next input, and a bad message is dropped.
-            Err(Refusal::NotTaken | Refusal::Unreadable | Refusal::NotAllowed) => {
+            // The offer is made again after the next input. A bad message is dropped, and so is one that
+            // is too far ahead: no sound station sends such.
+            Err(Refusal::NotTaken | Refusal::Unreadable | Refusal::NotAllowed | Refusal::Ahead) => {
                 return Ok(Vec::new());
             }
             // The station is stopped, or its buffers are wrong: somebody has to look.

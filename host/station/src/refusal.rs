@@ -1,4 +1,4 @@
-//! "When the desk says no": the refusals with 01's numbers, each with what to do about it.
+//! "When the desk says no": the refusals with the numbers of 01 and 02, each with what to do about it.
 
 use std::fmt;
 
@@ -36,11 +36,13 @@ pub enum Refusal {
     NotTaken = 9,
     /// Bad settings for a fresh store.
     Settings = 10,
+    /// Message more than one view ahead of the view held or last quit.
+    Ahead = 11,
 }
 
 impl Refusal {
     /// Every refusal, in the order of the numbers.
-    pub const ALL: [Refusal; 10] = [
+    pub const ALL: [Refusal; 11] = [
         Refusal::Length,
         Refusal::Store,
         Refusal::Stopped,
@@ -51,9 +53,10 @@ impl Refusal {
         Refusal::Clock,
         Refusal::NotTaken,
         Refusal::Settings,
+        Refusal::Ahead,
     ];
 
-    /// 01's number.
+    /// The number of 01 and 02.
     pub fn number(self) -> u32 {
         self as u32
     }
@@ -81,6 +84,7 @@ impl Refusal {
             Refusal::Clock => "the clock is at its end, and the station is now stopped",
             Refusal::NotTaken => "the offer is not to be taken now",
             Refusal::Settings => "the settings are bad",
+            Refusal::Ahead => "the message is more than one view ahead",
         }
     }
 
@@ -105,6 +109,9 @@ impl Refusal {
                 "offer it again after the next input while this station leads, else to the leader"
             }
             Refusal::Settings => "take an odd n of 3 to 15, D of 1 to 10,000, and own below n",
+            Refusal::Ahead => {
+                "keep it and hand it over again after the next view begins, or drop it; no sound station's message comes so early"
+            }
         }
     }
 }
@@ -120,13 +127,13 @@ impl std::error::Error for Refusal {}
 /// A call's result taken apart: the count of bytes written, or the refusal.
 ///
 /// # Panics
-/// If the number is none of 01's, as no station answers it.
+/// If the number is none of a [`Refusal`], as no station answers it.
 pub fn answer(result: u64) -> Result<usize, Refusal> {
     let number = (result >> 32) as u32;
     if number == 0 {
         return Ok(result as usize);
     }
-    Err(Refusal::from_number(number).expect("a refusal of 1 to 10"))
+    Err(Refusal::from_number(number).expect("a refusal of 1 to 11"))
 }
 
 #[cfg(test)]
@@ -134,14 +141,14 @@ mod tests {
     use super::*;
 
     #[test]
-    fn numbers_are_those_of_01() {
+    fn numbers_are_in_their_order() {
         for (place, refusal) in Refusal::ALL.into_iter().enumerate() {
             assert_eq!(refusal.number() as usize, place + 1);
             assert_eq!(Refusal::from_number(refusal.number()), Some(refusal));
             assert!(refusal.to_string().starts_with(&format!("refusal {}: ", place + 1)));
         }
         assert_eq!(Refusal::from_number(0), None);
-        assert_eq!(Refusal::from_number(11), None);
+        assert_eq!(Refusal::from_number(12), None);
     }
 
     #[test]

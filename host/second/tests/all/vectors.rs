@@ -17,17 +17,14 @@ recorded! {
     Limits::SMALL,
     settings: "settings.txt",
     fuzz_002: "fuzz-002.txt",
-    fuzz_005: "fuzz-005.txt",
-    fuzz_011: "fuzz-011.txt",
-    fuzz_012: "fuzz-012.txt",
+    fuzz_008: "fuzz-008.txt",
     sim_001: "sim-001.txt",
-    damage_5: "damage-5.txt",
+    damage_6: "damage-6.txt",
+    ahead: "ahead.txt",
 }
 
 recorded! {
     Limits::LARGE,
-    large_fuzz_001: "large/fuzz-001.txt",
-    large_fuzz_005: "large/fuzz-005.txt",
     large_views: "large/views.txt",
 }
 
