@@ -284,7 +284,12 @@ mod tests {
                 let found = numbers(size, &inputs);
                 let stops = u64::from(title.contains("too many") || title.contains("without"));
                 assert_eq!((found[6], found[3] > 0), (stops, stops == 1), "{size:?}: {title}");
-                assert_eq!(found[5], 2 * u64::from(title == "every view"), "{size:?}: {title}");
+                let bad = match title {
+                    "every view" => (2, 0),
+                    "too early" => (3, 25),
+                    _ => (0, 0),
+                };
+                assert_eq!((found[5], found[11]), bad, "{size:?}: {title}");
             }
             for (title, inputs) in bench(size) {
                 let stops = u64::from(title == "one statement too many");
