@@ -337,8 +337,9 @@ static int done(struct host *h, uint64_t result, uint64_t kind, const uint8_t *i
     case 8:
         keep(h, kind, input, length);
         break;
-    case 4: /* the message is dropped */
+    case 4: /* the message is dropped: no sound station's is refused so */
     case 5:
+    case 11:
     case 9: /* the offer is made again after the next input */
         return 0;
     }

@@ -17,9 +17,10 @@
  *    8  tick at clock 4,000,000,000                                                          phase: stopped, clock
  *    9  offer not to be taken                                                                nothing changes
  *   10  bad settings for a fresh store                                                       nothing changes
+ *   11  message more than one view ahead of the view held or last quit                       nothing changes
  *   13  journal: no slot left, no input, or a slot that stops a replay                       see the journal's calls
  *
- * Order: 1, 2, 3, then 4, 5, 6 for messages; 9, 6 for offers; 8, 7, 6 for ticks. A fresh store: 1, then 10. The display:
+ * Order: 1, 2, 3, then 4, 5, 11, 6 for messages; 9, 6 for offers; 8, 7, 6 for ticks. A fresh store: 1, then 10. The display:
  * 1, then 2.
  */
 #ifndef STATION_H
@@ -56,7 +57,7 @@ extern "C" {
  * ticks, 1 to 10,000; own, this station's number, below n. Answers 0, or refusal 1 or 10. */
 uint64_t station_fresh(uint8_t *store, size_t store_len, uint64_t n, uint64_t d, uint64_t own);
 
-/* Hands the station one message whose signatures the host has checked. Refusals 1 to 6. */
+/* Hands the station one message whose signatures the host has checked. Refusals 1 to 6 and 11. */
 uint64_t station_step(uint8_t *store, size_t store_len, const uint8_t *message, size_t message_len, uint8_t *out, size_t out_len);
 
 /* One tick of the clock. Refusals 1, 2, 3, 6, 7 and 8. */

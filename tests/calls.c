@@ -152,7 +152,7 @@ static void not_well_formed(void) /* 2 */
     }
 }
 
-static void messages(void) /* 4, 5, then 0 */
+static void messages(void) /* 4, 5, 11, then 0 */
 {
     fresh(2);
     keep();
@@ -160,8 +160,10 @@ static void messages(void) /* 4, 5, then 0 */
     EXPECT(vote(row->views + 1, 1, 77, 0) == refusal(5));
     EXPECT(vote(0, 1, 77, 0) == refusal(5));
     EXPECT(blame_set(1, 11) == refusal(5));
+    EXPECT(vote(row->views, 1, 77, 0) == refusal(11));
+    EXPECT(vote(3, 1, 77, 0) == refusal(11) && blame_set(3, 3) == refusal(11) && propose(3, 1, 77, 0, 0) == refusal(11));
     EXPECT(untouched());
-    EXPECT(vote(row->views, 1, 77, 0) == 0);
+    EXPECT(vote(2, 1, 77, 0) == 0);
     EXPECT(ticks(7) == 0);
     EXPECT(propose(1, 1, 77, 0, 1) == 160);
     EXPECT(ticks(4) == 0);

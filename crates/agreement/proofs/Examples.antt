@@ -5,13 +5,13 @@ use Prim.Native.Nat.{ℕ, suc, _+_, _*_}
 use mathlib.Core.List.{List, [], _∷_, List·Memᴰ·head, List·Memᴰ·tail}
 use mathlib.Core.Option.{none}
 use Rattle.rules.specs.Limits.{small}
-use Rattle.rules.specs.Messages.{propose, vote, toAll}
+use Rattle.rules.specs.Messages.{propose, vote, viewOf, write, toAll}
 use Rattle.rules.specs.Words.{inView}
 use Rattle.rules.specs.Inputs.{merge}
 use Rattle.rules.proofs.Commits.{begins-merge}
-use Rattle.agreement.specs.Schedule.{Event, ticks, at, out, clock, run, Says, Schedule, OneBegins}
+use Rattle.agreement.specs.Schedule.{Event, given, happens, ticks, at, out, clock, run, Says, Schedule, OneBegins}
 use Rattle.agreement.specs.Checks.{fewFaulty, commonTicks, inTime, noForgery, oneName, premises, other, AllBut, listed, verdict}
-use Rattle.agreement.specs.Examples.{twoViews, heldBack, forgedVotes, manyFaulty, twoParents, ownTicks, heightOf, parentOf, rivalHeight, rivalParent}
+use Rattle.agreement.specs.Examples.{twoViews, oneAhead, heldBack, forgedVotes, manyFaulty, twoParents, ownTicks, heightOf, parentOf, rivalHeight, rivalParent}
 use Rattle.agreement.proofs.Checked.{all-but, schedule-checked}
 
 -- ---- all premises hold, and two stations commit three blocks over two views with a faulty leader between
@@ -24,6 +24,17 @@ pub two-views-logs : (at small 3 1 (listed twoViews) 0 58 .log ≡ 77 ∷ 78 ∷
     × (at small 3 1 (listed twoViews) 0 58 .view ≡ 3)
 unfolding at listed twoViews
 two-views-logs = (refl, refl, refl)
+
+-- ---- how near a message of a sound station comes to refusal 11: exactly one view ahead, and taken
+
+pub one-ahead : Schedule (run small 3 1 (listed oneAhead)) 4 heightOf parentOf
+unfolding verdict premises oneAhead heightOf parentOf
+one-ahead = schedule-checked small 3 1 oneAhead 4 heightOf parentOf refl
+
+pub one-ahead-taken : Says (run small 3 1 (listed oneAhead)) 0 19 (toAll (vote 2 0 0 0)) × (listed oneAhead 21 ≡ given 1 (write (vote 2 0 0 0)))
+    × (at small 3 1 (listed oneAhead) 1 21 .view + 1 ≡ viewOf (vote 2 0 0 0)) × (happens 1 (listed oneAhead 21) (at small 3 1 (listed oneAhead) 1 21) .number ≡ 0)
+unfolding at out happens listed oneAhead viewOf
+one-ahead-taken = (List·Memᴰ·tail (List·Memᴰ·tail (List·Memᴰ·head refl)), refl, refl, refl)
 
 -- ---- all but one premise hold, and the logs split
 

@@ -5,9 +5,10 @@ use native.Mathlib.Omega.{arith}
 use native.Mathlib.Nat.{le-of-lt}
 use native.Mathlib.Decide.{decLt}
 use mathlib.Core.Bool.{true}
+use mathlib.Core.Logic.{inl, inr}
 use Rattle.rules.specs.Limits.{lastView}
 use Rattle.rules.specs.Sizes.{Settings, bit, quorum}
-use Rattle.rules.specs.Messages.{Message, blameSet, toAll}
+use Rattle.rules.specs.Messages.{Message, blameSet, viewOf, toAll, toOne}
 use Rattle.rules.specs.Words.{Statement, message, inView}
 use Rattle.rules.specs.Inputs.{blameFull}
 use Rattle.rules.proofs.Tests.{no-bool}
@@ -16,7 +17,8 @@ use Rattle.rules.proofs.Statements.{In, conflict-view}
 use Rattle.rules.proofs.Kept.{by-phase}
 use Rattle.rules.proofs.Orderly.{Told, full, two, Past, start, onward}
 use Rattle.rules.proofs.Held.{Held, held-stored}
-use Rattle.rules.proofs.Views.{viewOf, view-message}
+use Rattle.rules.proofs.Views.{view-message}
+use Rattle.agreement.specs.Schedule.{Speaks, run}
 use Rattle.agreement.proofs.Clock.{last-of}
 use Rattle.agreement.proofs.Group.{Group, st, ck, Ok, G, SaidAt, at-settings, at-clock, kept-run, orderly-run, view-run, prompt, says-views, NearFrom, reach-near}
 
@@ -82,17 +84,24 @@ module _ (X : Group) where
   near : (i j : ℕ) → Ok X i → Ok X j → {v e : ℕ} → Past (SaidAt X i) (G X i) v e → NearFrom X j e v
   near i j hi hj p k = follow-both i j hi hj p k .1
 
-  -- what i said by the clock of a moment is at most one view ahead of j there
-  pub said-near : (i j : ℕ) → Ok X i → Ok X j → (l : ℕ) → NearFrom X j (ck X (suc l)) (st X i (suc l) .view)
+  -- from any event of i on, j is at most one view behind the view that i then holds or last quit
+  said-near : (i j : ℕ) → Ok X i → Ok X j → (l : ℕ) → NearFrom X j (ck X (suc l)) (st X i (suc l) .view)
   said-near i j hi hj l h o =
       let r = orderly-run X i hi (suc l) in
       let c = at-clock X i hi (suc l) in
       let b = r .order in
       near i j hi hj (subst (λ (g : Settings). Past (SaidAt X i) g (st X i (suc l) .view) (st X i (suc l) .entry)) (at-settings X i hi (suc l)) (r .past)) h (omega arith)
 
+  spoken-view : (i : ℕ) → Ok X i → (l : ℕ) (m : Message) → Speaks (run size n D event) i l m → viewOf m ≤ st X i (suc l) .view
+  spoken-view i hi l m (inl s) = says-views X i hi l (toAll m) s
+  spoken-view i hi l m (inr (j, s)) = says-views X i hi l (toOne j m) s
+
+  -- a message of i is at most one view ahead of j from the clock on at which it was said
+  pub spoken-near : (i j : ℕ) → Ok X i → Ok X j → (l : ℕ) (m : Message) → Speaks (run size n D event) i l m → NearFrom X j (ck X (suc l)) (viewOf m)
+  spoken-near i j hi hj l m s h o = let a = spoken-view i hi l m s in let b = said-near i j hi hj l h o in omega arith
+
   message-near : (i j : ℕ) → Ok X i → Ok X j → (m : Message) (c : ℕ) → SaidAt X i c (toAll m) → NearFrom X j c (viewOf m)
-  message-near i j hi hj m c (l, e, s) h o =
-      let a = says-views X i hi l (toAll m) s in let b = said-near i j hi hj l h (omega arith) in omega arith
+  message-near i j hi hj m c (l, e, s) h o = spoken-near i j hi hj l m (inl s) h (omega arith)
 
   -- what is said to all is held by all, the sender too, before the tick D + 1 later
   pub reach : (i j : ℕ) → Ok X i → Ok X j → (m : Message) (c k : ℕ) → SaidAt X i c (toAll m) → c + D + 1 ≤ next k → Held (G X j) (st X j k) m

@@ -12,7 +12,7 @@ use lib.ListN.{length, length-replicate}
 use Rattle.rules.specs.Limits.{Size, firstView, lastView}
 use Rattle.rules.specs.Lists.{distinct}
 use Rattle.rules.specs.Sizes.{Settings, goodSettings, bit, count}
-use Rattle.rules.specs.Messages.{Message, newView, propose, vote, blame, blameSet, status, read, write, allowed, Effect, toAll, toOne, committed}
+use Rattle.rules.specs.Messages.{Message, newView, propose, vote, blame, blameSet, status, viewOf, read, write, allowed, Effect, toAll, toOne, committed}
 use Rattle.rules.specs.Words.{Statement, message, sameStatement, Certificate, State, waiting, fresh}
 use Rattle.rules.specs.Inputs.{offered}
 use Rattle.rules.specs.Refusals.{Outcome, running, step}
@@ -22,12 +22,12 @@ use Rattle.rules.proofs.Moves.{carried, Moves}
 use Rattle.rules.proofs.Kept.{no-phase, moves-fixed, Kept, kept-refl, kept-trans, moves-kept, moves-late, settled-waits}
 use Rattle.rules.proofs.Orderly.{Orderly, fresh-orderly, moves-orderly, past-range}
 use Rattle.rules.proofs.Held.{Held, held-kept, step-held, HeldSaid, moves-said}
-use Rattle.rules.proofs.Views.{viewOf, ViewSaid, moves-views}
+use Rattle.rules.proofs.Views.{ViewSaid, moves-views}
 use Rattle.rules.proofs.Votes.{Cast, CastSaid, moves-cast}
 use Rattle.rules.proofs.Proper.{Right, Proper, Known, Parented, fresh-proper, proper-map, moves-proper}
 use Rattle.kept.specs.Parts.{WellFormed}
 use Rattle.kept.proofs.Statements.{stored-said}
-use Rattle.agreement.specs.Schedule.{Event, idle, commonTick, tickOf, given, offeredTo, happens, ticks, IsCommon, settingsOf, at, out, clock, Says, Sound, IsLent, Sends, Hands, Offers, Run, run}
+use Rattle.agreement.specs.Schedule.{Event, idle, commonTick, tickOf, given, offeredTo, happens, ticks, IsCommon, settingsOf, at, out, clock, Says, Sound, IsLent, Sends, Speaks, Hands, Offers, Run, run}
 use Rattle.agreement.proofs.Whole.{settings-alike, formed-at, sent-allowed}
 use Rattle.agreement.proofs.Clock.{clock-suc, clock-mono, clock-before}
 use Rattle.agreement.proofs.Events.{GivenBy, OfferedBy, Brings, begun, before, event-moves, begun-clock, begun-same, begun-kept, begun-orderly, begun-proper, before-all, mem-after, event-settled, ticks-two, happens-given}
@@ -39,10 +39,10 @@ module _ (R : Run) (faulty : ℕ) where
       (i j : ℕ) → Sound R faulty i → Sound R faulty j → (l k : ℕ) (m : Message) → Sends R i j l m
       → clock (R .event) 0 (suc l) + R .D + 1 ≤ next k → (h : ℕ) × (l < h) × (h < k) × (R .event h ≡ given j (write m))
 
-  -- and is taken: where it is at most one view ahead of the receiver, the answer is 0
+  -- a message of a sound station that is at most one view ahead of a sound one is taken by it: the answer is no refusal
   abbrev pub Takes : Type 0
   Takes =
-      (i j : ℕ) → Sound R faulty i → Sound R faulty j → (l h : ℕ) (m : Message) → Sends R i j l m → l < h → R .event h ≡ given j (write m)
+      (i j : ℕ) → Sound R faulty i → Sound R faulty j → (l h : ℕ) (m : Message) → Speaks R i l m → l < h → R .event h ≡ given j (write m)
       → viewOf m ≤ R .state j h .view + 1 → happens j (R .event h) (R .state j h) .number ≡ 0
 
 pub record Group : Type 0 where
@@ -253,7 +253,7 @@ module _ (X : Group) where
 
   -- ---- what is said to all is held by all, the sender too, before the tick D + 1 later
 
-  taken-held : (i j : ℕ) → Ok i → Ok j → (l h : ℕ) (m : Message) → Sends R i j l m → l < h → event h ≡ given j (write m)
+  taken-held : (i j : ℕ) → Ok i → Ok j → (l h : ℕ) (m : Message) → Speaks R i l m → l < h → event h ≡ given j (write m)
       → viewOf m ≤ st j h .view + 1 → Held (G j) (st j (suc h)) m
   unfolding at
   taken-held i j hi hj l h m s o e v =
@@ -296,7 +296,7 @@ module _ (X : Group) where
         | no q ↦ (
             let (h, lo, lh, ev) = X .reaches i j hi hj l k m (inl (s, q)) (omega arith) in
             let o = clock-mono event (suc l) h (omega arith) in
-            held-kept (G j) (kept-run j hj (suc h) k (omega arith)) m (taken-held i j hi hj l h m (inl (s, q)) lo ev (near h (omega arith))))
+            held-kept (G j) (kept-run j hj (suc h) k (omega arith)) m (taken-held i j hi hj l h m (inl s) lo ev (near h (omega arith))))
       ]
 
   -- ---- L4 in the run: a vote at event k

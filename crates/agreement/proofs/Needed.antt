@@ -7,16 +7,16 @@ use mathlib.Core.Logic.{_⊎_, inl, inr}
 use mathlib.Core.Option.{some, Option·some-injective}
 use Rattle.rules.specs.Limits.{Size}
 use Rattle.rules.specs.Sizes.{Settings, bit}
-use Rattle.rules.specs.Messages.{Message, newView, propose, vote, blame, blameSet, status, write, allowed}
+use Rattle.rules.specs.Messages.{Message, newView, propose, vote, blame, blameSet, status, viewOf, write, allowed}
 use Rattle.rules.specs.Words.{Certificate}
 use Rattle.rules.specs.Refusals.{Outcome, running, step}
 use Rattle.rules.proofs.Tests.{no-some}
 use Rattle.rules.proofs.Tallies.{bit-only}
 use Rattle.rules.proofs.Moves.{carried}
 use Rattle.rules.proofs.Held.{step-taken}
-use Rattle.rules.proofs.Views.{viewOf}
+use Rattle.rules.proofs.Views.{not-ahead}
 use Rattle.rules.proofs.Proper.{Parented}
-use Rattle.agreement.specs.Schedule.{Event, commonTick, given, happens, ticks, IsCommon, at, clock, HasVoted, Sound, GoodSettings, SoundRun, ProperBuffers, Sends, Genuine, OneBlock, Premises, Run, run, CommonTicks, InTime}
+use Rattle.agreement.specs.Schedule.{Event, commonTick, given, happens, ticks, IsCommon, at, clock, HasVoted, Sound, GoodSettings, SoundRun, ProperBuffers, Sends, Speaks, Genuine, OneBlock, Premises, Run, run, CommonTicks, InTime}
 use Rattle.agreement.proofs.Events.{happens-given}
 use Rattle.agreement.proofs.Whole.{settings-alike, settings-at, sent-allowed}
 use Rattle.agreement.proofs.Clock.{last-of, clock-alike, one-tick}
@@ -54,7 +54,7 @@ module _ (size : Size) (n D : ℕ) (event : ℕ → Event) (faulty : ℕ) where
   abbrev R : Run
   R = run size n D event
 
-  -- who runs takes what was sent to it: it can be read, is allowed, and there is room
+  -- who runs takes a message of a sound station that is at most one view ahead: it can be read, is allowed, and there is room
   pub running-takes : GoodSettings R → ProperBuffers R → SoundRun R faulty → Takes R faulty
   unfolding at
   running-takes g lent runs i j hi hj l h m s o e v =
@@ -63,7 +63,7 @@ module _ (size : Size) (n D : ℕ) (event : ℕ → Event) (faulty : ℕ) where
       let (r, a) = sent-allowed size n D event lent i (settings-alike size n D i g (hi .0)) j l m s in
       let b = subst (λ (y : Settings). allowed y m ≡ true) (sym (settings-at size n D event lent j (settings-alike size n D j g (hj .0)) h)) a in
       ap (λ (x : Outcome). x .number) z
-      ∙ step-taken (write m) m t (runs j hj h) r b (subst (λ (x : Outcome). running (x .next) ≡ true) z (runs j hj (suc h)))
+      ∙ step-taken (write m) m t (runs j hj h) r b (not-ahead m t v) (subst (λ (x : Outcome). running (x .next) ≡ true) z (runs j hj (suc h)))
 
   -- what was sent to all or to one is handed over before every moment after which the clock is D + 1 later
   pub delivered : CommonTicks R → InTime R faulty → Reaches R faulty (λ k. clock event 0 (suc k))

@@ -21,7 +21,7 @@ use Rattle.kept.specs.Said.{Each, Sendable, Sayable}
 use Rattle.kept.proofs.WellFormed.{fresh-formed}
 use Rattle.kept.proofs.Calls.{Kept, step-kept, offer-kept, tick-kept, sent-read}
 use Rattle.kept.proofs.Lists.{each-mem}
-use Rattle.agreement.specs.Schedule.{Event, idle, commonTick, tickOf, given, offeredTo, happens, settingsOf, at, out, IsLent, Sends, run}
+use Rattle.agreement.specs.Schedule.{Event, idle, commonTick, tickOf, given, offeredTo, happens, settingsOf, at, out, IsLent, Speaks, run}
 
 -- good settings are good for every own number below n
 pub settings-alike : (size : Size) (n D i : ℕ) → goodSettings (settingsOf size n D 0) ≡ true → i < n → goodSettings (settingsOf size n D i) ≡ true
@@ -74,11 +74,11 @@ module _ (size : Size) (n D : ℕ) (event : ℕ → Event) (lent : (k : ℕ) →
       subst (λ (g : Settings). Each (Sayable g) (out size n D event i k)) (settings-at k)
       (event-kept i (event k) (at size n D event i k) (lent k) (formed-at k) .said)
 
-  sent-at : (j k : ℕ) (m : Message) → Sends (run size n D event) i j k m → Sendable (settingsOf size n D i) m
-  sent-at j k m (inl (s, ne)) = each-mem (Sayable (settingsOf size n D i)) (said-at k) s
-  sent-at j k m (inr s) = each-mem (Sayable (settingsOf size n D i)) (said-at k) s .1
+  sent-at : (k : ℕ) (m : Message) → Speaks (run size n D event) i k m → Sendable (settingsOf size n D i) m
+  sent-at k m (inl s) = each-mem (Sayable (settingsOf size n D i)) (said-at k) s
+  sent-at k m (inr (j, s)) = each-mem (Sayable (settingsOf size n D i)) (said-at k) s .1
 
-  -- what it sends to all or to one can be read by each, and is allowed
-  pub sent-allowed : (j k : ℕ) (m : Message) → Sends (run size n D event) i j k m
+  -- what it sends can be read by each, and is allowed
+  pub sent-allowed : (j k : ℕ) (m : Message) → Speaks (run size n D event) i k m
       → (read (write m) ≡ some m) × (allowed (settingsOf size n D j) m ≡ true)
-  sent-allowed j k m s = let e = sent-at j k m s in (sent-read e, sym (allowed-alike size n D i j m) ∙ e .isAllowed)
+  sent-allowed j k m s = let e = sent-at k m s in (sent-read e, sym (allowed-alike size n D i j m) ∙ e .isAllowed)

@@ -147,7 +147,7 @@ module _ (size : Size) (n D : ℕ) (es : List Event) (faulty : ℕ) where
   isGenuine k (blameSet v m) = every n (λ i. implies (isSound i && eqb (bit m i) 1) (hasSaid i k (sameMessage (blame v i))))
   isGenuine k (status h b c m) = votersVoted k m c h b
 
-  -- what event k hands over to a sound station that takes it passes a test
+  -- what event k hands over to a sound station, which can read it and allows it, passes a test
   unfoldable pub taken : ℕ → (Message → Bool) → Bool
   unfolding givenTo listed implies isSound ifSome read allowed
   taken k p =

@@ -1,4 +1,4 @@
--- Schedules that show what the theorems of demand 3 are about: one in which all premises hold, and for each of five premises one
+-- Schedules that show what the theorems of demand 3 are about: two in which all premises hold, and for each of five premises one
 -- in which the others hold and the logs split or the commit is missed. proofs/Examples.antt evaluates them. Assumes nothing.
 use Prim.Native.Nat.{ℕ}
 use mathlib.Core.Bool.{true, false, _||_}
@@ -28,6 +28,17 @@ twoViews =
     ∷ hears 1 (vote 3 2 78 0) ∷ hears 0 (newView 3 2 78 1 3 0) ∷ hears 0 (vote 3 2 78 1) ∷ offeredTo 0 79
     ∷ hears 1 (propose 3 3 79 78 3 0) ∷ hears 1 (vote 3 3 79 0) ∷ hears 0 (propose 3 3 79 78 3 0)
     ∷ hears 0 (vote 3 3 79 1) ∷ commonTick ∷ commonTick ∷ commonTick ∷ []
+
+-- n=3, D=1, station 2 faulty: it blames view 1 to station 0 alone, which so quits a tick before station 1, and hands it a new-view of
+-- view 2; station 0 enters view 2 and speaks of it at once (event 19), while station 1 still waits after view 1
+unfoldable pub oneAhead : List Event
+unfolding write
+oneAhead =
+    commonTick ∷ commonTick ∷ commonTick ∷ hears 0 (newView 1 0 0 0 0 1) ∷ hears 0 (vote 1 0 0 1)
+    ∷ hears 1 (newView 1 0 0 0 0 1) ∷ hears 1 (vote 1 0 0 0) ∷ commonTick ∷ commonTick ∷ commonTick ∷ commonTick
+    ∷ hears 0 (newView 2 0 0 1 3 2) ∷ hears 0 (blame 1 2) ∷ commonTick ∷ hears 0 (blame 1 1) ∷ commonTick
+    ∷ hears 1 (blame 1 0) ∷ hears 1 (blameSet 1 5) ∷ hears 0 (blameSet 1 3) ∷ commonTick ∷ hears 1 (newView 2 0 0 1 3 2)
+    ∷ hears 1 (vote 2 0 0 0) ∷ commonTick ∷ []
 
 -- n=3, D=1, station 1 faulty: it proposes one block to station 0 and another to station 2, and what they send stays undelivered
 unfoldable pub heldBack : List Event

@@ -127,6 +127,10 @@ module _ (R : Run) where
   abbrev pub Sends : (i j k : ℕ) → Message → Type 0
   Sends i j k m = (Says i k (toAll m) × ¬ (i ≡ j)) ⊎ Says i k (toOne j m)
 
+  -- m is a message of i: said to all, or to whomever
+  abbrev pub Speaks : (i k : ℕ) → Message → Type 0
+  Speaks i k m = Says i k (toAll m) ⊎ ((j : ℕ) × Says i k (toOne j m))
+
   -- ---- what station i said before event k
 
   abbrev pub HasVoted : (i k view height name : ℕ) → Type 0
@@ -193,7 +197,7 @@ module _ (R : Run) where
     Genuine k (blameSet v m) = (i : ℕ) → Sound i → bit m i ≡ 1 → HasBlamed i k v
     Genuine k (status h b c m) = VotersVoted k m c h b
 
-    -- event k hands m over to the sound station j, which takes it
+    -- event k hands m over to the sound station j, which can read it and allows it
     abbrev pub Hands : (k j : ℕ) → Message → Type 0
     Hands k j m = Sound j × ((bs : List ℕ) × (event k ≡ given j bs) × (read bs ≡ some m)) × (allowed (settingsOf size n D j) m ≡ true)
 

@@ -119,6 +119,11 @@ written-answered z x o h =
     let r : (x .number * 2 ^ 32 + length said) % 2 ^ 32 ≡ length said = omega (arith, out-most z) in
     rw r (take-at said (drop (length said) o) (length said) refl)
 
+-- a call that the rules don't refuse answers a count alone
+taken-answered : (z : Size) (x : Outcome) (o : List ℕ) → x .number ≡ 0 → length (outgoing (x .out)) ≤ leastOut z → answered x o .result < 2 ^ 32
+unfolding answered result
+taken-answered z x o e h = rw e (omega (arith, out-most z))
+
 -- ---- the schedule
 
 fresh-store : (b : List ℕ) (size : Size) (n D i : ℕ) → length b ≡ storeLength size → goodSettings (settingsOf size n D i) ≡ true → freshly b n D i .store ≡ encode (fresh (settingsOf size n D i))
@@ -154,6 +159,15 @@ module _ (size : Size) (n D : ℕ) (event : ℕ → Event) (proper : (k : ℕ) �
       let s = at size n D event i k in
       ap (λ (b : List ℕ). written (calls i (event k) b (lent i k))) (store-carried k) ∙ ap written (call-at k)
       ∙ (written-answered (s .settings .size) (happens i (event k) s) (lent i k) (unfold Fits in fits i (event k) s (whole-at k)))
+
+  -- what the rules take its call takes: the result is below 2^32
+  pub taken-carried : (k : ℕ) → happens i (event k) (at size n D event i k) .number ≡ 0
+      → calls i (event k) (storeAt size n D event room lent i k) (lent i k) .result < 2 ^ 32
+  taken-carried k e =
+      let s = at size n D event i k in
+      let is : calls i (event k) (storeAt size n D event room lent i k) (lent i k) .result ≡ answered (happens i (event k) s) (lent i k) .result =
+      ap (λ (b : List ℕ). calls i (event k) b (lent i k) .result) (store-carried k) ∙ ap (λ (c : Called). c .result) (call-at k) in
+      rw is (taken-answered (s .settings .size) (happens i (event k) s) (lent i k) e (unfold Fits in fits i (event k) s (whole-at k)))
 
   pub heard-carried : (k : ℕ) → heard (saidAt size n D event room lent i k) ≡ out size n D event i k
   heard-carried k = ap heard (said-carried k) ∙ heard-outgoing (settingsOf size n D i) (out size n D event i k) (said-at size n D event proper i good k)

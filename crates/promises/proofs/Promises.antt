@@ -1,25 +1,26 @@
 -- Demand 3 of the calls, with every premise and every conclusion about stores and bytes: whatever bytes the stores and out buffers of
--- sound stations hold at first, the logs in the stores agree, the committed fields written are those logs, and a vote that lasts is in
--- the log. Assumes nothing.
-use Prim.Native.Nat.{ℕ, zero, suc, _+_, _*_, _≤_, _<_}
+-- sound stations hold at first, the logs in the stores agree, the committed fields written are those logs, a vote that lasts is in the
+-- log, and no message of a sound station is refused by a sound station. Assumes nothing.
+use Prim.Native.Nat.{ℕ, zero, suc, _+_, _*_, _≤_, _<_, _^_}
 use native.Mathlib.Omega.{arith}
 use mathlib.Core.Path.{_≡_, subst, subst₂, refl, sym, ap, ap₂, _∙_}
-use mathlib.Core.Bool.{true}
+use mathlib.Core.Bool.{true, false}
 use mathlib.Core.List.{List, IsPrefix}
+use mathlib.Core.Logic.{inl, inr}
 use Rattle.rules.specs.Limits.{Size}
 use Rattle.rules.specs.Sizes.{goodSettings}
-use Rattle.rules.specs.Messages.{propose, vote, Effect, toAll}
+use Rattle.rules.specs.Messages.{Message, propose, vote, write, Effect, toAll, toOne}
 use Rattle.rules.specs.Words.{State, inView}
 use Rattle.rules.specs.Inputs.{reports}
-use Rattle.rules.specs.Refusals.{running}
-use Rattle.agreement.specs.Schedule.{Event, commonTick, settingsOf, clock, Run, at, out, run, Says, Sound, GoodSettings, ProperBuffers, SoundRun, Schedule, Linked, lineage, reportsIn, reported, OneBegins}
+use Rattle.rules.specs.Refusals.{running, ahead}
+use Rattle.agreement.specs.Schedule.{Event, commonTick, given, settingsOf, clock, Run, at, out, run, Says, Speaks, Sound, GoodSettings, ProperBuffers, SoundRun, Schedule, Linked, lineage, reportsIn, reported, OneBegins}
 use Rattle.agreement.proofs.Whole.{settings-alike}
 use Rattle.agreement.proofs.Alike.{says-alike, schedule-alike}
-use Rattle.agreement.proofs.Theorems.{sound-run, logs-agree, one-clerk, vote-commits, clock-held}
+use Rattle.agreement.proofs.Theorems.{sound-run, logs-agree, one-clerk, vote-commits, sound-taken, clock-held}
 use Rattle.store.specs.Decode.{names, stateFrom, stateOf}
 use Rattle.promises.specs.Heard.{heard}
-use Rattle.promises.specs.Run.{storeAt, saidAt, wroteBy, callsRun, Lends}
-use Rattle.promises.proofs.Carried.{state-carried, heard-carried, reports-carried}
+use Rattle.promises.specs.Run.{calls, storeAt, saidAt, wroteBy, callsRun, Lends}
+use Rattle.promises.proofs.Carried.{state-carried, taken-carried, heard-carried, reports-carried}
 
 -- a store's log is that of its state
 state-log : (b : List ℕ) → names b ≡ stateOf b .log
@@ -113,3 +114,18 @@ module _ (size : Size) (n D : ℕ) (event : ℕ → Event) (room : ℕ → List 
           subst (λ (l : List ℕ). IsPrefix (lineage parentOf h b) l) (sym (logs r ok (suc k)))
           (vote-commits size n D event faulty heightOf parentOf (to-rules X) r ok j v h b p m a (spoken r j _ ok s) (spoken r j _ ok w) k e
           (clocks r ok k ∙ d ∙ ap (_+ 2 * D) (sym (clocks r ok (suc j)))) (sym (ap (λ (s : State). s .phase) here) ∙ ph) (sym (ap (λ (s : State). s .view) here) ∙ vw))
+
+      -- Theorem D of the calls: a message that a sound station's call of event l wrote, to all or to whomever, is at no later moment too
+      -- far ahead of what the store of a sound station j holds; the call to which event k hands it over answers 0 and a count
+      pub store-takes : (i j : ℕ) → Sound C faulty i → Sound C faulty j → (l k : ℕ) (m : Message) → Speaks C i l m → l < k
+          → (ahead m (holds j k) ≡ false) × (event k ≡ given j (write m) → calls j (event k) (storeAt size n D event room lent j k) (lent j k) .result < 2 ^ 32)
+      store-takes i j hi hj l k m s o =
+          let P = X .premises in
+          let (a, b) = sound-taken size n D event faulty heightOf parentOf (to-rules X) i j hi hj l k m (told s) o in (
+            subst (λ (x : State). ahead m x ≡ false) (sym (states j hj k)) a,
+            λ e. taken-carried size n D event (P .lent) room lent j (good-of (P .settings) (P .lent) j hj) (L .store j hj) (L .out j hj) k (b e),
+          )
+        where
+          told : Speaks C i l m → Speaks R i l m
+          told (inl x) = inl (spoken i l (toAll m) hi x)
+          told (inr (t, x)) = inr (t, spoken i l (toOne t m) hi x)

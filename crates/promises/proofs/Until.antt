@@ -1,22 +1,23 @@
 -- Demand 3 of the calls up to a moment K, for stations that stop later: what is asked is asked of the events before K alone. Assumes nothing.
-use Prim.Native.Nat.{ℕ, zero, suc, _+_, _*_, _≤_, _<_}
+use Prim.Native.Nat.{ℕ, zero, suc, _+_, _*_, _≤_, _<_, _^_}
 use native.Mathlib.Omega.{arith}
 use mathlib.Core.Path.{_≡_, subst, subst₂, refl, sym, ap, ap₂, _∙_}
-use mathlib.Core.Bool.{true}
+use mathlib.Core.Bool.{true, false}
 use mathlib.Core.List.{List, IsPrefix, _++_, List·Memᴰ}
+use mathlib.Core.Logic.{inl, inr}
 use Rattle.rules.specs.Limits.{Size}
-use Rattle.rules.specs.Messages.{propose, vote, Effect, toAll}
+use Rattle.rules.specs.Messages.{Message, propose, vote, write, Effect, toAll, toOne}
 use Rattle.rules.specs.Words.{State, inView}
 use Rattle.rules.specs.Inputs.{reports}
-use Rattle.rules.specs.Refusals.{running}
-use Rattle.agreement.specs.Schedule.{Event, commonTick, until, HasRoom, Run, at, out, Says, Sound, RoomTo, RunsTo, Premises, Schedule, Linked, lineage, reportsIn, OneBegins}
+use Rattle.rules.specs.Refusals.{running, ahead}
+use Rattle.agreement.specs.Schedule.{Event, commonTick, given, until, HasRoom, Run, at, out, Says, Speaks, Sound, RoomTo, RunsTo, Premises, Schedule, Linked, lineage, reportsIn, OneBegins}
 use Rattle.agreement.proofs.Alike.{premises-alike}
 use Rattle.agreement.proofs.Until.{until-before, schedule-until}
 use Rattle.store.specs.Decode.{names, stateOf}
 use Rattle.store.specs.Fresh.{freshly}
 use Rattle.promises.specs.Heard.{heard}
 use Rattle.promises.specs.Run.{calls, written, storeAt, saidAt, wroteBy, callsRun, Lends}
-use Rattle.promises.proofs.Promises.{same-states, same-words, to-calls, stores-run, stores-agree, stores-linked, stores-reported, store-commits}
+use Rattle.promises.proofs.Promises.{same-states, same-words, to-calls, stores-run, stores-agree, stores-linked, stores-reported, store-commits, store-takes}
 
 module _ (size : Size) (n D : ℕ) (event : ℕ → Event) (room : ℕ → List ℕ) (lent : ℕ → ℕ → List ℕ) (K : ℕ) where
   abbrev E : ℕ → Event
@@ -56,7 +57,7 @@ module _ (size : Size) (n D : ℕ) (event : ℕ → Event) (room : ℕ → List 
         (schedule-until size n D event K faulty heightOf parentOf (premises-alike C (at size n D event) (out size n D event) faulty heightOf parentOf states words P)
         (λ i ok k l. subst HasRoom (states i ok k) (space i ok k l)))
 
-    -- ---- A, B and C up to K
+    -- ---- A, B, C and D up to K
 
     module _ (X : Schedule (callsRun size n D E room lent) faulty heightOf parentOf) where
       abbrev holds : ℕ → ℕ → State
@@ -64,6 +65,9 @@ module _ (size : Size) (n D : ℕ) (event : ℕ → Event) (room : ℕ → List 
 
       abbrev log : ℕ → ℕ → List ℕ
       log i k = names (storeAt size n D event room lent i k)
+
+      spoken : (i k : ℕ) (e : Effect) → k < K → Says C i k e → Says (callsRun size n D E room lent) i k e
+      spoken i k e l = subst (λ (o : List ℕ). List·Memᴰ e (heard o)) (sym (said-until i k l))
 
       pub stores-run-until : RunsTo C faulty K
       stores-run-until i ok k l =
@@ -92,8 +96,20 @@ module _ (size : Size) (n D : ℕ) (event : ℕ → Event) (room : ℕ → List 
       store-commits-until r ok j v h b p m a s w k before l e d ph vw =
           let here = ap stateOf (store-until r k (omega arith)) in
           let then = ap stateOf (store-until r (suc j) (omega arith)) in
-          let spoken : (x : Effect) → Says C r j x → Says (callsRun size n D E room lent) r j x =
-          λ x. subst (λ (o : List ℕ). List·Memᴰ x (heard o)) (sym (said-until r j (omega arith))) in
           subst (λ (x : List ℕ). IsPrefix (lineage parentOf h b) (names x)) (store-until r (suc k) l)
-          (store-commits size n D E room lent faulty lends-until heightOf parentOf X r ok j v h b p m a (spoken _ s) (spoken _ w) k (until-before K event k l ∙ e)
+          (store-commits size n D E room lent faulty lends-until heightOf parentOf X r ok j v h b p m a (spoken r j _ (omega arith) s) (spoken r j _ (omega arith) w) k (until-before K event k l ∙ e)
           (ap (λ (x : State). x .clock) here ∙ d ∙ ap (λ (x : State). x .clock + 2 * D) (sym then)) (ap (λ (x : State). x .phase) here ∙ ph) (ap (λ (x : State). x .view) here ∙ vw))
+
+      pub store-takes-until : (i j : ℕ) → Sound C faulty i → Sound C faulty j → (l k : ℕ) (m : Message) → Speaks C i l m → l < k → k < K
+          → (ahead m (holds j k) ≡ false) × (event k ≡ given j (write m) → calls j (event k) (storeAt size n D event room lent j k) (lent j k) .result < 2 ^ 32)
+      store-takes-until i j hi hj l k m s o u =
+          let here = store-until j k (omega arith) in
+          let now = until-before K event k u in
+          let (a, b) = store-takes size n D E room lent faulty lends-until heightOf parentOf X i j hi hj l k m (told s) o in (
+            subst (λ (x : List ℕ). ahead m (stateOf x) ≡ false) here a,
+            λ e. subst₂ (λ (y : Event) (x : List ℕ). calls j y x (lent j k) .result < 2 ^ 32) now here (b (now ∙ e)),
+          )
+        where
+          told : Speaks C i l m → Speaks (callsRun size n D E room lent) i l m
+          told (inl x) = inl (spoken i l (toAll m) (omega arith) x)
+          told (inr (t, x)) = inr (t, spoken i l (toOne t m) (omega arith) x)

@@ -10,7 +10,7 @@ use Rattle.rules.specs.Limits.{lastClock}
 use Rattle.rules.specs.Messages.{Message, read, allowed}
 use Rattle.rules.specs.Words.{split, clock, State}
 use Rattle.rules.specs.Inputs.{Work, handled, offered, ticked}
-use Rattle.rules.specs.Refusals.{Outcome, refused, stopping, ifRoom, running, step, offer, tick}
+use Rattle.rules.specs.Refusals.{Outcome, refused, stopping, ifRoom, running, ahead, step, offer, tick}
 use Rattle.rules.proofs.Tests.{by-bool, by-option}
 
 module _ {ℓ} (P : Outcome → Type ℓ) (s : State) (unchanged : (k : ℕ) → P (refused k s)) where
@@ -20,7 +20,9 @@ module _ {ℓ} (P : Outcome → Type ℓ) (s : State) (unchanged : (k : ℕ) →
       by-bool (running s)
       (λ r.
       by-option (read bs) (λ q. rw (r, q, step) (unchanged 4)) λ m q.
-      by-bool (allowed (s .settings) m) (λ a. rw (r, q, a, step) (f m q a)) (λ a. rw (r, q, a, step) (unchanged 5)))
+      by-bool (allowed (s .settings) m)
+      (λ a. by-bool (ahead m s) (λ w. rw (r, q, a, w, step) (unchanged 11)) (λ w. rw (r, q, a, w, step) (f m q a)))
+      (λ a. rw (r, q, a, step) (unchanged 5)))
       (λ r. rw (r, step) (unchanged 3))
 
   pub by-offer : (b : ℕ) → ((m : Message) → offered b s ≡ some m → P (ifRoom s (handled m s))) → P (offer b s)

@@ -14,7 +14,7 @@ use Rattle.rules.specs.Sizes.{Settings, leader, only, bit, quorum}
 use Rattle.rules.specs.Messages.{Message, newView, propose, vote, blame, blameSet, status, read, allowed, Effect, toAll, toOne, committed}
 use Rattle.rules.specs.Words.{Statement, message, sameStatement, conflict, Certificate, Tally, certificateOf, opened, ownBlock, joinCertificate, voters, State}
 use Rattle.rules.specs.Inputs.{saying, _▸_, withPhase, withTables, withBlames, withLog, entering, isIn, quit, belowLock, votedFor, ballot, voting, certificateJoined, stored, statement, tallied, blamesOf, blamed, blameFull, blaming, handled, reports, report, current, inOrder, votingAll}
-use Rattle.rules.specs.Refusals.{done, refused, stopping, hasRoom, ifRoom, running, step}
+use Rattle.rules.specs.Refusals.{done, refused, stopping, hasRoom, ifRoom, running, ahead, step}
 use Rattle.rules.proofs.Tests.{by-bool, by-option, no-bool}
 use Rattle.rules.proofs.Truths.{and-2}
 use Rattle.rules.proofs.Searches.{All, all-append, all-map, to-all, mem-keep, first-mem}
@@ -115,12 +115,12 @@ handled-held (blameSet v m) s w l =
     blaming-held (s .settings) v m s (omega arith) (mask-parts (s .settings) m (r .1) .1)
 handled-held (status h b c m) s w l = tt
 
--- who is left running by a message that can be read and is allowed took it: the answer is 0
-pub step-taken : (bs : List ℕ) (m : Message) (s : State) → running s ≡ true → read bs ≡ some m → allowed (s .settings) m ≡ true
+-- who is left running by a message that can be read, is allowed and not too far ahead took it: the answer is 0
+pub step-taken : (bs : List ℕ) (m : Message) (s : State) → running s ≡ true → read bs ≡ some m → allowed (s .settings) m ≡ true → ahead m s ≡ false
     → running (step bs s .next) ≡ true → step bs s .number ≡ 0
 unfolding step ifRoom running done
-step-taken bs m s r q a =
-    rw (r, q, a, step) (by-bool (hasRoom (handled m s .now)) (λ k. rw (k, ifRoom) (λ _. refl)) (λ k. rw (k, ifRoom) (λ e. no-bool (sym e))))
+step-taken bs m s r q a w =
+    rw (r, q, a, w, step) (by-bool (hasRoom (handled m s .now)) (λ k. rw (k, ifRoom) (λ _. refl)) (λ k. rw (k, ifRoom) (λ e. no-bool (sym e))))
 
 -- what was taken is held
 pub step-held : (bs : List ℕ) (m : Message) (s : State) → read bs ≡ some m → length (s .blames) ≡ suc (lastView (s .settings .size))
@@ -131,8 +131,9 @@ step-held bs m s q l =
     (λ r.
     by-bool (allowed (s .settings) m)
     (λ a.
-    by-bool (hasRoom (handled m s .now)) (λ k. rw (r, q, a, step, k, ifRoom) (λ _. handled-held m s a l))
-    (λ k. rw (r, q, a, step, k, ifRoom) (λ e. absurd (omega arith))))
+    by-bool (ahead m s) (λ w. rw (r, q, a, w, step) (λ e. absurd (omega arith))) λ w.
+    by-bool (hasRoom (handled m s .now)) (λ k. rw (r, q, a, w, step, k, ifRoom) (λ _. handled-held m s a l))
+    (λ k. rw (r, q, a, w, step, k, ifRoom) (λ e. absurd (omega arith))))
     (λ a. rw (r, q, a, step) (λ e. absurd (omega arith))))
     (λ r. rw (r, step) (λ e. absurd (omega arith)))
 

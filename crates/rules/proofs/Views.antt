@@ -1,32 +1,23 @@
--- The view of a message, and that what a station says is of no later view than the one that it then holds or last quit. Assumes nothing.
+-- What a station says is of no later view than the one that it then holds or last quit. Assumes nothing.
 use mathlib.Core.Path.{_≡_, refl, sym, _∙_}
 use Prim.Native.Nat.{ℕ, _+_, _≤_}
 use native.Mathlib.Omega.{arith}
 use mathlib.Core.Bool.{true, false}
 use mathlib.Core.List.{List, [], _∷_, List·Memᴰ}
-use mathlib.Core.Option.{some}
 use lib.Dec.{ltb, eqb}
 use borrow.Author.Tests.{eqb-true, ltb-true}
 use Rattle.rules.specs.Lists.{keep}
 use Rattle.rules.specs.Sizes.{leader}
-use Rattle.rules.specs.Messages.{Message, newView, propose, vote, blame, blameSet, status, Effect, toAll, toOne, committed}
+use Rattle.rules.specs.Messages.{Message, viewOf, Effect, toAll, toOne, committed}
 use Rattle.rules.specs.Words.{Statement, message, conflict, State}
 use Rattle.rules.specs.Inputs.{saying, _▸_, withPhase, withTables, withBlames, withLog, entering, isIn, belowLock, votedFor, ballot, stored, blamed, blameFull, report, current, inOrder, votingAll}
-use Rattle.rules.proofs.Tests.{by-bool, no-bool}
+use Rattle.rules.specs.Refusals.{ahead}
+use Rattle.rules.proofs.Tests.{by-bool}
 use Rattle.rules.proofs.Truths.{and-2}
 use Rattle.rules.proofs.Searches.{first-any, All, all-append, all-map, to-all, mem-keep}
 use Rattle.rules.proofs.Statements.{conflict-view, pair-some, mem-order}
 use Rattle.rules.proofs.Moves.{Outside, arrived, Move, joins, stores, passes, casts, clashes, accuses, fills, complains, entersFull, entersPair, enters, Moves, here, more, voting-low, voting-high}
 use Rattle.rules.proofs.Kept.{in-true, move-kept, votingAll-fixed}
-
--- the view that a message is of, its field 02; a status has none
-unfoldable pub viewOf : Message → ℕ
-viewOf (newView v h b c m a) = v
-viewOf (propose v h b p m a) = v
-viewOf (vote v h b a) = v
-viewOf (blame v a) = v
-viewOf (blameSet v m) = v
-viewOf (status h b c m) = 0
 
 -- a message to all or to one is of view v or earlier
 abbrev pub ViewSaid : ℕ → Effect → Type 0
@@ -96,3 +87,8 @@ moves-views s t o (more {t = u} {o = p} {p = q} a b) =
     all-append (ViewSaid (t .view)) p q
     (all-map (ViewSaid (u .view)) (ViewSaid (t .view)) (said-later (u .view) (t .view) (move-kept u t q b .view)) p (moves-views s u p a))
     (move-views u t q b)
+
+-- what is at most one view ahead is not refused as too far ahead
+pub not-ahead : (m : Message) (s : State) → viewOf m ≤ s .view + 1 → ahead m s ≡ false
+unfolding ahead
+not-ahead m s l = by-bool (ltb (s .view + 1) (viewOf m)) (λ q. let h = ltb-true (s .view + 1) (viewOf m) q in absurd (omega arith)) (λ q. q)

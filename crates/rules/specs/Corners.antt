@@ -3,7 +3,7 @@ use Prim.Native.Nat.{ℕ, zero, suc, _+_, _-_, _*_, _^_}
 use mathlib.Core.Bool.{Bool, true, false, not, _&&_}
 use mathlib.Core.List.{List, [], _∷_, _++_}
 use mathlib.Core.Option.{Option, none, some}
-use lib.ListN.{length, replicate}
+use lib.ListN.{length, getD, replicate}
 use lib.Dec.{eqb}
 use Rattle.rules.specs.Limits.{lastClock, small, large, mostStatements, mostTallies}
 use Rattle.rules.specs.Lists.{unbe, all}
@@ -13,12 +13,12 @@ use Rattle.rules.specs.Words.{Statement, conflict, Tally, certificateOf,
 use Rattle.rules.specs.Inputs.{withPhase, withClock, withTables, withBlames, withLog, entering}
 use Rattle.rules.specs.Refusals.{Outcome, step, tick, result}
 use Rattle.rules.specs.WellFormed.{wellFormed}
-use Rattle.rules.specs.Script.{Line, _⇒_, idle, holds, ticks, hears, hearsBytes, isOffered, bytes, says, refuses, sameList, goes, good, group, station, block, other, child}
+use Rattle.rules.specs.Script.{Line, Expected, _⇒_, idle, holds, ticks, hears, hearsBytes, isOffered, bytes, says, refuses, sameList, goes, good, group, station, block, other, child}
 
 -- ---- sizes of a group
 
 sizes : List Bool
-unfolding good goes fresh
+unfolding good goes fresh entering
 sizes =
     good 3 1 2 ∷ not (good 3 1 3) ∷ not (good 1 1 0) ∷ not (good 17 1 0) ∷ good 5 10000 0
     -- with five stations three voters make a quorum, and view 7 is station 2's
@@ -26,7 +26,7 @@ sizes =
     ∷ []
   where
     five : List Line → Bool
-    five ls = goes (fresh (record { n = 5; D = 1; own = 0; size = small })) ls
+    five ls = goes (entering 6 genesis (fresh (record { n = 5; D = 1; own = 0; size = small }))) ls
 
 -- ---- messages on the wire
 
@@ -246,14 +246,14 @@ many zero = []
 many (suc k) = hears (propose 2 (suc k) (suc k) k 3 2) ⇒ bytes 0 ∷ many k
 
 refusals : List Bool
-unfolding goes fresh group withClock withTables withPhase tallied many result step tick write block
+unfolding goes fresh group entering withClock withTables withPhase tallied many result step tick write block
 refusals =
     -- "the 129th new statement: 6. A repeat of the first at 128: 0"
     goes (fresh (group 0)) (many (mostStatements small) ++ hears (propose 2 128 128 127 3 2) ⇒ bytes 0
     ∷ holds (λ s. eqb (length (s .statements)) (mostStatements small) && eqb (length (s .tallies)) 129)
     ∷ hears (propose 2 129 129 128 3 2) ⇒ refuses 6 ∷ hears (propose 2 129 129 128 3 2) ⇒ refuses 3 ∷ [])
     -- with the large limits: views 256 and 257
-    ∷ goes (fresh (record { n = 3; D = 2; own = 0; size = large })) (hears (vote 257 1 77 0) ⇒ refuses 5 ∷ hears (vote 256 1 77 0) ⇒ bytes 0 ∷ [])
+    ∷ goes (entering 255 genesis (fresh (record { n = 3; D = 2; own = 0; size = large }))) (hears (vote 257 1 77 0) ⇒ refuses 5 ∷ hears (vote 256 1 77 0) ⇒ bytes 0 ∷ [])
     -- the last free tally, and none
     ∷ goes (withTables [] (tallied (mostTallies small - 1)) (fresh (group 0))) (hears (vote 1 2 9 0) ⇒ bytes 0 ∷ hears (vote 1 2 9 1) ⇒ bytes 0 ∷ hears (vote 1 3 8 0) ⇒ refuses 6 ∷ ticks ⇒ refuses 3 ∷ [])
     -- a statement that would make the station quit needs its records all the same
@@ -262,6 +262,39 @@ refusals =
     ∷ goes (withClock (lastClock - 1) (fresh (group 2))) (ticks ⇒ bytes 18 ∷ ticks ⇒ refuses 8 ∷ holds (λ s. eqb (s .clock) lastClock) ∷ ticks ⇒ refuses 3 ∷ [])
     -- the host's number
     ∷ eqb (result (step [] (fresh (group 0)))) (4 * 4294967296) ∷ eqb (result (step (write block) (fresh (group 0)))) 160
+    ∷ []
+
+-- ---- too far ahead
+
+-- one of each kind that has a field 02, of a view that station 0 leads
+bearing : ℕ → List Message
+bearing v = newView v 0 0 0 0 0 ∷ propose v 1 77 0 3 0 ∷ vote v 1 77 1 ∷ blame v 1 ∷ blameSet v 3 ∷ []
+
+-- each is answered so, one after the other
+each : List Message → Expected → List Line
+each [] e = []
+each (m ∷ ms) e = hears m ⇒ e ∷ each ms e
+
+untouched : State → Bool
+untouched s = eqb (length (s .statements)) 0 && eqb (length (s .tallies)) 0 && eqb (getD (s .blames) 3 0) 0
+
+early : List Bool
+unfolding goes fresh group entering station withTables withPhase tallied bearing each untouched
+early =
+    -- two views ahead: every kind that has a view, and nothing changes; three ahead; the last view
+    goes (fresh (group 0)) (each (bearing 3) (refuses 11) ++ holds (λ s. untouched s && eqb (s .view) 1) ∷ hears (blame 4 1) ⇒ refuses 11 ∷ hears (blame 32 1) ⇒ refuses 11 ∷ [])
+    -- one view ahead: every kind is taken
+    ∷ goes (entering 2 genesis (fresh (group 0))) (each (bearing 3) (bytes 0) ++ holds (λ s. eqb (length (s .statements)) 2 && eqb (getD (s .blames) 3 0) 3) ∷ [])
+    -- a status has no view, whatever that of its certificate
+    ∷ station 0 (hears (status 5 99 32 3) ⇒ bytes 0 ∷ holds (λ s. eqb (length (s .tallies)) 1) ∷ [])
+    -- while it waits, the view last quit counts, until the next one is entered
+    ∷ station 0 (hears (blameSet 1 3) ⇒ bytes 19 ∷ hears (blame 3 1) ⇒ refuses 11 ∷ hears (blame 2 1) ⇒ bytes 0 ∷ idle 2 ∷ hears (blame 3 1) ⇒ refuses 11
+    ∷ ticks ⇒ bytes 62 ∷ hears (blame 3 1) ⇒ bytes 0 ∷ hears (blame 4 1) ⇒ refuses 11 ∷ [])
+    -- after 3, 4 and 5
+    ∷ goes (withPhase (stopped full) (fresh (group 0))) (hears (blame 3 1) ⇒ refuses 3 ∷ [])
+    ∷ station 0 (hearsBytes (unbe 15 0x01000107020004000000030800010E) ⇒ refuses 4 ∷ hears (blame 3 3) ⇒ refuses 5 ∷ hears (blame 33 1) ⇒ refuses 5 ∷ hears (propose 3 1 77 0 1 0) ⇒ refuses 5 ∷ [])
+    -- and before 6: the station goes on
+    ∷ goes (withTables [] (tallied (mostTallies small)) (fresh (group 0))) (hears (vote 3 2 9 0) ⇒ refuses 11 ∷ hears (vote 2 2 9 0) ⇒ refuses 6 ∷ [])
     ∷ []
 
 -- ---- well formed
@@ -350,5 +383,5 @@ formed =
     above p = tables (lower ∷ said false 1 2 79 p 1 none ∷ []) (tally 1 2 79 0 ∷ tally 1 1 70 0 ∷ counted) (77 ∷ 79 ∷ [])
 
 unfoldable pub corners : List Bool
-unfolding sizes wire unreadable judged conflicts stated offers commits leading entries refusals formed
-corners = sizes ++ wire ++ unreadable ++ judged ++ conflicts ++ stated ++ offers ++ commits ++ leading ++ entries ++ refusals ++ formed
+unfolding sizes wire unreadable judged conflicts stated offers commits leading entries refusals early formed
+corners = sizes ++ wire ++ unreadable ++ judged ++ conflicts ++ stated ++ offers ++ commits ++ leading ++ entries ++ refusals ++ early ++ formed

@@ -69,6 +69,15 @@ values (blame v a) = v ∷ a ∷ []
 values (blameSet v m) = v ∷ m ∷ []
 values (status h b c m) = h ∷ b ∷ c ∷ m ∷ []
 
+-- the view that a message is of, its field 02; a status has none
+unfoldable pub viewOf : Message → ℕ
+viewOf (newView v h b c m a) = v
+viewOf (propose v h b p m a) = v
+viewOf (vote v h b a) = v
+viewOf (blame v a) = v
+viewOf (blameSet v m) = v
+viewOf (status h b c m) = 0
+
 unfoldable pub writes : List ℕ → List ℕ → List ℕ
 unfolding field width unbe
 writes [] vs = []

@@ -1,12 +1,12 @@
--- 01, 'When the desk says no': what a call answers, in its order, and what it leaves. Assumes nothing.
+-- 01, 'When the desk says no', with the number of 02's request 9: what a call answers, in its order, and what it leaves. Assumes nothing.
 use Prim.Native.Nat.{ℕ, _+_, _*_, _^_}
 use mathlib.Core.Bool.{Bool, true, false, _&&_}
 use mathlib.Core.List.{List, []}
 use mathlib.Core.Option.{Option, none, some}
 use lib.ListN.{length}
-use lib.Dec.{leb, eqb}
+use lib.Dec.{leb, ltb, eqb}
 use Rattle.rules.specs.Limits.{mostStatements, mostTallies, lastClock}
-use Rattle.rules.specs.Messages.{Message, read, allowed, Effect, outgoing}
+use Rattle.rules.specs.Messages.{Message, viewOf, read, allowed, Effect, outgoing}
 use Rattle.rules.specs.Words.{Cause, full, split, clock, inView, waiting, stopped, State}
 use Rattle.rules.specs.Inputs.{Work, withPhase, handled, offered, ticked}
 
@@ -42,16 +42,25 @@ ifRoom s w = elim (hasRoom (w .now)) [ true ↦ done w | false ↦ stopping 6 fu
 unfoldable pub running : State → Bool
 running s = elim (s .phase) [ inView ↦ true | waiting q ↦ true | stopped c ↦ false ]
 
--- a message: 3, then 4, "unreadable message", 5, "message not allowed", and 6
+-- 11, "more than one view ahead of the view held or last quit"
+unfoldable pub ahead : Message → State → Bool
+unfolding viewOf
+ahead m s = ltb (s .view + 1) (viewOf m)
+
+-- a message: 3, then 4, "unreadable message", 5, "message not allowed", "right after 5" 11, and 6
 unfoldable pub step : List ℕ → State → Outcome
-unfolding running refused read allowed ifRoom handled
+unfolding running refused read allowed ahead ifRoom handled
 step bs s =
     elim (running s) [
       | false ↦ refused 3 s
       | true ↦
           elim (read bs) [
             | none ↦ refused 4 s
-            | some m ↦ elim (allowed (s .settings) m) [ false ↦ refused 5 s | true ↦ ifRoom s (handled m s) ]
+            | some m ↦
+                elim (allowed (s .settings) m) [
+                  | false ↦ refused 5 s
+                  | true ↦ elim (ahead m s) [ true ↦ refused 11 s | false ↦ ifRoom s (handled m s) ]
+                ]
           ]
     ]
 

@@ -28,7 +28,7 @@ pub fn start(page: &mut Page, at: usize, line: u64, what: &[u8]) -> usize {
     page::say(page, marked, what)
 }
 
-// The reasons of refusals, in 01's words.
+// The reasons of refusals, in the words of 01 and 02; of a number that is none of theirs nothing is said.
 pub fn reason(page: &mut Page, at: usize, refusal: u64) -> usize {
     match refusal {
         1 => page::say(
@@ -49,6 +49,11 @@ pub fn reason(page: &mut Page, at: usize, refusal: u64) -> usize {
         8 => page::say(page, at, b" tick at clock 4,000,000,000\n"),
         9 => page::say(page, at, b" offer not to be taken\n"),
         10 => page::say(page, at, b" bad settings for a fresh store\n"),
+        11 => page::say(
+            page,
+            at,
+            b" more than one view ahead of the view held or last quit\n",
+        ),
         _ => page::say(page, at, b"\n"),
     }
 }

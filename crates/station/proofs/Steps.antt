@@ -1,23 +1,25 @@
--- A message, in 01's order: unreadable, not allowed, handled by its kind. Assumes nothing.
-use Prim.Native.Nat.{ℕ, suc, _*_, _^_, _≤_, _<_}
+-- A message, in 01's order with 02's number: unreadable, not allowed, too far ahead, handled by its kind. Assumes nothing.
+use Prim.Native.Nat.{ℕ, suc, _+_, _*_, _^_, _≤_, _<_}
 use mathlib.Core.Path.{_≡_, refl, sym, ap, _∙_}
 use mathlib.Core.Bool.{Bool, true, false, not}
 use mathlib.Core.List.{List, [], _∷_}
 use mathlib.Core.Option.{none, some}
 use native.Mathlib.Omega.{arith}
 use lib.ListN.{length}
+use lib.Dec.{ltb}
 use lib.Pow.{pow-lt}
 use borrow.Author.Tests.{not-true, not-false}
 use Rattle.rules.specs.Limits.{mostStations}
 use Rattle.rules.specs.Sizes as sizes
 use Rattle.rules.specs.Sizes.{only}
 use Rattle.rules.specs.Messages as messages
-use Rattle.rules.specs.Messages.{read, viewAllowed, allowed}
+use Rattle.rules.specs.Messages.{viewOf, read, viewAllowed, allowed}
 use Rattle.rules.specs.Words.{State}
 use Rattle.rules.specs.Inputs.{statement, tallied, blaming, handled}
-use Rattle.rules.specs.Refusals.{refused, ifRoom, running, step}
+use Rattle.rules.specs.Refusals.{refused, ifRoom, running, ahead, step}
 use Rattle.rules.proofs.Bytes as rules
 use Rattle.rules.proofs.Bounds.{out-least}
+use Rattle.rules.proofs.Views.{view-message}
 use Rattle.rules.proofs.Allowed.{only-lt, mask-parts, allowed-rights}
 use Rattle.fields.specs.Places.{Bytes}
 use Rattle.fields.specs.Names.{nameOf}
@@ -39,7 +41,7 @@ use Rattle.store.specs.Layout.{sizeIn}
 use Rattle.store.specs.Decode.{stateOf}
 use Rattle.store.specs.Meaning.{Loads}
 use Rattle.store.specs.declared.Station.{Station}
-use Rattle.store.proofs.Loaded.{loaded-settings}
+use Rattle.store.proofs.Loaded.{loaded-settings, loaded-view}
 use Rattle.calls.specs.Calls.{stepCalled, Gives}
 use Rattle.acts.specs.Works.{Formed}
 use Rattle.acts.proofs.Works.{formed-parts}
@@ -65,9 +67,14 @@ module _ (bs : List ℕ) (s : State) where
       unfolding step
       step-forbidden a = rw (r, q, step, a)
 
-      step-handled : allowed (s .settings) m ≡ true → ifRoom s (handled m s) ≡ step bs s
-      unfolding step
-      step-handled a = rw (r, q, step, a)
+      module _ (a : allowed (s .settings) m ≡ true) where
+        step-ahead : ahead m s ≡ true → refused 11 s ≡ step bs s
+        unfolding step
+        step-ahead w = rw (r, q, step, a, w)
+
+        step-handled : ahead m s ≡ false → ifRoom s (handled m s) ≡ step bs s
+        unfolding step
+        step-handled w = rw (r, q, step, a, w)
 
 -- bytes by their places are bytes one by one
 bytes-all : (bs : List ℕ) → Bytes bs → rules.Bytes bs
@@ -79,6 +86,28 @@ bytes-all (x ∷ bs) h = rules.one (h 0 .fits) (bytes-all bs (λ i. h (suc i)))
 pub voter-small : (a : ℕ) → a < mostStations → only a < 2 ^ mostStations
 unfolding only
 voter-small a h = pow-lt h
+
+-- the view of each kind
+module _ {m : Message} where
+  pub stated-view : {x : code.Statement} → m ≡ Stated x → x .view ≡ viewOf (messageOf m)
+  unfolding messageOf statementOf
+  stated-view {x} e = sym (view-message (statementOf x none)) ∙ ap (λ (y : Message). viewOf (messageOf y)) (sym e)
+
+  pub vote-view : {v h a : ℕ} {b : Name} → m ≡ Vote v h b a → v ≡ viewOf (messageOf m)
+  unfolding messageOf viewOf
+  vote-view e = rw e
+
+  pub blame-view : {v a : ℕ} → m ≡ Blame v a → v ≡ viewOf (messageOf m)
+  unfolding messageOf viewOf
+  blame-view e = rw e
+
+  pub set-view : {v k : ℕ} → m ≡ BlameSet v k → v ≡ viewOf (messageOf m)
+  unfolding messageOf viewOf
+  set-view e = rw e
+
+  pub status-view : {h c k : ℕ} {b : Name} → m ≡ Status h b c k → 0 ≡ viewOf (messageOf m)
+  unfolding messageOf viewOf
+  status-view e = rw e
 
 module _ (s : State) {m : Message} where
   pub stated-handled : {x : code.Statement} → m ≡ Stated x → ifRoom s (statement (statementOf x none) s) ≡ ifRoom s (handled (messageOf m) s)
@@ -171,5 +200,14 @@ module _ (bs b o : List ℕ) (h : Bytes b) {n : ℕ} (e : n ≡ barred b o) wher
           pub read-may : Bytes bs → Sendable (stateOf b .settings) (messageOf m)
           read-may k = read-sendable (stateOf b .settings) bs (messageOf m) (bytes-all bs k) was-read (is-allowed ∙ not-false y d)
 
-          pub handled-step : {b′ o′ : List ℕ} {r : ℕ} → Answers (ifRoom (stateOf b) (handled (messageOf m) (stateOf b))) o b′ o′ r → Gives (stepCalled bs b o) r b′ o′
-          handled-step k = step-gives (answers-is (step-handled bs (stateOf b) (opening .runs) (messageOf m) was-read (is-allowed ∙ not-false y d)) k)
+          module _ {x : Bool} (c : x ≡ ltb (s .view + 1) (viewOf (messageOf m))) where
+            is-ahead : ahead (messageOf m) (stateOf b) ≡ x
+            unfolding ahead
+            is-ahead = sym (c ∙ ap (λ (v : ℕ). ltb (v + 1) (viewOf (messageOf m))) (loaded-view s b l))
+
+            pub ahead-step : {r : ℕ} → x ≡ true → r ≡ 11 * 2 ^ 32 → Gives (stepCalled bs b o) r b o
+            ahead-step w t =
+                step-gives (answers-is (step-ahead bs (stateOf b) (opening .runs) (messageOf m) was-read (is-allowed ∙ not-false y d) (is-ahead ∙ w)) (refused-answers 11 (step-formed .form) t o))
+
+            pub handled-step : {b′ o′ : List ℕ} {r : ℕ} → x ≡ false → Answers (ifRoom (stateOf b) (handled (messageOf m) (stateOf b))) o b′ o′ r → Gives (stepCalled bs b o) r b′ o′
+            handled-step w k = step-gives (answers-is (step-handled bs (stateOf b) (opening .runs) (messageOf m) was-read (is-allowed ∙ not-false y d) (is-ahead ∙ w)) k)

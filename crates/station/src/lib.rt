@@ -4,9 +4,10 @@ ghost use mathlib.Core.Bool.{true};
 ghost use mathlib.Core.Option.{none};
 ghost use Prim.Native.Nat.{_+_, _*_, _^_, _≤_, _<_};
 ghost use lib.ListN.{length};
+ghost use lib.Dec.{ltb};
 ghost use Rattle.rules.specs.Limits.{mostStations, mostStatements, leastOut};
 ghost use Rattle.rules.specs.Sizes.{only};
-ghost use Rattle.rules.specs.Messages.{viewAllowed};
+ghost use Rattle.rules.specs.Messages.{viewOf, viewAllowed};
 ghost use Rattle.rules.specs.Words.{message as said};
 ghost use Rattle.rules.specs.Inputs as inputs;
 ghost use Rattle.rules.specs.Refusals.{stopping, hasRoom, ifRoom, running, tick};
@@ -68,6 +69,9 @@ pub extern "C" fn station_step(store: &mut [u8], message: &[u8], out: &mut [u8])
     if !allowed::message_allowed(station.settings, m) {
         return refuse(5);
     }
+    if is_ahead(station.view, m) {
+        return refuse(11);
+    }
     handled(store, out, m)
 }
 
@@ -108,6 +112,26 @@ fn is_running(store: &[u8]) -> bool
         Phase::Stopped(_) => false,
         _ => true,
     }
+}
+
+// The view that a message is of; a status has none.
+fn view_of(message: Message) -> u32
+    ensures { λ r. ⌜ r ≡ viewOf (messageOf message) ⌝ }
+{
+    match message {
+        Message::Stated(x) => x.view,
+        Message::Vote { view, .. } => view,
+        Message::Blame { view, .. } => view,
+        Message::BlameSet { view, .. } => view,
+        Message::Status { .. } => 0,
+    }
+}
+
+// Whether a message is more than one view ahead of a view.
+fn is_ahead(view: u32, message: Message) -> bool
+    ensures { λ r. ⌜ r ≡ ltb (view + 1) (viewOf (messageOf message)) ⌝ }
+{
+    (view as u64) + 1 < view_of(message) as u64
 }
 
 // What bars every call alike: 1 for the lengths, 2 for a store not well formed, 3 for a station that stopped; else 0.

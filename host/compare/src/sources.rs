@@ -149,6 +149,7 @@ pub fn limits(size: Size) -> Runs {
         ("an offer without a tally", of(1, [led(), open(0), offer(), ticks(1)])),
         ("an offer whose tally is there", of(1, [led(), votes(0..tallies - 1), offer(), ticks(6)])),
         ("every view", of(0, [views(size), ticks(30), past(size)])),
+        ("too early", of(2, [too_early()])),
     ]
 }
 
@@ -202,9 +203,34 @@ fn downwards(count: u32) -> Vec<Input> {
     (1..=count).rev().flat_map(|height| step(of_view(2, link(height)))).collect()
 }
 
-/// So many blocks of a view that is far off.
+/// So many blocks of the next view, before it is entered.
 fn ahead(count: u32) -> Vec<Input> {
-    (1..=count).flat_map(|height| step(of_view(20, link(height)))).collect()
+    (1..=count).flat_map(|height| step(of_view(2, link(height)))).collect()
+}
+
+/// Every kind of message of a view that station 0 of 3 leads.
+fn of_each_kind(view: u32) -> Vec<Input> {
+    let new_view = Message::NewView {
+        view,
+        height: 0,
+        name: GENESIS,
+        certificate_view: 0,
+        mask: 0,
+        author: 0,
+    };
+    let status = Message::Status { height: 1, name: name(1), certificate_view: view, mask: 0b011 };
+    let blame = Message::Blame { view, author: 1 };
+    let blames = Message::BlameSet { view, mask: 0b110 };
+    let messages =
+        [new_view, of_view(view, link(1)), vote(view, 1, name(1), 1), blame, blames, status];
+    messages.into_iter().flat_map(step).collect()
+}
+
+/// Views 3 and 6 seen from view 1, while it waits, and from view 2; and what is not allowed besides.
+fn too_early() -> Vec<Input> {
+    let bad = Message::Blame { view: 3, author: 3 };
+    let near = || [of_each_kind(3), of_each_kind(6), step(bad)].concat();
+    [near(), step(blame_set(0b110)), near(), ticks(3), near(), ticks(9)].concat()
 }
 
 fn vote(view: u32, height: u32, name: Name, author: u8) -> Message {
@@ -268,7 +294,7 @@ mod tests {
     use programs::Second;
 
     /// How often each number is answered in a run.
-    fn numbers(size: Size, inputs: &[Input]) -> [u64; 11] {
+    fn numbers(size: Size, inputs: &[Input]) -> [u64; 12] {
         let mut met = Met::default();
         assert_eq!(run::<Second>(size, Fixed::new(inputs), &mut met).1, None);
         met.numbers
@@ -282,7 +308,12 @@ mod tests {
                 let found = numbers(size, &inputs);
                 let stops = u64::from(title.contains("too many") || title.contains("without"));
                 assert_eq!((found[6], found[3] > 0), (stops, stops == 1), "{size:?}: {title}");
-                assert_eq!(found[5], 2 * u64::from(title == "every view"), "{size:?}: {title}");
+                let bad = match title {
+                    "every view" => (2, 0),
+                    "too early" => (3, 25),
+                    _ => (0, 0),
+                };
+                assert_eq!((found[5], found[11]), bad, "{size:?}: {title}");
             }
             for (title, inputs) in bench(size) {
                 let stops = u64::from(title == "one statement too many");

@@ -2,8 +2,8 @@
 
 use station::{Cause, Effect, Effects, GENESIS, Message, Name, Phase};
 
-/// The reasons of 01's "When the desk says no".
-const REASONS: [&str; 10] = [
+/// The reasons of 01's "When the desk says no", and of 02's number.
+const REASONS: [&str; 11] = [
     "store not of its exact length, offered name not 32 bytes, or out buffer too short",
     "store not well formed",
     "already stopped",
@@ -14,9 +14,10 @@ const REASONS: [&str; 10] = [
     "tick at clock 4,000,000,000",
     "offer not to be taken",
     "bad settings for a fresh store",
+    "more than one view ahead of the view held or last quit",
 ];
 
-/// What a refusal of 01 says.
+/// What a refusal of a station says.
 pub fn reason(refusal: u32) -> &'static str {
     REASONS[refusal as usize - 1]
 }

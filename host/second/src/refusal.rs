@@ -1,4 +1,4 @@
-//! "When the desk says no": the refusals with 01's numbers, and the causes of a stop.
+//! "When the desk says no": the refusals with the numbers of 01 and 02, and the causes of a stop.
 
 /// Why a call was refused. A station has no store or buffers of its host's, so that of 1 the
 /// offered name is left, and 2 can't be.
@@ -14,6 +14,7 @@ pub enum Refusal {
     Clock = 8,
     NotTaken = 9,
     Settings = 10,
+    Ahead = 11,
 }
 
 /// What stopped a station for good.

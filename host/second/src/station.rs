@@ -142,7 +142,7 @@ impl Station {
 
 /// Messages and offers.
 impl Station {
-    /// "Order: 1, 2, 3, then 4, 5, 6 for messages."
+    /// "Order: 1, 2, 3, then 4, 5, 6 for messages"; 11 "comes right after 5, before 12 and 6".
     fn receive(&mut self, message: &[u8], out: &mut Vec<u8>) -> Outcome {
         self.running()?;
         let Some(message) = Message::read(message) else {
@@ -150,6 +150,10 @@ impl Station {
         };
         if !message.is_allowed(&self.settings) {
             return Err(Refusal::NotAllowed);
+        }
+        // "more than one view ahead of the view held or last quit"
+        if message.view().is_some_and(|view| view > self.view + 1) {
+            return Err(Refusal::Ahead);
         }
         match message {
             Message::Statement { statement, .. } => self.state(statement, out),

@@ -161,6 +161,16 @@ impl Message {
         }
     }
 
+    /// The view of a "view-bearing message (one with a field 02)".
+    pub fn view(&self) -> Option<u32> {
+        match self {
+            Message::Statement { statement, .. } => Some(statement.block.view),
+            Message::Vote { block, .. } => Some(block.view),
+            Message::Blame { view, .. } | Message::BlameSet { view, .. } => Some(*view),
+            Message::Status { .. } => None,
+        }
+    }
+
     /// The table's "bytes".
     fn length(&self) -> usize {
         match self {

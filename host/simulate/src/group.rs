@@ -302,8 +302,23 @@ impl<P: Program> Group<P> {
     }
 }
 
-/// Whether a number is one that a sound station may answer to a call like this.
-pub fn is_expected(call: Call, number: u32) -> bool {
-    let refused = |refusal: Refusal| number == refusal.number();
-    number == 0 || matches!(call, Call::Offered(_)) && refused(Refusal::NotTaken)
+/// Whether a sound station may answer so: an offer may come at the wrong time, and a faulty station's
+/// message is too far ahead exactly when it is more than one view ahead of the receiver's.
+pub fn is_expected(plan: &Plan, deed: &Deed) -> bool {
+    let refused = |refusal: Refusal| deed.number == refusal.number();
+    match deed.call {
+        Call::Tick => refused_nothing(deed),
+        Call::Offered(_) => refused_nothing(deed) || refused(Refusal::NotTaken),
+        Call::Given(letter) => {
+            let is_ahead = letter.message.view().is_some_and(|view| view > deed.before.0 + 1);
+            match is_ahead {
+                true => !plan.is_sound(letter.from) && refused(Refusal::Ahead),
+                false => refused_nothing(deed),
+            }
+        }
+    }
+}
+
+fn refused_nothing(deed: &Deed) -> bool {
+    deed.number == 0
 }

@@ -117,7 +117,7 @@ fn one<P: Program>(asked: &Asked) -> Result<(), String> {
 fn many<P: Program>(size: Size, runs: u64, seed: u64) -> Result<(), String> {
     println!("seed {seed}");
     let mut random = Random::new(seed);
-    let (mut commits, mut quits, mut calls, mut full) = (0, 0, 0, 0);
+    let (mut commits, mut quits, mut ahead, mut calls, mut full) = (0, 0, 0, 0, 0);
     for run in 1..=runs {
         let (plan, ticks) = random_plan(size, &mut random);
         let shown = format!("{plan:?}");
@@ -129,10 +129,11 @@ fn many<P: Program>(size: Size, runs: u64, seed: u64) -> Result<(), String> {
         }
         commits += group.watch.commits;
         quits += group.watch.quits;
+        ahead += group.watch.ahead;
         calls += group.watch.calls;
     }
     println!(
-        "{} program, {runs} groups of size {size:?} ({full} until a store was full): {calls} calls, {quits} quits, {commits} commits by sound stations, demand 3 held",
+        "{} program, {runs} groups of size {size:?} ({full} until a store was full): {calls} calls, {quits} quits, {commits} commits and {ahead} refusals of messages too far ahead by sound stations, demand 3 held",
         P::TITLE
     );
     Ok(())

@@ -59,6 +59,8 @@ pub struct Watch {
     log: Vec<Name>,
     pub commits: u64,
     pub quits: u64,
+    /// Messages of faulty stations that were refused as too far ahead.
+    pub ahead: u64,
     pub calls: u64,
 }
 
@@ -74,6 +76,7 @@ impl Watch {
             log: Vec::new(),
             commits: 0,
             quits: 0,
+            ahead: 0,
             calls: 0,
         }
     }
@@ -112,6 +115,7 @@ impl Watch {
         self.calls += 1;
         self.quits += u64::from(deed.before.1 == Phase::InView && deed.after.1 != Phase::InView);
         self.answered(deed)?;
+        self.ahead += u64::from(deed.number == Refusal::Ahead.number());
         self.note_said(deed);
         let commits = deed.effects.iter().filter(|e| matches!(e, Effect::Committed { .. })).count();
         if commits > 0 {
@@ -121,11 +125,12 @@ impl Watch {
         Ok(())
     }
 
-    /// A sound station refuses nothing that comes within the premises.
+    /// A sound station refuses nothing that a sound one sent; of the faulty ones' messages, those that
+    /// are too far ahead.
     fn answered(&self, deed: &Deed) -> Result<(), Breach> {
         match deed.number {
             number if number == Refusal::Full.number() => Err(Breach::Full),
-            number if is_expected(deed.call, number) => Ok(()),
+            _ if is_expected(&self.plan, deed) => Ok(()),
             number => Err(Breach::Demand(format!(
                 "station {} answers {number} at {} to {:?}",
                 deed.station, deed.clock, deed.call

@@ -48,9 +48,12 @@ impl Wild<'_> {
         }
     }
 
-    /// The highest view, or one beside it.
+    /// The highest view, or one beside it; or one that is far ahead.
     fn near(&mut self) -> u32 {
-        let view = self.view + 1 - self.random.below(3).min(u64::from(self.view)) as u32;
+        let view = match self.random.below(12) {
+            0 => self.view + 2 + self.random.below(6) as u32,
+            _ => self.view + 1 - self.random.below(3).min(u64::from(self.view)) as u32,
+        };
         view.clamp(1, self.plan.size.views())
     }
 

@@ -26,6 +26,18 @@ fn groups_agree_with_any_leader() {
     }
 }
 
+/// Messages far ahead, which wild stations send, are refused; sound stations' never are, which every run
+/// looks for.
+#[test]
+fn only_faulty_messages_are_too_far_ahead() {
+    let runs = (0..6).map(|seed| {
+        let mut group = Group::<Proved>::new(plan(3, 2, &[Fault::Wild], Delays::Bounds, seed));
+        assert_eq!(group.run_to(100), Ok(()), "seed {seed}");
+        group.watch.ahead
+    });
+    assert!(runs.sum::<u64>() > 0);
+}
+
 /// The late leader's block is committed by one station alone in view 1, and by all after that.
 #[test]
 fn a_block_that_one_station_committed_stays() {

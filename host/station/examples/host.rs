@@ -154,9 +154,10 @@ impl Host {
     ) -> io::Result<Vec<Letter>> {
         let effects = match effects {
             Ok(effects) => effects,
-            // The offer is made again after the next input, and a bad message is dropped.
+            // The offer is made again after the next input. A bad message is dropped, and so is one that
+            // is too far ahead: no sound station sends such.
             Err(Failure::Refused(
-                Refusal::NotTaken | Refusal::Unreadable | Refusal::NotAllowed,
+                Refusal::NotTaken | Refusal::Unreadable | Refusal::NotAllowed | Refusal::Ahead,
             )) => return Ok(Vec::new()),
             // The station is stopped, or the journal can't be written: somebody has to look.
             Err(failure) => return Err(failure.into()),

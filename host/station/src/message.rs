@@ -141,6 +141,18 @@ impl Message {
         }
     }
 
+    /// The view of a message that has a field 02: of all kinds but a status.
+    pub fn view(&self) -> Option<u32> {
+        match *self {
+            Message::NewView { view, .. }
+            | Message::Propose { view, .. }
+            | Message::Vote { view, .. }
+            | Message::Blame { view, .. }
+            | Message::BlameSet { view, .. } => Some(view),
+            Message::Status { .. } => None,
+        }
+    }
+
     /// The station that says this message, of the kinds that have an author.
     pub fn author(&self) -> Option<u8> {
         match *self {

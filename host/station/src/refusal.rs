@@ -36,13 +36,15 @@ pub enum Refusal {
     NotTaken = 9,
     /// Bad settings for a fresh store.
     Settings = 10,
+    /// Message more than one view ahead of the view held or last quit.
+    Ahead = 11,
     /// No blank slot left in the journal, or a slot that replay can't read past.
     Journal = 13,
 }
 
 impl Refusal {
     /// Every refusal, in the order of the numbers.
-    pub const ALL: [Refusal; 11] = [
+    pub const ALL: [Refusal; 12] = [
         Refusal::Length,
         Refusal::Store,
         Refusal::Stopped,
@@ -53,6 +55,7 @@ impl Refusal {
         Refusal::Clock,
         Refusal::NotTaken,
         Refusal::Settings,
+        Refusal::Ahead,
         Refusal::Journal,
     ];
 
@@ -84,6 +87,7 @@ impl Refusal {
             Refusal::Clock => "the clock is at its end, and the station is now stopped",
             Refusal::NotTaken => "the offer is not to be taken now",
             Refusal::Settings => "the settings are bad",
+            Refusal::Ahead => "the message is more than one view ahead",
             Refusal::Journal => "the journal has no blank slot, or one that can't be read",
         }
     }
@@ -107,6 +111,9 @@ impl Refusal {
                 "offer it again after the next input while this station leads, else to the leader"
             }
             Refusal::Settings => "take an odd n of 3 to 15, D of 1 to 10,000, and own below n",
+            Refusal::Ahead => {
+                "keep it and hand it over again after the next view begins, or drop it; no sound station's message comes so early"
+            }
             Refusal::Journal => {
                 "make a full one longer; with a damaged one the station counts among the f faulty"
             }
@@ -140,12 +147,12 @@ mod tests {
 
     #[test]
     fn numbers_are_those_of_01_and_02() {
-        for (number, refusal) in (1..=10).chain([13]).zip(Refusal::ALL) {
+        for (number, refusal) in (1..=11).chain([13]).zip(Refusal::ALL) {
             assert_eq!(refusal.number(), number);
             assert_eq!(Refusal::from_number(number), Some(refusal));
             assert!(refusal.to_string().starts_with(&format!("refusal {number}: ")));
         }
-        for number in [0, 11, 12, 14] {
+        for number in [0, 12, 14] {
             assert_eq!(Refusal::from_number(number), None);
         }
     }

@@ -66,6 +66,8 @@ fn refusals_have_their_types() {
     assert_eq!(station.step(&[1, 2, 3]).err(), Some(Refusal::Unreadable));
     let blame = Message::Blame { view: Size::Small.views() + 1, author: 1 };
     assert_eq!(station.step(&blame.encode()).err(), Some(Refusal::NotAllowed));
+    let early = Message::Blame { view: 3, author: 1 };
+    assert_eq!(station.step(&early.encode()).err(), Some(Refusal::Ahead));
     assert_eq!(station.offer(&FIRST).err(), Some(Refusal::NotTaken));
     assert_eq!((station.stations(), station.delay(), station.own()), (3, 2, 2));
 }
@@ -99,7 +101,7 @@ fn views_end_where_the_size_says() {
     for size in Size::ALL {
         let mut station = Station::fresh(size, 3, 2, 2).unwrap();
         let blame = |view| Message::Blame { view, author: 1 }.encode();
-        assert_eq!(station.step(&blame(size.views())).unwrap().count(), 0);
+        assert_eq!(station.step(&blame(size.views())).err(), Some(Refusal::Ahead));
         assert_eq!(station.step(&blame(size.views() + 1)).err(), Some(Refusal::NotAllowed));
     }
 }

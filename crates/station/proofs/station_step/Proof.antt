@@ -1,7 +1,7 @@
--- `station_step` meets its contract, test by test in 01's order. Assumes nothing.
+-- `station_step` meets its contract, test by test in the order of 01 and 02. Assumes nothing.
 use native.Mathlib.Omega.{arith}
 use Rattle.station.proofs.Opening.{barred-small}
-use Rattle.station.proofs.Steps.{barred-step, step-formed, step-long, step-out, unreadable-step, forbidden-step, read-may, handled-step}
+use Rattle.station.proofs.Steps.{barred-step, step-formed, step-long, step-out, unreadable-step, forbidden-step, read-may, ahead-step, handled-step}
 use borrow.Author.Needs.{needs}
 use Rattle.station.proofs.station_step.Statement.{statement}
 use Rattle.station.proofs.station_step.Tie as tie
@@ -70,13 +70,11 @@ returns-3 c =
     let a = c .before .before .before .before .before .before .before .before .before .before .before .before .before .before .before .before .args in
     forbidden-step (a .message .now) (a .store .now) (a .out .now) (c .before .before .before .before .before .before .before .before .before .before .before .before .before .before .before .slice-known .given) (c .before .before .before .before .before .before .before .before .before .before .barred .ensures) (c .before .before .before .before .before .before .before .before .before .if1 .left) (c .before .before .before .before .before .before .before .before .read-message .ensures) (c .before .before .before .before .before .before .m .given .1) (c .before .before .before .load .result) (c .before .before .before .load .ensures) (c .before .before .message-allowed .ensures) (c .before .if2 .taken) (c .refuse3 .ensures)
 
-handled-requires : tie.Need-handled-requires
-handled-requires c κs =
-    let a = c .before .before .before .before .before .before .before .before .before .before .before .before .before .before .before .before .before .args in
-    let k = c .before .before .before .before .before .before .before .before .before .before .before .before .before .before .before .before .slice-known .given in
-    let e = c .before .before .before .before .before .before .before .before .before .before .before .barred .ensures in
-    let z = c .before .before .before .before .before .before .before .before .before .before .if1 .left in
-    (step-formed (a .message .now) (a .store .now) (a .out .now) k e z, read-may (a .message .now) (a .store .now) (a .out .now) k e z (c .before .before .before .before .before .before .before .before .before .read-message .ensures) (c .before .before .before .before .before .before .before .m .given .1) (c .before .before .before .before .load .result) (c .before .before .before .before .load .ensures) (c .before .before .before .message-allowed .ensures) (c .before .before .if2 .left) (c .before .before .before .before .before .before .before .before .before .before .before .before .before .before .before .shared-slice-known .given), step-out (a .message .now) (a .store .now) (a .out .now) k e z)
+is-ahead-requires : tie.Need-is-ahead-requires
+is-ahead-requires c κs = search needs
+
+refuse-requires-4 : tie.Need-refuse-requires-4
+refuse-requires-4 c κs = search needs
 
 same-length-7 : tie.Need-same-length-7
 same-length-7 c = search needs
@@ -86,8 +84,27 @@ same-length-8 c = search needs
 
 returns-4 : tie.Need-returns-4
 returns-4 c =
-    let a = c .before .before .before .before .before .before .before .before .before .before .before .before .before .before .before .before .before .before .before .before .before .before .args in
-    handled-step (a .message .now) (a .store .now) (a .out .now) (c .before .before .before .before .before .before .before .before .before .before .before .before .before .before .before .before .before .before .before .before .before .slice-known .given) (c .before .before .before .before .before .before .before .before .before .before .before .before .before .before .before .before .barred .ensures) (c .before .before .before .before .before .before .before .before .before .before .before .before .before .before .before .if1 .left) (c .before .before .before .before .before .before .before .before .before .before .before .before .before .before .read-message .ensures) (c .before .before .before .before .before .before .before .before .before .before .before .before .m .given .1) (c .before .before .before .before .before .before .before .before .before .load .result) (c .before .before .before .before .before .before .before .before .before .load .ensures) (c .before .before .before .before .before .before .before .before .message-allowed .ensures) (c .before .before .before .before .before .before .before .if2 .left) (c .before .before .before .before .handled .ensures)
+    let a = c .before .before .before .before .before .before .before .before .before .before .before .before .before .before .before .before .before .before .args in
+    ahead-step (a .message .now) (a .store .now) (a .out .now) (c .before .before .before .before .before .before .before .before .before .before .before .before .before .before .before .before .before .slice-known .given) (c .before .before .before .before .before .before .before .before .before .before .before .before .barred .ensures) (c .before .before .before .before .before .before .before .before .before .before .before .if1 .left) (c .before .before .before .before .before .before .before .before .before .before .read-message .ensures) (c .before .before .before .before .before .before .before .before .m .given .1) (c .before .before .before .before .before .load .result) (c .before .before .before .before .before .load .ensures) (c .before .before .before .before .message-allowed .ensures) (c .before .before .before .if2 .left) (c .before .before .is-ahead .ensures) (c .before .if3 .taken) (c .refuse4 .ensures)
+
+handled-requires : tie.Need-handled-requires
+handled-requires c κs =
+    let a = c .before .before .before .before .before .before .before .before .before .before .before .before .before .before .before .before .before .before .before .args in
+    let k = c .before .before .before .before .before .before .before .before .before .before .before .before .before .before .before .before .before .before .slice-known .given in
+    let e = c .before .before .before .before .before .before .before .before .before .before .before .before .before .barred .ensures in
+    let z = c .before .before .before .before .before .before .before .before .before .before .before .before .if1 .left in
+    (step-formed (a .message .now) (a .store .now) (a .out .now) k e z, read-may (a .message .now) (a .store .now) (a .out .now) k e z (c .before .before .before .before .before .before .before .before .before .before .before .read-message .ensures) (c .before .before .before .before .before .before .before .before .before .m .given .1) (c .before .before .before .before .before .before .load .result) (c .before .before .before .before .before .before .load .ensures) (c .before .before .before .before .before .message-allowed .ensures) (c .before .before .before .before .if2 .left) (c .before .before .before .before .before .before .before .before .before .before .before .before .before .before .before .before .before .shared-slice-known .given), step-out (a .message .now) (a .store .now) (a .out .now) k e z)
+
+same-length-9 : tie.Need-same-length-9
+same-length-9 c = search needs
+
+same-length-10 : tie.Need-same-length-10
+same-length-10 c = search needs
+
+returns-5 : tie.Need-returns-5
+returns-5 c =
+    let a = c .before .before .before .before .before .before .before .before .before .before .before .before .before .before .before .before .before .before .before .before .before .before .before .before .args in
+    handled-step (a .message .now) (a .store .now) (a .out .now) (c .before .before .before .before .before .before .before .before .before .before .before .before .before .before .before .before .before .before .before .before .before .before .before .slice-known .given) (c .before .before .before .before .before .before .before .before .before .before .before .before .before .before .before .before .before .before .barred .ensures) (c .before .before .before .before .before .before .before .before .before .before .before .before .before .before .before .before .before .if1 .left) (c .before .before .before .before .before .before .before .before .before .before .before .before .before .before .before .before .read-message .ensures) (c .before .before .before .before .before .before .before .before .before .before .before .before .before .before .m .given .1) (c .before .before .before .before .before .before .before .before .before .before .before .load .result) (c .before .before .before .before .before .before .before .before .before .before .before .load .ensures) (c .before .before .before .before .before .before .before .before .before .before .message-allowed .ensures) (c .before .before .before .before .before .before .before .before .before .if2 .left) (c .before .before .before .before .before .before .before .before .is-ahead .ensures) (c .before .before .before .before .before .before .before .if3 .left) (c .before .before .before .before .handled .ensures)
 
 pub station-step-spec : {M : Type 1} → statement M
 station-step-spec =
@@ -111,7 +128,12 @@ station-step-spec =
     same-length-5
     same-length-6
     returns-3
-    handled-requires
+    is-ahead-requires
+    refuse-requires-4
     same-length-7
     same-length-8
-    returns-4)
+    returns-4
+    handled-requires
+    same-length-9
+    same-length-10
+    returns-5)

@@ -105,7 +105,7 @@ fn views_and_masks_out_of_range_are_not_allowed() {
     for (limits, over) in [(Limits::SMALL, 33), (Limits::LARGE, 257)] {
         let mut bench = Bench::of(limits, 3, 2, 2);
         bench.refused_step(5, &blame(over, 1));
-        bench.step(&blame(over - 1, 1));
+        bench.refused_step(11, &blame(over - 1, 1));
         bench.refused_step(5, &blame(0, 1));
         bench.refused_step(5, &blame_set(1, 0b1011));
         bench.refused_step(5, &propose(1, 1, name(1), ZERO, 0b010, 1));

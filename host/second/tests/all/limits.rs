@@ -4,21 +4,24 @@
 use crate::common::*;
 use second::{Limits, Phase};
 
-/// Opens tallies of view 20 until there are so many.
+/// Opens tallies of the next view until there are so many.
 fn fill_tallies(bench: &mut Bench, count: usize) {
+    let view = bench.station.view() + 1;
     let mut number = 1000;
     while bench.station.tallies().len() < count {
-        bench.step(&vote(20, 1, name(number), 0));
+        bench.step(&vote(view, 1, name(number), 0));
         number += 1;
     }
 }
 
-/// Stores proposes of view 20 until there are so many.
+/// Stores proposes of the next view until there are so many.
 fn fill_statements(bench: &mut Bench, count: usize) {
+    let view = bench.station.view() + 1;
+    let leader = (view % 3) as u8;
     let mut height = 1;
     while bench.station.statements().len() < count {
         let parent = if height == 1 { ZERO } else { name(1000 + height - 1) };
-        bench.step(&propose(20, u32::from(height), name(1000 + height), parent, 0b011, 2));
+        bench.step(&propose(view, u32::from(height), name(1000 + height), parent, 0b011, leader));
         height += 1;
     }
 }
@@ -28,10 +31,10 @@ fn one_tally_too_many_is_refused_and_a_join_is_not() {
     for (limits, room) in [(Limits::SMALL, 256), (Limits::LARGE, 1024)] {
         let mut bench = Bench::of(limits, 3, 1, 0);
         fill_tallies(&mut bench, room);
-        bench.step(&vote(20, 1, name(1000), 1));
-        bench.step(&status(1, name(1000), 20, 0b110));
+        bench.step(&vote(2, 1, name(1000), 1));
+        bench.step(&status(1, name(1000), 2, 0b110));
         bench.step(&status(0, ZERO, 0, 0));
-        assert_eq!(bench.mask(20, 1, name(1000)), Some(0b111));
+        assert_eq!(bench.mask(2, 1, name(1000)), Some(0b111));
         bench.refused_step(6, &status(1, name(2), 2, 0b011));
     }
 }

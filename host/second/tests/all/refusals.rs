@@ -142,6 +142,12 @@ fn messages_at_the_edge_are_allowed() {
     for limits in ROWS {
         let last = limits.views;
         let leader = (last % 5) as u8;
+        // In the view before the last, so that none is too far ahead.
+        let mut late = Bench::of(limits, 5, 1, 0);
+        for view in 1..last - 1 {
+            late.step(&blame_set(view, 0b11100));
+            late.run_to(2 * view);
+        }
         for message in [
             new_view(last, 65_535, name(1), last - 1, 7, leader),
             new_view(2, 0, ZERO, 1, 7, 2),
@@ -156,7 +162,7 @@ fn messages_at_the_edge_are_allowed() {
             status(0, ZERO, last, 7),
             status(0, ZERO, 0, 0),
         ] {
-            Bench::of(limits, 5, 1, 0).step(&message);
+            Bench { station: late.station.clone() }.step(&message);
         }
     }
 }
@@ -167,9 +173,9 @@ fn number_6_stops_the_station() {
         let mut bench = Bench::of(limits, 3, 1, 0);
         let room = limits.tallies as u16;
         for number in 0..room {
-            bench.step(&vote(9, 1, name(number), 1));
+            bench.step(&vote(2, 1, name(number), 1));
         }
-        bench.refused_step(6, &vote(9, 1, name(room), 1));
+        bench.refused_step(6, &vote(2, 1, name(room), 1));
         bench.refused(3, Call::Tick);
     }
 }
@@ -196,7 +202,7 @@ fn number_9_is_each_missing_condition() {
     bench.refused(9, Call::Offer(&offer));
     bench.step(&vote(1, 1, name(1), 0));
     // Zero, a name, a parent; of another view too.
-    bench.step(&propose(9, 2, name(7), name(6), 0b011, 0));
+    bench.step(&propose(2, 2, name(7), name(6), 0b011, 2));
     for used in [ZERO, name(1), name(7), name(6)] {
         bench.refused(9, Call::Offer(&used));
     }
@@ -252,4 +258,63 @@ fn number_10_is_each_bad_setting() {
             assert!(Station::fresh(limits, n, 10_000, 0).is_ok());
         }
     }
+}
+
+/// One of each kind with a field 02, of a view whose leader is station 0 of 3.
+fn view_bearing(view: u32) -> [Bytes; 5] {
+    [
+        new_view(view, 0, ZERO, 0, 0, 0),
+        propose(view, 1, name(1), ZERO, 0b110, 0),
+        vote(view, 1, name(1), 1),
+        blame(view, 1),
+        blame_set(view, 0b110),
+    ]
+}
+
+/// "any view-bearing message (one with a field 02) more than one view ahead of the view held".
+#[test]
+fn number_11_is_any_kind_more_than_one_view_ahead() {
+    let mut bench = Bench::new(3, 1, 1);
+    for message in view_bearing(3).iter().chain(&view_bearing(30)) {
+        bench.refused_step(11, message);
+    }
+    for message in view_bearing(3) {
+        let mut near = Bench::new(3, 1, 1);
+        near.step(&blame_set(1, 0b101));
+        near.run_to(2);
+        assert_eq!(near.station.view(), 2);
+        assert_eq!(near.step(&message), []);
+        near.refused_step(11, &blame(4, 1));
+    }
+    // A status has no field 02.
+    assert_eq!(bench.step(&status(7, name(1), 32, 0b110)), []);
+}
+
+/// ".. or last quit": until the next view is entered.
+#[test]
+fn number_11_goes_by_the_view_last_quit() {
+    let mut bench = Bench::new(3, 2, 0);
+    bench.step(&blame_set(1, 0b110));
+    bench.quiet_to(2);
+    assert_eq!((bench.station.phase(), bench.station.view()), (Phase::Waiting { quit: 0 }, 1));
+    assert_eq!(bench.step(&blame(2, 1)), []);
+    bench.refused_step(11, &blame(3, 1));
+    bench.run_to(3);
+    assert_eq!(bench.step(&blame(3, 1)), []);
+}
+
+/// "The test comes right after 5, before 12 and 6."
+#[test]
+fn number_11_comes_between_5_and_6() {
+    let mut bench = Bench::new(3, 1, 1);
+    bench.refused_step(4, &blame(3, 1)[..14]);
+    bench.refused_step(5, &blame(33, 1));
+    bench.refused_step(5, &blame(3, 3));
+    bench.refused_step(5, &propose(3, 1, name(1), ZERO, 0b010, 0));
+    for number in 0..Limits::SMALL.tallies as u16 {
+        bench.step(&vote(1, 1, name(number + 1), 0));
+    }
+    bench.refused_step(11, &vote(3, 1, name(0), 0));
+    bench.refused_step(6, &vote(2, 1, name(0), 0));
+    bench.refused_step(3, &vote(3, 1, name(0), 0));
 }

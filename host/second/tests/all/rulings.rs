@@ -70,9 +70,9 @@ fn a_block_passed_over_is_tried_again() {
     let mut bench = Bench::new(3, 1, 0);
     bench.step(&propose(1, 3, name(3), name(2), 0b110, 1));
     bench.quiet_to(4);
-    bench.step(&propose(7, 1, name(1), ZERO, 0b110, 1));
+    bench.step(&propose(2, 1, name(1), ZERO, 0b110, 2));
     bench.quiet_to(5);
-    bench.step(&propose(5, 2, name(2), name(1), 0b110, 2));
+    bench.step(&propose(2, 2, name(2), name(1), 0b110, 2));
     let commits = [committed(1, name(1)), committed(2, name(2)), committed(3, name(3))];
     assert_eq!(bench.tick(), commits.concat());
     bench.quiet_to(8);
@@ -83,11 +83,11 @@ fn a_block_passed_over_is_tried_again() {
 fn a_parent_of_another_height_is_not_stored() {
     let mut bench = Bench::new(3, 1, 0);
     bench.step(&propose(1, 2, name(2), name(1), 0b110, 1));
-    bench.step(&propose(9, 2, name(1), name(8), 0b110, 0));
-    bench.step(&propose(9, 1, name(8), ZERO, 0b110, 0));
+    bench.step(&propose(2, 2, name(1), name(8), 0b110, 2));
+    bench.step(&propose(2, 1, name(8), ZERO, 0b110, 2));
     bench.quiet_to(7);
     // Nor is a new-view of that block a propose of it.
-    bench.step(&new_view(9, 1, name(1), 1, 0b110, 0));
+    bench.step(&new_view(2, 1, name(1), 1, 0b110, 2));
     assert_eq!(bench.tick(), []);
 }
 
@@ -324,7 +324,7 @@ fn a_name_of_a_tally_may_be_offered() {
     let mut bench = Bench::new(3, 1, 1);
     bench.run_to(3);
     bench.step(&vote(1, 0, ZERO, 0));
-    bench.step(&vote(7, 4, name(1), 0));
+    bench.step(&vote(2, 4, name(1), 0));
     assert_eq!(bench.offer(name(1)).len(), 160);
 }
 
@@ -360,8 +360,8 @@ fn a_waiting_station_only_keeps_blames() {
     bench.quiet_to(1);
     assert_eq!(bench.step(&blame(1, 0)), []);
     assert_eq!(bench.step(&blame_set(1, 0b011)), []);
-    assert_eq!(bench.step(&blame_set(3, 0b011)), []);
-    assert_eq!((bench.station.blames(1), bench.station.blames(3)), (0b111, 0b011));
+    assert_eq!(bench.step(&blame_set(2, 0b011)), []);
+    assert_eq!((bench.station.blames(1), bench.station.blames(2)), (0b111, 0b011));
     assert_eq!(bench.station.phase(), Phase::Waiting { quit: 0 });
 }
 

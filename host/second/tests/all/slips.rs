@@ -20,13 +20,13 @@ fn messages_of_a_later_view_are_kept() {
     let mut bench = Bench::new(3, 1, 0);
     let early = propose(2, 1, name(1), ZERO, 0b110, 2);
     assert_eq!(bench.step(&early), []);
-    assert_eq!(bench.step(&blame(3, 1)), []);
-    assert_eq!(bench.step(&blame(3, 2)), []);
     bench.step(&blame_set(1, 0b110));
     bench.quiet_to(1);
     // The propose came with a certificate of genesis in its own view; none is of an earlier one.
     let voted = to_all(&[early, vote(2, 1, name(1), 0)]);
     assert_eq!(bench.tick(), [to_one(2, &status(0, ZERO, 0, 0)), voted].concat());
+    assert_eq!(bench.step(&blame(3, 1)), []);
+    assert_eq!(bench.step(&blame(3, 2)), []);
     bench.step(&blame_set(2, 0b110));
     bench.quiet_to(3);
     // In view 3, which it leads, the blames of before are a set: the station quits as it enters.

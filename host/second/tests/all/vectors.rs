@@ -24,6 +24,9 @@ recorded! {
     sim_001: "sim-001.txt",
     damage_5: "damage-5.txt",
     display: "display.txt",
+    fuzz_008: "fuzz-008.txt",
+    damage_6: "damage-6.txt",
+    ahead: "ahead.txt",
 }
 
 recorded! {
