@@ -58,9 +58,10 @@ fn a_wrong_parents_child_is_seen_before_the_other_block() {
         assert_eq!(group.run_to(clock), Ok(()));
         group.watch.quits
     };
-    // The new-view of clock 5 is certified at 7, and both blocks are proposed.
-    assert_eq!([quits(Fault::Splitting, 8), quits(Fault::Planting, 7)], [0, 2]);
-    assert_eq!(quits(Fault::Splitting, 9), 2);
+    // The new-view of clock 5 has its votes at 9, and both blocks are proposed; each station sends
+    // its own on, and the other has it at 11.
+    assert_eq!([9, 10, 11].map(|clock| quits(Fault::Splitting, clock)), [0, 0, 2]);
+    assert_eq!([8, 9].map(|clock| quits(Fault::Planting, clock)), [0, 2]);
 }
 
 /// A group with the large limits goes on where one with the small limits is full.
