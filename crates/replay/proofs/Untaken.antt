@@ -14,7 +14,7 @@ use Rattle.rules.specs.Lists.{be}
 use Rattle.rules.specs.Messages.{read, allowed, outgoing}
 use Rattle.rules.specs.Words.{State, Cause, full, split, clock}
 use Rattle.rules.specs.Inputs.{Work, handled, offered, ticked}
-use Rattle.rules.specs.Refusals.{Outcome, done, refused, stopping, hasRoom, ifRoom, running, step, offer, tick, result}
+use Rattle.rules.specs.Refusals.{Outcome, done, refused, stopping, hasRoom, ifRoom, running, ahead, step, offer, tick, result}
 use Rattle.rules.specs.WellFormed.{wellFormed}
 use Rattle.rules.proofs.Tests.{by-bool, by-option, no-bool}
 use Rattle.fields.specs.Places.{Bytes}
@@ -68,7 +68,10 @@ step-settled bs s =
     by-bool (running s)
     (λ r.
     by-option (read bs) (λ q. rw (r, q, step) (refusing 4))
-    (λ m q. by-bool (allowed (s .settings) m) (λ a. rw (r, q, a, step) (room-settled s (handled m s))) (λ a. rw (r, q, a, step) (refusing 5))))
+    (λ m q.
+    by-bool (allowed (s .settings) m)
+    (λ a. by-bool (ahead m s) (λ h. rw (r, q, a, h, step) (refusing 11)) (λ h. rw (r, q, a, h, step) (room-settled s (handled m s))))
+    (λ a. rw (r, q, a, step) (refusing 5))))
     (λ r. rw (r, step) (refusing 3))
 
 offer-settled : (b : ℕ) (s : State) → Settled s (offer b s)
