@@ -1,7 +1,7 @@
 // The settings of a station: the limits of 01, which code reads here and nowhere else, and what follows from n and the own number.
 ghost use mathlib.Core.Path.{_≡_};
 ghost use Prim.Native.Nat.{_<_, _^_};
-ghost use Rattle.rules.specs.Limits.{maskBits, lastView, mostStatements, mostTallies, leastOut};
+ghost use Rattle.rules.specs.Limits.{maskBits, lastView, mostStatements, mostTallies};
 ghost use Rattle.rules.specs.Sizes.{leader, quorum, only};
 ghost use Rattle.settings.specs.Made.{made, sizeFrom, settingsOf};
 
@@ -137,16 +137,6 @@ impl Size {
         match self {
             Size::Small => Settings::MOST_TALLIES,
             Size::Large => Settings::MOST_TALLIES_LARGE,
-        }
-    }
-
-    // How long the out buffer is at least.
-    pub fn least_out(self) -> usize
-        ensures { λ r. ⌜ r ≡ leastOut (sizeFrom self) ⌝ }
-    {
-        match self {
-            Size::Small => Settings::LEAST_OUT,
-            Size::Large => Settings::LEAST_OUT_LARGE,
         }
     }
 }
