@@ -286,6 +286,10 @@ fn a_child_with_the_wrong_parent_conflicts() {
                 let pair = to_all(&[first.clone(), then.clone()]);
                 assert_eq!(bench.step(then) == pair, conflicts, "{first:?} {then:?}");
 
+                // before entry a statement of view 3 would be too far ahead
+                if upper == other_view {
+                    continue;
+                }
                 let mut bench = Bench::new(3, 1, 0);
                 assert_eq!(bench.step(first), []);
                 assert_eq!(bench.step(then), []);

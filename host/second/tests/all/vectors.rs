@@ -17,12 +17,8 @@ recorded! {
     Limits::SMALL,
     settings: "settings.txt",
     fuzz_002: "fuzz-002.txt",
-    fuzz_005: "fuzz-005.txt",
-    fuzz_010: "fuzz-010.txt",
-    fuzz_017: "fuzz-017.txt",
     parents: "parents.txt",
     sim_001: "sim-001.txt",
-    damage_5: "damage-5.txt",
     display: "display.txt",
     fuzz_008: "fuzz-008.txt",
     damage_6: "damage-6.txt",
@@ -31,8 +27,6 @@ recorded! {
 
 recorded! {
     Limits::LARGE,
-    large_fuzz_000: "large/fuzz-000.txt",
-    large_fuzz_003: "large/fuzz-003.txt",
     large_views: "large/views.txt",
 }
 
