@@ -14,7 +14,7 @@ use Rattle.rules.specs.Sizes.{Settings, only}
 use Rattle.rules.specs.Messages.{Message, newView, propose, vote, blame, blameSet, status, read, allowed, Effect}
 use Rattle.rules.specs.Words.{Statement, sameStatement, conflict, Certificate, Cause, full, State, fresh}
 use Rattle.rules.specs.Inputs.{Work, saying, withPhase, withTables, isIn, quit, belowLock, noted, votedFor, voting, certificateJoined, stored, statement, tallied, blamed, blameFull, blaming, handled, offered}
-use Rattle.rules.specs.Refusals.{done, refused, stopping, hasRoom, ifRoom, running, step, offer, tick}
+use Rattle.rules.specs.Refusals.{done, refused, stopping, hasRoom, ifRoom, running, ahead, step, offer, tick}
 use Rattle.rules.specs.WellFormed.{wellFormed}
 use Rattle.rules.specs.Display.{Shown, isShown, dueClock, shown, showingAll, display}
 use Rattle.rules.proofs.Tests.{by-bool, by-option, no-bool}
@@ -125,7 +125,9 @@ module _ (xs : List Statement) where
       by-bool (running s)
       (λ r.
       by-option (read bs) (λ q. rw (r, q, step) k) λ m q.
-      by-bool (allowed (s .settings) m) (λ a. rw (r, q, a, step) (ifRoom-behind s (handled m s) (handled-behind m s k))) (λ a. rw (r, q, a, step) k))
+      by-bool (allowed (s .settings) m)
+      (λ a. by-bool (ahead m s) (λ h. rw (r, q, a, h, step) k) (λ h. rw (r, q, a, h, step) (ifRoom-behind s (handled m s) (handled-behind m s k))))
+      (λ a. rw (r, q, a, step) k))
       (λ r. rw (r, step) k)
 
   pub offer-behind : (b : ℕ) (s : State) → Behind xs s → Behind xs (offer b s .next)
