@@ -63,7 +63,7 @@ fn inputs() -> Vec<Input> {
         Message::Propose { view: 2, height: 1, name, parent: GENESIS, mask, author: 2 },
         Message::Status { height: 1, name, certificate_view: 1, mask },
         Message::Blame { view: 1, author: 0 },
-        Message::BlameSet { view: 3, mask },
+        Message::BlameSet { view: 2, mask },
     ];
     let mut inputs = vec![Input::Tick; 5];
     inputs.push(Input::Step(vote(0, GENESIS).encode()));
