@@ -12,8 +12,7 @@ use std::process::{Child, Command, Stdio};
 use std::time::{Duration, Instant};
 
 const STATIONS: usize = 3;
-const RUNS: u64 = 2;
-const KILLS: u32 = 125;
+const KILLS: u32 = 250;
 const CARDS: usize = 40;
 
 /// What the killed ones have said, station by station.
@@ -140,17 +139,22 @@ fn tear(directory: &Path, own: usize, random: &mut Random, said: &mut Said) {
 fn what_was_committed_outlives_every_kill() {
     let mut random = Random::new(0x6f75_7461_6765);
     let mut kills = 0;
-    for run in 0..RUNS {
+    let mut run = 0;
+    while kills < KILLS {
+        run += 1;
         let directory = Path::new(env!("CARGO_TARGET_TMPDIR")).join(format!("outage-{run}"));
         let _ = fs::remove_dir_all(&directory);
         fs::create_dir_all(&directory).unwrap();
         let mut said = Said::default();
-        for _ in 0..KILLS {
+        while kills < KILLS {
             // Some are killed while they start, at any moment of that.
             let lines = if random.one_in(8) { 0 } else { 1 + random.below(5) };
             let wait = Duration::from_micros(random.below(3000));
             let found = life(&directory, &mut said, Some(lines), wait);
-            kills += u32::from(!found.is_done);
+            if found.is_done {
+                break;
+            }
+            kills += 1;
             if random.one_in(4) {
                 tear(&directory, random.place(STATIONS), &mut random, &mut said);
             }
@@ -162,6 +166,5 @@ fn what_was_committed_outlives_every_kill() {
         assert!(found.is_done && found.logs.iter().all(|log| *log == found.logs[0]));
         assert_eq!(found.logs[0].len(), CARDS);
     }
-    println!("killed {kills} times");
-    assert!(kills > RUNS as u32 * KILLS / 2, "most of them are to be killed under way");
+    println!("killed {kills} times in {run} runs");
 }
