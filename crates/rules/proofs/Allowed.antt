@@ -88,7 +88,7 @@ lt-name b h = lt-ltb b (256 ^ 32) h
 
 -- a view's number is below every name's limit
 pub view-name : (z : Size) {v : ℕ} → v ≤ lastView z → v < 256 ^ 32
-view-name z h = lt-of-lt-of-le {m = 257} (omega (arith, views-most z)) (lit≤ tt)
+view-name z h = lt-of-lt-of-le {m = suc lastViewLarge} (omega (arith, views-most z)) (lit≤ tt)
 
 pub height-le : (h b : ℕ) → blockAllowed h b ≡ true → h ≤ lastHeight
 unfolding blockAllowed

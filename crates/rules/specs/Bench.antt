@@ -1,11 +1,12 @@
 -- 01, 'Examples on the bench': those marked (P), one for each of the 'Slips we have seen proposed', and the corners of
 -- every other clause, evaluated together under a single claim. Assumes nothing.
 use mathlib.Core.Path.{_≡_, refl}
-use Prim.Native.Nat.{ℕ}
+use Prim.Native.Nat.{ℕ, suc}
 use mathlib.Core.Bool.{Bool, not}
 use mathlib.Core.List.{List, [], _∷_, _++_}
 use lib.ListN.{length, take}
 use lib.Dec.{eqb}
+use Rattle.rules.specs.Limits.{lastViewSmall}
 use Rattle.rules.specs.Messages.{newView, propose, vote, blameSet, status, write, toAll, toOne, committed}
 use Rattle.rules.specs.Script.{_⇒_, idle, holds, ticks, hears, hearsBytes, isOffered, bytes, exactly, says, refuses, failing, good, station, block, other}
 use Rattle.rules.specs.Corners.{corners}
@@ -29,7 +30,7 @@ bench =
     -- "n=4, D=0, D=10,001: 10. n=15, D=10,000: 0"
     ∷ not (good 4 2 0) ∷ not (good 3 0 0) ∷ not (good 3 10001 0) ∷ good 15 10000 14
     -- "View 33, view 0, mask bit 3: 5. A one-bit certificate: 5"
-    ∷ station 2 (hears (vote 33 1 77 0) ⇒ refuses 5 ∷ hears (vote 0 1 77 0) ⇒ refuses 5 ∷ hears (blameSet 1 11) ⇒ refuses 5 ∷ hears (propose 1 1 77 0 1 1) ⇒ refuses 5 ∷ [])
+    ∷ station 2 (hears (vote (suc lastViewSmall) 1 77 0) ⇒ refuses 5 ∷ hears (vote 0 1 77 0) ⇒ refuses 5 ∷ hears (blameSet 1 11) ⇒ refuses 5 ∷ hears (propose 1 1 77 0 1 1) ⇒ refuses 5 ∷ [])
     -- "Lock rank (1,3), new-view rank (1,2): stored, no vote"
     ∷ station 0 (hears (status 3 79 1 3) ⇒ bytes 0 ∷ hears (blameSet 1 3) ⇒ bytes 19 ∷ idle 2 ∷ ticks ⇒ bytes 62 ∷ hears (newView 2 2 80 1 3 2) ⇒ bytes 0
     ∷ holds (λ s. eqb (length (s .statements)) 1) ∷ [])

@@ -1,11 +1,11 @@
 -- An example, or more, for each clause of the rules that 01's own examples pass by. Bench.antt evaluates them. Assumes nothing.
-use Prim.Native.Nat.{ℕ, zero, suc, _+_, _-_, _*_, _^_}
+use Prim.Native.Nat.{ℕ, zero, suc, _+_, _-_, _*_, _^_, _%_}
 use mathlib.Core.Bool.{Bool, true, false, not, _&&_}
 use mathlib.Core.List.{List, [], _∷_, _++_}
 use mathlib.Core.Option.{Option, none, some}
 use lib.ListN.{length, getD, replicate}
 use lib.Dec.{eqb}
-use Rattle.rules.specs.Limits.{lastClock, small, large, mostStatements, mostTallies}
+use Rattle.rules.specs.Limits.{lastClock, small, large, mostStatements, mostTallies, lastViewSmall, lastViewLarge, mostStatementsSmall}
 use Rattle.rules.specs.Lists.{unbe, all}
 use Rattle.rules.specs.Sizes.{Settings}
 use Rattle.rules.specs.Messages.{Message, newView, propose, vote, blame, blameSet, status, write, read, allowed, Effect, toAll, toOne, committed, effect}
@@ -64,18 +64,18 @@ unreadable =
 -- every clause of 'Allowed', from both sides
 right : List Message
 right =
-    newView 1 0 0 0 0 1 ∷ newView 2 0 0 1 3 2 ∷ newView 32 65535 9 31 7 2 ∷ propose 1 1 77 0 3 1 ∷ propose 2 2 78 77 6 2 ∷ propose 3 65535 9 8 5 0
-    ∷ vote 1 0 0 0 ∷ vote 32 65535 9 2 ∷ blame 1 0 ∷ blame 32 2 ∷ blameSet 1 3 ∷ blameSet 32 7 ∷ status 0 0 0 0 ∷ status 0 0 5 3 ∷ status 65535 79 32 5 ∷ []
+    newView 1 0 0 0 0 1 ∷ newView 2 0 0 1 3 2 ∷ newView lastViewSmall 65535 9 (lastViewSmall - 1) 7 (lastViewSmall % 3) ∷ propose 1 1 77 0 3 1 ∷ propose 2 2 78 77 6 2 ∷ propose 3 65535 9 8 5 0
+    ∷ vote 1 0 0 0 ∷ vote lastViewSmall 65535 9 2 ∷ blame 1 0 ∷ blame lastViewSmall 2 ∷ blameSet 1 3 ∷ blameSet lastViewSmall 7 ∷ status 0 0 0 0 ∷ status 0 0 5 3 ∷ status 65535 79 lastViewSmall 5 ∷ []
 
 wrong : List Message
 wrong =
-    newView 0 0 0 0 0 0 ∷ newView 33 0 0 0 0 0 ∷ newView 2 65536 9 1 3 2 ∷ newView 2 1 0 1 3 2 ∷ newView 2 0 9 1 3 2 ∷ newView 2 1 9 2 3 2
+    newView 0 0 0 0 0 0 ∷ newView (suc lastViewSmall) 0 0 0 0 0 ∷ newView 2 65536 9 1 3 2 ∷ newView 2 1 0 1 3 2 ∷ newView 2 0 9 1 3 2 ∷ newView 2 1 9 2 3 2
     ∷ newView 2 1 9 0 0 2 ∷ newView 2 0 0 0 3 2 ∷ newView 2 1 9 1 1 2 ∷ newView 2 1 9 1 9 2 ∷ newView 2 1 9 1 3 1
-    ∷ propose 0 1 77 0 3 0 ∷ propose 33 1 77 0 3 0 ∷ propose 1 0 0 0 3 1 ∷ propose 1 1 0 0 3 1 ∷ propose 1 1 77 5 3 1 ∷ propose 1 2 77 0 3 1
+    ∷ propose 0 1 77 0 3 0 ∷ propose (suc lastViewSmall) 1 77 0 3 0 ∷ propose 1 0 0 0 3 1 ∷ propose 1 1 0 0 3 1 ∷ propose 1 1 77 5 3 1 ∷ propose 1 2 77 0 3 1
     ∷ propose 1 65536 77 5 3 1 ∷ propose 1 1 77 0 2 1 ∷ propose 1 1 77 0 9 1 ∷ propose 1 1 77 0 3 2
-    ∷ vote 0 1 77 0 ∷ vote 33 1 77 0 ∷ vote 1 65536 77 0 ∷ vote 1 0 77 0 ∷ vote 1 1 0 0 ∷ vote 1 1 77 3
-    ∷ blame 0 1 ∷ blame 33 1 ∷ blame 1 3 ∷ blameSet 0 3 ∷ blameSet 33 3 ∷ blameSet 1 4 ∷ blameSet 1 9
-    ∷ status 65536 9 1 3 ∷ status 0 9 1 3 ∷ status 1 0 1 3 ∷ status 1 9 33 3 ∷ status 1 9 0 0 ∷ status 0 0 0 3 ∷ status 1 9 1 1 ∷ status 1 9 1 9 ∷ []
+    ∷ vote 0 1 77 0 ∷ vote (suc lastViewSmall) 1 77 0 ∷ vote 1 65536 77 0 ∷ vote 1 0 77 0 ∷ vote 1 1 0 0 ∷ vote 1 1 77 3
+    ∷ blame 0 1 ∷ blame (suc lastViewSmall) 1 ∷ blame 1 3 ∷ blameSet 0 3 ∷ blameSet (suc lastViewSmall) 3 ∷ blameSet 1 4 ∷ blameSet 1 9
+    ∷ status 65536 9 1 3 ∷ status 0 9 1 3 ∷ status 1 0 1 3 ∷ status 1 9 (suc lastViewSmall) 3 ∷ status 1 9 0 0 ∷ status 0 0 0 3 ∷ status 1 9 1 1 ∷ status 1 9 1 9 ∷ []
 
 judged : List Bool
 unfolding all allowed group right wrong
@@ -229,9 +229,9 @@ entries =
     ∷ toAll (propose 2 2 78 77 3 2) ∷ toAll (vote 2 2 78 0) ∷ []) ∷ [])
     ∷ station 0 (hears (propose 2 3 78 77 3 2) ⇒ bytes 0 ∷ hears (newView 2 0 0 0 0 2) ⇒ bytes 0 ∷ hears (status 3 79 1 3) ⇒ bytes 0 ∷ hears (blameSet 1 3) ⇒ bytes 19 ∷ idle 2
     ∷ ticks ⇒ says (toOne 2 (status 3 79 1 3) ∷ toAll (propose 2 3 78 77 3 2) ∷ toAll (vote 2 3 78 0) ∷ []) ∷ [])
-    -- view 32 is the last
-    ∷ goes (entering 31 genesis (fresh (group 0))) (hears (blameSet 31 3) ⇒ bytes 19 ∷ idle 2 ∷ ticks ⇒ says (toOne 2 (status 0 0 0 0) ∷ []) ∷ hears (blameSet 32 3) ⇒ bytes 19 ∷ idle 20
-    ∷ holds (λ s. eqb (s .view) 32) ∷ [])
+    -- the last view, and a station that leads neither it nor the one before
+    ∷ goes (entering (lastViewSmall - 1) genesis (fresh (group ((lastViewSmall + 1) % 3)))) (hears (blameSet (lastViewSmall - 1) 3) ⇒ bytes 19 ∷ idle 2 ∷ ticks ⇒ says (toOne (lastViewSmall % 3) (status 0 0 0 0) ∷ []) ∷ hears (blameSet lastViewSmall 3) ⇒ bytes 19 ∷ idle 20
+    ∷ holds (λ s. eqb (s .view) lastViewSmall) ∷ [])
     ∷ []
 
 -- ---- refusals
@@ -249,11 +249,11 @@ refusals : List Bool
 unfolding goes fresh group entering withClock withTables withPhase tallied many result step tick write block
 refusals =
     -- "the 129th new statement: 6. A repeat of the first at 128: 0"
-    goes (fresh (group 0)) (many (mostStatements small) ++ hears (propose 2 128 128 127 3 2) ⇒ bytes 0
-    ∷ holds (λ s. eqb (length (s .statements)) (mostStatements small) && eqb (length (s .tallies)) 129)
-    ∷ hears (propose 2 129 129 128 3 2) ⇒ refuses 6 ∷ hears (propose 2 129 129 128 3 2) ⇒ refuses 3 ∷ [])
-    -- with the large limits: views 256 and 257
-    ∷ goes (entering 255 genesis (fresh (record { n = 3; D = 2; own = 0; size = large }))) (hears (vote 257 1 77 0) ⇒ refuses 5 ∷ hears (vote 256 1 77 0) ⇒ bytes 0 ∷ [])
+    goes (fresh (group 0)) (many mostStatementsSmall ++ hears (propose 2 mostStatementsSmall mostStatementsSmall (mostStatementsSmall - 1) 3 2) ⇒ bytes 0
+    ∷ holds (λ s. eqb (length (s .statements)) mostStatementsSmall && eqb (length (s .tallies)) (suc mostStatementsSmall))
+    ∷ hears (propose 2 (suc mostStatementsSmall) (suc mostStatementsSmall) mostStatementsSmall 3 2) ⇒ refuses 6 ∷ hears (propose 2 (suc mostStatementsSmall) (suc mostStatementsSmall) mostStatementsSmall 3 2) ⇒ refuses 3 ∷ [])
+    -- with the large limits: the last view and one more
+    ∷ goes (entering (lastViewLarge - 1) genesis (fresh (record { n = 3; D = 2; own = 0; size = large }))) (hears (vote (suc lastViewLarge) 1 77 0) ⇒ refuses 5 ∷ hears (vote lastViewLarge 1 77 0) ⇒ bytes 0 ∷ [])
     -- the last free tally, and none
     ∷ goes (withTables [] (tallied (mostTallies small - 1)) (fresh (group 0))) (hears (vote 1 2 9 0) ⇒ bytes 0 ∷ hears (vote 1 2 9 1) ⇒ bytes 0 ∷ hears (vote 1 3 8 0) ⇒ refuses 6 ∷ ticks ⇒ refuses 3 ∷ [])
     -- a statement that would make the station quit needs its records all the same
@@ -282,11 +282,11 @@ early : List Bool
 unfolding goes fresh group entering station withTables withPhase tallied bearing each untouched
 early =
     -- two views ahead: every kind that has a view, and nothing changes; three ahead; the last view
-    goes (fresh (group 0)) (each (bearing 3) (refuses 11) ++ holds (λ s. untouched s && eqb (s .view) 1) ∷ hears (blame 4 1) ⇒ refuses 11 ∷ hears (blame 32 1) ⇒ refuses 11 ∷ [])
+    goes (fresh (group 0)) (each (bearing 3) (refuses 11) ++ holds (λ s. untouched s && eqb (s .view) 1) ∷ hears (blame 4 1) ⇒ refuses 11 ∷ hears (blame lastViewSmall 1) ⇒ refuses 11 ∷ [])
     -- one view ahead: every kind is taken
     ∷ goes (entering 2 genesis (fresh (group 0))) (each (bearing 3) (bytes 0) ++ holds (λ s. eqb (length (s .statements)) 2 && eqb (getD (s .blames) 3 0) 3) ∷ [])
     -- a status has no view, whatever that of its certificate
-    ∷ station 0 (hears (status 5 99 32 3) ⇒ bytes 0 ∷ holds (λ s. eqb (length (s .tallies)) 1) ∷ [])
+    ∷ station 0 (hears (status 5 99 lastViewSmall 3) ⇒ bytes 0 ∷ holds (λ s. eqb (length (s .tallies)) 1) ∷ [])
     -- while it waits, the view last quit counts, until the next one is entered
     ∷ station 0 (hears (blameSet 1 3) ⇒ bytes 19 ∷ hears (blame 3 1) ⇒ refuses 11 ∷ hears (blame 2 1) ⇒ bytes 0 ∷ idle 2 ∷ hears (blame 3 1) ⇒ refuses 11
     ∷ ticks ⇒ bytes 62 ∷ hears (blame 3 1) ⇒ bytes 0 ∷ hears (blame 4 1) ⇒ refuses 11 ∷ [])
@@ -322,7 +322,7 @@ held g p v t xs ts ms l =
 
 tables : List Statement → List Tally → List ℕ → Bool
 unfolding wellFormed held group tally
-tables xs ts l = wellFormed (held (group 2) inView 2 (tally 1 1 77 3) xs ts (replicate 33 0) l)
+tables xs ts l = wellFormed (held (group 2) inView 2 (tally 1 1 77 3) xs ts (replicate (suc lastViewSmall) 0) l)
 
 -- a chain of k blocks of view 1, the highest first, and the tallies of k blocks and genesis
 chained : ℕ → List Statement
@@ -340,8 +340,8 @@ unfolding wellFormed held group tally said lower upper counted tables withClock 
 formed =
     wellFormed (fresh (group 0)) ∷ tables (lower ∷ upper ∷ []) counted (77 ∷ [])
     -- (1), (2), (3)
-    ∷ not (wellFormed (held (record { n = 4; D = 2; own = 2; size = small }) inView 2 (tally 1 1 77 3) [] [] (replicate 33 0) []))
-    ∷ header inView 32 ∷ not (header inView 33) ∷ not (header inView 0)
+    ∷ not (wellFormed (held (record { n = 4; D = 2; own = 2; size = small }) inView 2 (tally 1 1 77 3) [] [] (replicate (suc lastViewSmall) 0) []))
+    ∷ header inView lastViewSmall ∷ not (header inView (suc lastViewSmall)) ∷ not (header inView 0)
     ∷ header (waiting 3) 2 ∷ header (waiting 9) 2 ∷ not (header (waiting 2) 2) ∷ not (header (waiting 10) 2) ∷ header (stopped full) 2
     ∷ wellFormed (withClock lastClock rich) ∷ not (wellFormed (withClock (lastClock + 1) rich)) ∷ not (wellFormed (withClock 2 rich))
     -- (4)
@@ -355,25 +355,25 @@ formed =
     ∷ not (tables (said false 1 1 (2 ^ 256) 0 1 none ∷ []) (tally 1 1 (2 ^ 256) 0 ∷ counted) []) ∷ not (tables (lower ∷ lower ∷ []) counted [])
     ∷ not (tables (said false 1 2 79 (2 ^ 256) 1 none ∷ []) (tally 1 2 79 0 ∷ tally 1 1 (2 ^ 256) 0 ∷ []) [])
     -- (8)
-    ∷ not (tables [] (tally 0 1 77 3 ∷ []) []) ∷ not (tables [] (tally 33 1 77 3 ∷ []) []) ∷ not (tables [] (tally 1 0 77 3 ∷ []) []) ∷ not (tables [] (tally 1 1 77 8 ∷ []) [])
+    ∷ not (tables [] (tally 0 1 77 3 ∷ []) []) ∷ not (tables [] (tally (suc lastViewSmall) 1 77 3 ∷ []) []) ∷ not (tables [] (tally 1 0 77 3 ∷ []) []) ∷ not (tables [] (tally 1 1 77 8 ∷ []) [])
     ∷ not (tables [] (tally 1 1 (2 ^ 256) 3 ∷ []) []) ∷ not (tables [] (tally 1 1 77 3 ∷ tally 1 1 77 0 ∷ []) [])
     -- (9)
     ∷ not (tables (upper ∷ []) (tally 1 1 77 3 ∷ []) []) ∷ not (tables (upper ∷ []) (tally 2 1 77 3 ∷ []) []) ∷ tables (record { isNewView = true; view = 2; height = 0; name = 0; link = 0; mask = 0; author = 2; voted = none } ∷ []) (tally 2 0 0 0 ∷ []) []
     -- (10)
-    ∷ blamed (0 ∷ 7 ∷ replicate 31 0) ∷ not (blamed (0 ∷ 8 ∷ replicate 31 0)) ∷ not (blamed (1 ∷ replicate 32 0)) ∷ not (blamed (replicate 32 0)) ∷ not (blamed (replicate 34 0)) ∷ not (blamed [])
+    ∷ blamed (0 ∷ 7 ∷ replicate (lastViewSmall - 1) 0) ∷ not (blamed (0 ∷ 8 ∷ replicate (lastViewSmall - 1) 0)) ∷ not (blamed (1 ∷ replicate lastViewSmall 0)) ∷ not (blamed (replicate lastViewSmall 0)) ∷ not (blamed (replicate (lastViewSmall + 2) 0)) ∷ not (blamed [])
     -- (11)
     ∷ not (tables (lower ∷ []) counted (78 ∷ [])) ∷ not (tables (lower ∷ []) counted (77 ∷ 77 ∷ [])) ∷ not (tables (upper ∷ []) counted (77 ∷ []))
     ∷ above 77 ∷ not (above 70)
     ∷ []
   where
     rich : State
-    rich = held (group 2) inView 2 (tally 1 1 77 3) [] [] (replicate 33 0) []
+    rich = held (group 2) inView 2 (tally 1 1 77 3) [] [] (replicate (suc lastViewSmall) 0) []
 
     header : Phase → ℕ → Bool
-    header p v = wellFormed (held (group 2) p v (tally 0 0 0 0) [] [] (replicate 33 0) [])
+    header p v = wellFormed (held (group 2) p v (tally 0 0 0 0) [] [] (replicate (suc lastViewSmall) 0) [])
 
     locked : Tally → Bool
-    locked t = wellFormed (held (group 2) inView 2 t [] [] (replicate 33 0) [])
+    locked t = wellFormed (held (group 2) inView 2 t [] [] (replicate (suc lastViewSmall) 0) [])
 
     blamed : List ℕ → Bool
     blamed ms = wellFormed (held (group 2) inView 2 (tally 1 1 77 3) [] [] ms [])
