@@ -1,11 +1,12 @@
 -- Reports and which of them is taken, evaluated together under a single claim. Assumes nothing.
 use mathlib.Core.Path.{_≡_, refl}
-use Prim.Native.Nat.{ℕ}
+use Prim.Native.Nat.{ℕ, suc}
 use mathlib.Core.Bool.{Bool, _&&_}
 use mathlib.Core.List.{List, [], _∷_, _++_, map}
 use mathlib.Core.Option.{some}
 use lib.ListN.{take, drop}
 use lib.Dec.{eqb}
+use Rattle.rules.specs.Limits.{lastViewSmall}
 use Rattle.rules.specs.Messages.{Message, vote, blame, status, write, read}
 use Rattle.rules.specs.Script.{failing, sameList}
 use Rattle.choose.specs.Choose.{Part, takenOf, chosen}
@@ -43,18 +44,18 @@ examples =
     ∷ eqb (among genesis genesis) 1 ∷ eqb (among genesis (write (status 0 0 1 3))) 2 ∷ eqb (among (write (status 0 0 1 3)) genesis) 1
     -- "if only one is readable and allowed": one byte short or long, one voter alone, a view above the limit, certificate view 0 at height 1
     ∷ eqb (among (of 1 2 77) (take 57 (of 2 2 77))) 1 ∷ eqb (among (of 2 2 77 ++ 0 ∷ []) (of 1 2 77)) 2 ∷ eqb (among (write (status 2 77 2 1)) (of 1 2 77)) 2
-    ∷ eqb (among (of 33 2 77) (of 1 2 77)) 2 ∷ eqb (among (of 1 2 77) (write (status 1 77 0 0))) 1
+    ∷ eqb (among (of (suc lastViewSmall) 2 77) (of 1 2 77)) 2 ∷ eqb (among (of 1 2 77) (write (status 1 77 0 0))) 1
     -- a message of another kind is no report
     ∷ eqb (among (write (vote 2 1 77 0)) (of 1 2 77)) 2 ∷ eqb (among (of 1 2 77) (write (blame 2 0))) 1 ∷ eqb (among (write (vote 2 1 77 0)) (write (blame 2 0))) 0
     -- "if neither"
-    ∷ eqb (among [] []) 0 ∷ eqb (among [] (of 1 2 77)) 2 ∷ eqb (among (of 33 2 77) (of 34 2 77)) 0
+    ∷ eqb (among [] []) 0 ∷ eqb (among [] (of 1 2 77)) 2 ∷ eqb (among (of (suc lastViewSmall) 2 77) (of (suc (suc lastViewSmall)) 2 77)) 0
     -- the kind and n: the large limits take view 33, and no other kind or n takes anything
-    ∷ eqb (takenOf 4 3 (of 33 2 77) (of 1 2 77)) 1 ∷ eqb (takenOf 1 3 (of 1 2 77) (of 2 2 77)) 0 ∷ eqb (takenOf 0 4 (of 1 2 77) (of 2 2 77)) 0
+    ∷ eqb (takenOf 4 3 (of (suc lastViewSmall) 2 77) (of 1 2 77)) 1 ∷ eqb (takenOf 1 3 (of 1 2 77) (of 2 2 77)) 0 ∷ eqb (takenOf 0 4 (of 1 2 77) (of 2 2 77)) 0
     ∷ eqb (takenOf 0 1 (of 1 2 77) (of 2 2 77)) 0 ∷ eqb (takenOf 0 17 (of 1 2 77) (of 2 2 77)) 0 ∷ eqb (takenOf 0 15 (write (status 2 77 1 255)) (of 2 2 77)) 1
     -- which bytes of which slice
     ∷ same (chosen 0 3 (at 100 (of 1 2 77)) (at 200 (of 2 2 78))) (at 204 (drop 4 (of 2 2 78)))
     ∷ same (chosen 0 3 (at 100 (of 1 2 77)) (at 200 (of 1 2 78))) (at 104 (drop 4 (of 1 2 77)))
-    ∷ same (chosen 0 3 (at 100 (of 33 2 77)) (at 200 [])) (at 100 [])
+    ∷ same (chosen 0 3 (at 100 (of (suc lastViewSmall) 2 77)) (at 200 [])) (at 100 [])
     -- behind the bytes of kind 6, what is handed back reads as that status
     ∷ sameList (0x01 ∷ 0x00 ∷ 0x01 ∷ 0x06 ∷ chosen 0 3 (at 100 (of 1 2 77)) (at 200 (of 2 2 78)) .1) (of 2 2 78)
     ∷ []

@@ -292,7 +292,7 @@ early =
     ∷ ticks ⇒ bytes 62 ∷ hears (blame 3 1) ⇒ bytes 0 ∷ hears (blame 4 1) ⇒ refuses 11 ∷ [])
     -- after 3, 4 and 5
     ∷ goes (withPhase (stopped full) (fresh (group 0))) (hears (blame 3 1) ⇒ refuses 3 ∷ [])
-    ∷ station 0 (hearsBytes (unbe 15 0x01000107020004000000030800010E) ⇒ refuses 4 ∷ hears (blame 3 3) ⇒ refuses 5 ∷ hears (blame 33 1) ⇒ refuses 5 ∷ hears (propose 3 1 77 0 1 0) ⇒ refuses 5 ∷ [])
+    ∷ station 0 (hearsBytes (unbe 15 0x01000107020004000000030800010E) ⇒ refuses 4 ∷ hears (blame 3 3) ⇒ refuses 5 ∷ hears (blame (suc lastViewSmall) 1) ⇒ refuses 5 ∷ hears (propose 3 1 77 0 1 0) ⇒ refuses 5 ∷ [])
     -- and before 6: the station goes on
     ∷ goes (withTables [] (tallied (mostTallies small)) (fresh (group 0))) (hears (vote 3 2 9 0) ⇒ refuses 11 ∷ hears (vote 2 2 9 0) ⇒ refuses 6 ∷ [])
     ∷ []
