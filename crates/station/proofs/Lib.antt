@@ -1,6 +1,3 @@
-pub mod Answers
-pub mod Opening
-pub mod Rooms
-pub mod Steps
 pub mod Offers
-pub mod Turns
+pub mod Steps
+pub mod Ticks

@@ -14,7 +14,7 @@ use Rattle.rules.specs.Sizes.{leader, holds}
 use Rattle.rules.specs.Messages.{viewAllowed}
 use Rattle.rules.specs.Words as words
 use Rattle.rules.specs.Words.{State, inView, waiting, stopped}
-use Rattle.rules.specs.Inputs.{isIn, leads, blamesOf, votes, overdue, leadsNow, entersNow}
+use Rattle.rules.specs.Inputs.{withClock, isIn, leads, blamesOf, votes, overdue, leadsNow, entersNow}
 use Rattle.rules.proofs.Tests.{by-bool}
 use Rattle.rules.proofs.Bounds.{statements-most}
 use Rattle.settings.specs.Made.{settingsOf}
@@ -55,13 +55,19 @@ module _ (s : State) where
   unfolding leads
   leads-by q = rw q
 
-  pub leads-never : leads s ≡ false → false ≡ leadsNow s
-  unfolding leadsNow
-  leads-never q = rw q
+  -- of the leader's moment, at any clock
+  module _ (c : ℕ) where
+    pub clock-leads : leads (withClock c s) ≡ leads s
+    unfolding withClock leads isIn
+    clock-leads = refl
 
-  pub leads-at : leads s ≡ true → eqb (s .clock) (s .entry + 2 * s .settings .D + 1) ≡ leadsNow s
-  unfolding leadsNow
-  leads-at q = rw q
+    pub leads-never : leads s ≡ false → false ≡ leadsNow (withClock c s)
+    unfolding leadsNow
+    leads-never q = rw (clock-leads, q)
+
+    pub leads-then : leads s ≡ true → eqb c (s .entry + 2 * s .settings .D + 1) ≡ leadsNow (withClock c s)
+    unfolding leadsNow withClock
+    leads-then q = rw (clock-leads, q)
 
   unfoldable entersIf : words.Phase → Bool
   entersIf p = elim p [ inView ↦ false | waiting q ↦ ltb (s .view) (lastView (s .settings .size)) && eqb (s .clock) (q + s .settings .D + 1) | stopped c ↦ false ]
@@ -134,8 +140,12 @@ module _ {b : List ℕ} (k : Formed b) (s : Station) (e : Loads s b) where
   loaded-leads q l r t w =
       (λ i. eqb ((w ∙ (λ j. leader (loaded-settings s b e j) (loaded-view s b e j))) i) (part (λ g. g .own) i)) ∙ leads-by S (sym (in-own q r) ∙ t)
 
-  pub loaded-now : leads S ≡ true → eqb (s .clock) (s .entry + 2 * s .settings .delay + 1) ≡ leadsNow S
-  loaded-now h = (λ i. eqb (loaded-clock s b e i) (loaded-entry s b e i + 2 * part (λ g. g .D) i + 1)) ∙ leads-at S h
+  pub loaded-then : (c : ℕ) → leads S ≡ true → eqb c (s .entry + 2 * s .settings .delay + 1) ≡ leadsNow (withClock c S)
+  loaded-then c h = (λ i. eqb c (loaded-entry s b e i + 2 * part (λ g. g .D) i + 1)) ∙ leads-then S c h
+
+  pub loaded-now : leadsNow (withClock (s .clock) S) ≡ leadsNow S
+  unfolding withClock
+  loaded-now = ap (λ (c : ℕ). leadsNow (withClock c S)) (loaded-clock s b e)
 
   loaded-enters : entersIf S (courseOf (s .phase)) ≡ entersNow S
   loaded-enters = ap (entersIf S) (loaded-phase s b e) ∙ by-phase S

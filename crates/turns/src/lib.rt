@@ -92,17 +92,17 @@ fn is_past(clock: u32, start: u32, wait: u64) -> bool
     clock as u64 == start as u64 + wait + 1
 }
 
-// Whether it is the leader's moment to make a new-view.
-pub fn leads_now(store: &[u8]) -> bool
+// Whether a clock is the leader's moment to make a new-view.
+pub fn leads_at(store: &[u8], clock: u32) -> bool
     requires { ⌜ Formed (now store) ⌝ }
-    ensures { λ r. ⌜ r ≡ inputs.leadsNow (stateOf (now (store .entry))) ⌝ }
+    ensures { λ r. ⌜ r ≡ inputs.leadsNow (inputs.withClock clock (stateOf (now (store .entry)))) ⌝ }
 {
     if !leads(store) {
         return false;
     }
     let station = Station::load(store);
     let settings = station.settings;
-    is_past(station.clock, station.entry, 2 * settings.delay)
+    is_past(clock, station.entry, 2 * settings.delay)
 }
 
 // Whether a waiting station's wait is over.
@@ -153,7 +153,8 @@ pub fn lead(store: &mut [u8], out: &mut [u8], at: usize) -> usize
     requires { ⌜ (Formed (now store)) × (hasRoom (inputs.lead (stateOf (now store)) .now) ≡ true) × (at + 200 ≤ length (now out)) ⌝ }
     ensures { λ r. ⌜ Works (inputs.lead (stateOf (now (store .entry)))) (now (out .entry)) at (now (store .exit)) (now (out .exit)) r ⌝ }
 {
-    if !leads_now(store) {
+    let station = Station::load(store);
+    if !leads_at(store, station.clock) {
         return at;
     }
     let x = own_new_view(store);

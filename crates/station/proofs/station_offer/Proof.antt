@@ -1,6 +1,6 @@
 -- `station_offer` meets its contract, test by test in 01's order. Assumes nothing.
 use native.Mathlib.Omega.{arith}
-use Rattle.station.proofs.Opening.{barred-small}
+use Rattle.refusals.proofs.Opening.{barred-small}
 use Rattle.station.proofs.Offers.{misnamed-offer, barred-offer, offer-formed, offer-out, refused-offer, taken-sendable, taken-offer}
 use borrow.Author.Needs.{needs}
 use Rattle.station.proofs.station_offer.Statement.{statement}

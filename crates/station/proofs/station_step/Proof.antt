@@ -1,6 +1,6 @@
 -- `station_step` meets its contract, test by test in the order of 01 and 02. Assumes nothing.
 use native.Mathlib.Omega.{arith}
-use Rattle.station.proofs.Opening.{barred-small}
+use Rattle.refusals.proofs.Opening.{barred-small}
 use Rattle.station.proofs.Steps.{barred-step, step-formed, step-long, step-out, unreadable-step, forbidden-step, read-may, ahead-step, handled-step}
 use borrow.Author.Needs.{needs}
 use Rattle.station.proofs.station_step.Statement.{statement}

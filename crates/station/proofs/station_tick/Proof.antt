@@ -1,7 +1,7 @@
 -- `station_tick` meets its contract: barred, or the rules answer. Assumes nothing.
 use native.Mathlib.Omega.{arith}
-use Rattle.station.proofs.Opening.{barred-small}
-use Rattle.station.proofs.Turns.{barred-tick, tick-may, tick-gives}
+use Rattle.refusals.proofs.Opening.{barred-small}
+use Rattle.station.proofs.Ticks.{barred-tick, tick-may, tick-gives}
 use borrow.Author.Needs.{needs}
 use Rattle.station.proofs.station_tick.Statement.{statement}
 use Rattle.station.proofs.station_tick.Tie as tie

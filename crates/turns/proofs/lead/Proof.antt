@@ -1,6 +1,9 @@
 -- `turns::lead` meets its contract: the new-view is handled as a statement. Assumes nothing.
 use Rattle.turns.proofs.Leading.{now-leads, lead-never, lead-now, now-fits}
+use Rattle.turns.proofs.Moments.{loaded-now}
 use Rattle.turns.proofs.Parts.{works-still}
+use Rattle.store.proofs.Forms.{form-long}
+use native.Mathlib.Omega.{arith}
 use borrow.Author.Tests.{not-true, not-false}
 use mathlib.Core.Path.{sym, _∙_}
 use Rattle.acts.proofs.Works.{works-is}
@@ -8,30 +11,39 @@ use borrow.Author.Needs.{needs}
 use Rattle.turns.proofs.lead.Statement.{statement}
 use Rattle.turns.proofs.lead.Tie as tie
 
-leads-now-requires : tie.Need-leads-now-requires
-leads-now-requires c κs = search needs
+load-requires : tie.Need-load-requires
+load-requires c κs =
+    omega (arith, form-long _ (c .before .before .before .pre .0 .form))
+
+leads-at-requires : tie.Need-leads-at-requires
+leads-at-requires c κs = search needs
 
 same-length : tie.Need-same-length
 same-length c = search needs
 
 returns : tie.Need-returns
 returns c =
-    let args = c .before .before .before .before .before .args in
-    works-still (args .out .now) (args .at) (c .before .before .before .before .before .pre .0 .form) (lead-never _ (sym (c .before .leads-now .ensures) ∙ not-true _ (c .if1 .taken)))
+    let start = c .before .before .before .before .before .before .before in
+    let load = c .before .before .before .load in
+    let p = start .pre .0 in
+    works-still (start .args .out .now) (start .args .at) (p .form) (lead-never _ (sym (c .before .leads-at .ensures ∙ loaded-now p (load .result) (load .ensures)) ∙ not-true _ (c .if1 .taken)))
 
 own-new-view-requires : tie.Need-own-new-view-requires
 own-new-view-requires c κs =
-    (c .before .before .before .before .before .before .pre .0, now-leads _ (sym (c .before .before .leads-now .ensures) ∙ not-false _ (c .before .if1 .left)))
+    let p = c .before .before .before .before .before .before .before .before .pre .0 in
+    let load = c .before .before .before .before .load in
+    (p, now-leads _ (sym (c .before .before .leads-at .ensures ∙ loaded-now p (load .result) (load .ensures)) ∙ not-false _ (c .before .if1 .left)))
 
 planned-requires : tie.Need-planned-requires
 planned-requires c κs =
-    (c .before .before .before .before .before .before .before .before .pre .0, c .before .own-new-view .ensures .1)
+    (c .before .before .before .before .before .before .before .before .before .before .pre .0, c .before .own-new-view .ensures .1)
 
 statement-requires : tie.Need-statement-requires
 statement-requires c κs =
-    let pre = c .before .before .before .before .before .before .before .before .before .before .before .pre in
+    let pre = c .before .before .before .before .before .before .before .before .before .before .before .before .before .pre in
+    let load = c .before .before .before .before .before .before .before .before .before .load in
     let own-new-view = c .before .before .before .before .own-new-view in
-    (pre .0, own-new-view .ensures .1, now-fits _ (own-new-view .result) (sym (c .before .before .before .before .before .before .before .leads-now .ensures) ∙ not-false _ (c .before .before .before .before .before .before .if1 .left)) (own-new-view .ensures .0) ∙ pre .1, c .before .before .planned .ensures, pre .2)
+    (pre .0, own-new-view .ensures .1, now-fits _ (own-new-view .result) (sym (c .before .before .before .before .before .before .before .leads-at .ensures ∙ loaded-now (pre .0) (load .result) (load .ensures)) ∙ not-false _ (c .before .before .before .before .before .before .if1 .left)) (own-new-view .ensures .0) ∙ pre .1, c .before .before .planned .ensures, pre .2)
 
 same-length-2 : tie.Need-same-length-2
 same-length-2 c = search needs
@@ -41,14 +53,17 @@ same-length-3 c = search needs
 
 returns-2 : tie.Need-returns-2
 returns-2 c =
+    let pre = c .before .before .before .before .before .before .before .before .before .before .before .before .before .before .before .before .before .before .pre in
+    let load = c .before .before .before .before .before .before .before .before .before .before .before .before .before .before .load in
     let own-new-view = c .before .before .before .before .before .before .before .before .before .own-new-view in
-    works-is (lead-now _ (sym (c .before .before .before .before .before .before .before .before .before .before .before .before .leads-now .ensures) ∙ not-false _ (c .before .before .before .before .before .before .before .before .before .before .before .if1 .left)) (own-new-view .result) (own-new-view .ensures .0)) (c .before .before .before .before .statement .ensures)
+    works-is (lead-now _ (sym (c .before .before .before .before .before .before .before .before .before .before .before .before .leads-at .ensures ∙ loaded-now (pre .0) (load .result) (load .ensures)) ∙ not-false _ (c .before .before .before .before .before .before .before .before .before .before .before .if1 .left)) (own-new-view .result) (own-new-view .ensures .0)) (c .before .before .before .before .statement .ensures)
 
 pub lead-spec : {M : Type 1} → statement M
 lead-spec =
     tie.close
     (tie.spec
-    leads-now-requires
+    load-requires
+    leads-at-requires
     same-length
     returns
     own-new-view-requires

@@ -1,0 +1,102 @@
+-- Each kind of message as the rules handle it, and what its parts are within. Assumes nothing.
+use Prim.Native.Nat.{ℕ, _^_, _<_}
+use mathlib.Core.Path.{_≡_, sym, ap, _∙_}
+use mathlib.Core.Bool.{true}
+use mathlib.Core.List.{List}
+use mathlib.Core.Option.{none}
+use native.Mathlib.Omega.{arith}
+use lib.Pow.{pow-lt}
+use Rattle.rules.specs.Limits.{mostStations}
+use Rattle.rules.specs.Sizes.{only}
+use Rattle.rules.specs.Messages as messages
+use Rattle.rules.specs.Messages.{viewOf, viewAllowed, allowed}
+use Rattle.rules.specs.Words.{State}
+use Rattle.rules.specs.Inputs.{statement, tallied, blaming, handled}
+use Rattle.rules.specs.Refusals.{ifRoom}
+use Rattle.rules.proofs.Views.{view-message}
+use Rattle.rules.proofs.Allowed.{only-lt, mask-parts, allowed-rights}
+use Rattle.fields.specs.Names.{nameOf}
+use Rattle.fields.specs.declared.Name.{Name}
+use Rattle.kept.specs.Said.{Sendable}
+use Rattle.kept.proofs.Facts.{sizes-of}
+use Rattle.wire.specs.Meaning.{statementOf, messageOf}
+use Rattle.wire.specs.declared.Statement as code
+use Rattle.wire.specs.declared.Message.{Message}
+use Rattle.wire.specs.declared.Message.the-variants.{Stated, Vote, Blame, BlameSet, Status}
+use Rattle.words.specs.Meaning.{blockOf}
+use Rattle.store.specs.Changes.{withVoters}
+use Rattle.store.specs.Decode.{stateOf}
+use Rattle.acts.specs.Works.{Formed}
+use Rattle.acts.proofs.Works.{formed-parts}
+use Rattle.acts.proofs.Statements.{handled-stated}
+
+pub voter-small : (a : ℕ) → a < mostStations → only a < 2 ^ mostStations
+unfolding only
+voter-small a h = pow-lt h
+
+-- the view of each kind
+module _ {m : Message} where
+  pub stated-view : {x : code.Statement} → m ≡ Stated x → x .view ≡ viewOf (messageOf m)
+  unfolding messageOf statementOf
+  stated-view {x} e = sym (view-message (statementOf x none)) ∙ ap (λ (y : Message). viewOf (messageOf y)) (sym e)
+
+  pub vote-view : {v h a : ℕ} {b : Name} → m ≡ Vote v h b a → v ≡ viewOf (messageOf m)
+  unfolding messageOf viewOf
+  vote-view e = rw e
+
+  pub blame-view : {v a : ℕ} → m ≡ Blame v a → v ≡ viewOf (messageOf m)
+  unfolding messageOf viewOf
+  blame-view e = rw e
+
+  pub set-view : {v k : ℕ} → m ≡ BlameSet v k → v ≡ viewOf (messageOf m)
+  unfolding messageOf viewOf
+  set-view e = rw e
+
+  pub status-view : {h c k : ℕ} {b : Name} → m ≡ Status h b c k → 0 ≡ viewOf (messageOf m)
+  unfolding messageOf viewOf
+  status-view e = rw e
+
+module _ (s : State) {m : Message} where
+  pub stated-handled : {x : code.Statement} → m ≡ Stated x → ifRoom s (statement (statementOf x none) s) ≡ ifRoom s (handled (messageOf m) s)
+  stated-handled {x} e =
+      ap (λ (f : State → _). ifRoom s (f s)) (sym (handled-stated x)) ∙ ap (λ (y : Message). ifRoom s (handled (messageOf y) s)) (sym e)
+
+  module _ {v h : ℕ} {b : Name} where
+    pub vote-handled : {a : ℕ} → m ≡ Vote v h b a
+        → ifRoom s (tallied (withVoters (only a) (blockOf (record { view = v; height = h; name = b; mask = 0 }))) s) ≡ ifRoom s (handled (messageOf m) s)
+    unfolding handled messageOf blockOf
+    vote-handled e = rw e
+
+    pub status-handled : {k : ℕ} → m ≡ Status h b v k
+        → ifRoom s (tallied (withVoters k (blockOf (record { view = v; height = h; name = b; mask = k }))) s) ≡ ifRoom s (handled (messageOf m) s)
+    unfolding handled messageOf blockOf
+    status-handled e = rw e
+
+  pub blame-handled : {v a k : ℕ} → m ≡ Blame v a → k ≡ only a → ifRoom s (blaming v k s) ≡ ifRoom s (handled (messageOf m) s)
+  unfolding handled messageOf
+  blame-handled e q = rw (e, q)
+
+  pub set-handled : {v k : ℕ} → m ≡ BlameSet v k → ifRoom s (blaming v k s) ≡ ifRoom s (handled (messageOf m) s)
+  unfolding handled messageOf
+  set-handled e = rw e
+
+module _ {b : List ℕ} (f : Formed b) {m : Message} (d : Sendable (stateOf b .settings) (messageOf m)) where
+  allowed-as : {k : Message} → m ≡ k → allowed (stateOf b .settings) (messageOf k) ≡ true
+  allowed-as e = ap (λ (y : Message). allowed (stateOf b .settings) (messageOf y)) (sym e) ∙ d .isAllowed
+
+  pub stated-sendable : {x : code.Statement} → m ≡ Stated x → Sendable (stateOf b .settings) (messageOf (Stated x))
+  stated-sendable e = rw e at d
+
+  pub vote-author : {v h a : ℕ} {n : Name} → m ≡ Vote v h n a → a < mostStations
+  unfolding messageOf
+  vote-author {v} {h} {a} {n} e = omega (arith, allowed-rights (stateOf b .settings) (messages.vote v h (nameOf n) a) (allowed-as e) .2, sizes-of (formed-parts f .formed) .most)
+
+  pub blame-author : {v a : ℕ} → m ≡ Blame v a → (viewAllowed (stateOf b .settings) v ≡ true) × (a < mostStations) × (only a < 2 ^ stateOf b .settings .n)
+  unfolding messageOf
+  blame-author {v} {a} e =
+      let t = allowed-rights (stateOf b .settings) (messages.blame v a) (allowed-as e) in
+      (t .0, omega (arith, t .1, sizes-of (formed-parts f .formed) .most), only-lt (stateOf b .settings) a (t .1))
+
+  pub set-mask : {v k : ℕ} → m ≡ BlameSet v k → (viewAllowed (stateOf b .settings) v ≡ true) × (k < 2 ^ stateOf b .settings .n)
+  unfolding messageOf
+  set-mask {v} {k} e = let t = allowed-rights (stateOf b .settings) (messages.blameSet v k) (allowed-as e) in (t .0, mask-parts (stateOf b .settings) k (t .1) .0)

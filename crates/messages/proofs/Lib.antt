@@ -1,0 +1,2 @@
+pub mod Handling
+pub mod Rooms

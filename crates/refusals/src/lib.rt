@@ -1,0 +1,59 @@
+// What bars every call alike, and how a refusal is told.
+ghost use mathlib.Core.Path.{_≡_};
+ghost use Prim.Native.Nat.{_*_, _^_, _<_};
+ghost use Rattle.rules.specs.Refusals.{stopping, running};
+ghost use Rattle.store.specs.Decode.{stateOf, Form};
+ghost use Rattle.store.specs.Meaning.{causeOf};
+ghost use Rattle.refusals.specs.Answers.{barred, Mutely};
+use store::Cause;
+use store::Phase;
+use store::Station;
+
+// What a host is told of a refusal: its number times 2^32, and no bytes.
+pub fn refuse(number: u64) -> u64
+    requires { ⌜ number < 2 ^ 32 ⌝ }
+    ensures { λ r. ⌜ r ≡ number * 2 ^ 32 ⌝ }
+{
+    number << 32
+}
+
+// Whether a station is in a view or waiting.
+fn is_running(store: &[u8]) -> bool
+    requires { ⌜ Form (now store) ⌝ }
+    ensures { λ r. ⌜ r ≡ running (stateOf (now (store .entry))) ⌝ }
+{
+    let station = Station::load(store);
+    let phase = station.phase;
+    match phase {
+        Phase::Stopped(_) => false,
+        _ => true,
+    }
+}
+
+// What bars every call alike: 1 for the lengths, 2 for a store not well formed, 3 for a station that stopped; else 0.
+pub fn barred(store: &[u8], out: &[u8]) -> u64
+    ensures { λ r. ⌜ r ≡ barred (now (store .entry)) (now (out .entry)) ⌝ }
+{
+    if !store::is_whole(store) {
+        return 1;
+    }
+    if out.len() < store::least_out_in(store) {
+        return 1;
+    }
+    if !formed::well_formed(store) {
+        return 2;
+    }
+    if !is_running(store) {
+        return 3;
+    }
+    0
+}
+
+// The station stops for a cause.
+pub fn stop(store: &mut [u8], number: u64, cause: Cause) -> u64
+    requires { ⌜ (Form (now store)) × (number < 2 ^ 32) ⌝ }
+    ensures { λ r. ⌜ Mutely (stopping number (causeOf cause) (stateOf (now (store .entry)))) (now (store .exit)) r ⌝ }
+{
+    store::set_phase(store, Phase::Stopped(cause));
+    refuse(number)
+}

@@ -1,0 +1,287 @@
+-- A tick, in 01's order: the clock at its end, a commit that differs, no room, or its work. What decides it is known from the
+-- store before its clock moves on. Assumes nothing.
+use Prim.Native.Nat.{ℕ, suc, _+_, _-_, _*_, _≤_, _<_}
+use mathlib.Core.Path.{_≡_, refl, sym, ap, _∙_, subst}
+use mathlib.Core.Bool.{Bool, true, false, not}
+use mathlib.Core.List.{List, append-assoc}
+use mathlib.Core.Option.{none, some, Option·map, Option·some-injective}
+use native.Mathlib.Omega.{arith}
+use lib.Dec.{eqb, lit≤}
+use lib.ListN.{length, drop, length-drop}
+use borrow.Author.Tests.{eq-eqb, ne-eqb, not-true, not-false}
+use Rattle.rules.specs.Limits.{Size, small, large, mostStatements, lastClock, leastOut, mostStatementsLarge}
+use Rattle.rules.specs.Lists.{any}
+use Rattle.rules.specs.Sizes.{Settings}
+use Rattle.rules.specs.Words as words
+use Rattle.rules.specs.Words.{Statement, sameStatement, message, State, clock, split}
+use Rattle.rules.specs.Inputs.{Work, saying, _▸_, withClock, withTables, withLog, isIn, certificateJoined, stored, statement, leads, due, commits, logging, complain, leadsNow, ownNewView, lead, enter, ticked}
+use Rattle.rules.specs.Refusals.{refused, stopping, hasRoom, ifRoom, running, tick}
+use Rattle.rules.specs.WellFormed.{linked}
+use Rattle.rules.proofs.Tests.{by-bool}
+use Rattle.wire.specs.Meaning.{statementOf}
+use Rattle.wire.specs.declared.Statement as code
+use Rattle.store.specs.Layout.{sizeIn}
+use Rattle.store.specs.Decode.{stateFrom, stateOf, Left}
+use Rattle.store.specs.Meaning.{Loads}
+use Rattle.store.specs.declared.Station.{Station}
+use Rattle.store.proofs.Loaded.{loaded-settings, loaded-entry, loaded-clock}
+use Rattle.kept.specs.Parts as kept
+use Rattle.kept.proofs.Facts.{clocks-of}
+use Rattle.kept.proofs.Lengths.{bytes, reports-bytes}
+use Rattle.kept.proofs.Logs.{linked-length, proposes-length, commits-linked}
+use Rattle.kept.proofs.Phases.{clock-formed}
+use Rattle.kept.proofs.Reports.{due-stored}
+use Rattle.kept.proofs.Room.{complain-bytes, lead-bytes}
+use Rattle.kept.proofs.Ticks.{logging-keeps, complain-keeps, lead-keeps}
+use Rattle.commit.specs.Outcome.{tickLog, Gained, Committed}
+use Rattle.commit.specs.declared.Merged.{Merged}
+use Rattle.commit.specs.declared.Merged.the-variants.{Grown}
+use Rattle.acts.specs.Works.{Formed, Works}
+use Rattle.acts.proofs.Answers.{new-room}
+use Rattle.acts.proofs.Rooms.{room-made}
+use Rattle.acts.proofs.Works.{formed-parts, state-size, works-is, works-end, works-length, works-formed}
+use Rattle.turns.specs.Gains.{grownLog, Enough}
+use Rattle.turns.proofs.Leading.{now-leads, lead-never, now-fits}
+use Rattle.turns.proofs.Moments.{clock-leads}
+use Rattle.turns.proofs.Names.{grown-length, gained-log, gained-enough}
+use Rattle.turns.proofs.Parts.{left-size, works-then}
+use Rattle.turns.proofs.Room.{lead-complained, lead-logged, tick-room}
+use Rattle.refusals.specs.Answers.{Answers, Mutely}
+use Rattle.ticks.specs.Turns.{later, moving, turning}
+use Rattle.refusals.proofs.Answers.{answers-is}
+use Rattle.refusals.proofs.Stops.{room-answers, full-answers}
+
+-- what a tick says at most, part by part, fits the out buffer in both columns
+tick-enough : (z : Size) → 299 + 199 * mostStatements z ≤ leastOut z
+unfolding mostStatements leastOut
+tick-enough small = lit≤ tt
+tick-enough large = lit≤ tt
+
+-- ---- the leader's moment, one clock ahead
+
+module _ (s : State) where
+  pub later-leader : leadsNow (later s) ≡ true → leads s ≡ true
+  unfolding later
+  later-leader q = sym (clock-leads s (s .clock + 1)) ∙ now-leads (later s) q
+
+  later-view : ownNewView s ≡ ownNewView (later s)
+  unfolding later withClock ownNewView
+  later-view = refl
+
+  joined-later : (x : Statement) → hasRoom (certificateJoined x s) ≡ hasRoom (certificateJoined x (later s))
+  unfolding later withClock certificateJoined withTables hasRoom
+  joined-later x = refl
+
+  stored-later : (x : Statement) → hasRoom (stored x s) ≡ hasRoom (stored x (later s))
+  unfolding later withClock stored withTables hasRoom
+  stored-later x = refl
+
+  later-statements : later s .statements ≡ s .statements
+  unfolding later withClock
+  later-statements = refl
+
+repeated : (x : Statement) (s : State) → any (sameStatement x) (s .statements) ≡ true → hasRoom (statement x s .now) ≡ hasRoom (certificateJoined x s)
+unfolding statement saying
+repeated x s q = rw (q, statement)
+
+-- whether a statement fits is the same at every clock
+statement-later : (x : Statement) (s : State) → hasRoom (statement x s .now) ≡ hasRoom (statement x (later s) .now)
+statement-later x s =
+    let e = ap (any (sameStatement x)) (later-statements s) in
+    by-bool (any (sameStatement x) (s .statements)) (λ q. repeated x s q ∙ joined-later s x ∙ sym (repeated x (later s) (e ∙ q)))
+    (λ q. new-room x s q ∙ stored-later s x ∙ sym (new-room x (later s) (e ∙ q)))
+
+module _ {b : List ℕ} (k : Formed b) where
+  module _ (s : Station) (e : Loads s b) where
+    pub loaded-next : leadsNow (withClock (s .clock + 1) (stateOf b)) ≡ leadsNow (later (stateOf b))
+    unfolding later
+    loaded-next = ap (λ (c : ℕ). leadsNow (withClock (c + 1) (stateOf b))) (loaded-clock s b e)
+
+    pub clock-small : s .clock ≤ lastClock
+    clock-small = omega (arith, clocks-of (formed-parts k .formed) .last, loaded-clock s b e)
+
+  pub never-next : leadsNow (later (stateOf b)) ≡ false → true ≡ hasRoom (lead (later (stateOf b)) .now)
+  unfolding saying later withClock
+  never-next q =
+      let w = formed-parts k in
+      sym (ap (λ (v : Work). hasRoom (v .now)) (sym (lead-never (later (stateOf b)) q)) ∙ room-made (later (stateOf b)) (w .fewStatements) (w .fewTallies))
+
+pub fits-next : (s : State) (x : code.Statement) → leadsNow (later s) ≡ true → message (statementOf x none) ≡ ownNewView s
+    → hasRoom (statement (statementOf x none) s .now) ≡ hasRoom (lead (later s) .now)
+fits-next s x q m = statement-later (statementOf x none) s ∙ now-fits (later s) x q (m ∙ later-view s)
+
+-- ---- after the commits
+
+module _ {b b₁ o o₁ : List ℕ} {at r₁ : ℕ} (k : Formed b) (w : Works (complain (stateOf b)) o at b₁ o₁ r₁) where
+  pub complained-formed : Formed b₁
+  complained-formed = works-formed w (complain-keeps (formed-parts k .formed))
+
+  pub complained-end : (r₁ ≤ at + 37) × (length o₁ ≡ length o)
+  complained-end = (works-end w 37 (complain-bytes (stateOf b)), works-length w)
+
+  pub complained-room : hasRoom (lead (stateOf b) .now) ≡ true → hasRoom (lead (stateOf b₁) .now) ≡ true
+  complained-room h = ap (λ (s : State). hasRoom (lead s .now)) (w .left .is) ∙ lead-complained (stateOf b) ∙ h
+
+  module _ {b₂ o₂ : List ℕ} {r₂ : ℕ} (v : Works (lead (stateOf b₁)) o₁ r₁ b₂ o₂ r₂) where
+    pub led-formed : Formed b₂
+    led-formed = works-formed v (lead-keeps (formed-parts complained-formed .formed))
+
+    pub led-end : (r₂ ≤ at + 237) × (length o₂ ≡ length o)
+    led-end = (omega (arith, works-end v 200 (lead-bytes (stateOf b₁)), complained-end .0), works-length v ∙ complained-end .1)
+
+    -- the limits are the same
+    pub led-size : sizeIn b₂ ≡ sizeIn b
+    led-size =
+        let size : Settings → Size = λ y. y .size in
+        left-size (v .left) ∙ ap size (lead-keeps (formed-parts complained-formed .formed) .settings)
+        ∙ state-size b₁ ∙ left-size (w .left) ∙ ap size (complain-keeps (formed-parts k .formed) .settings) ∙ state-size b
+
+    pub moved : {b₃ o₃ : List ℕ} {r₃ : ℕ} → Works (enter (stateOf b₂)) o₂ r₂ b₃ o₃ r₃ → Works (moving (stateOf b)) o at b₃ o₃ r₃
+    unfolding moving
+    moved u = works-then enter (works-then lead w v) u
+
+-- one rule, then two others
+then-both : (w : Work) (f g : State → Work) → (w ▸ (λ s. f s ▸ g)) ≡ (w ▸ f ▸ g)
+unfolding _▸_
+then-both w f g =
+    let v = f (w .now) in
+    let u = g (v .now) in
+    let e = sym (append-assoc (w .out) (v .out) (u .out)) in
+    λ i. record { now = u .now; out = e i }
+
+then-moving : (l : List ℕ) (s : State) → logging l (later s) ▸ moving ≡ turning l s
+unfolding moving turning
+then-moving l s = let w = logging l (later s) in then-both w (λ t. complain t ▸ lead) enter ∙ ap (_▸ enter) (then-both w complain lead)
+
+-- ---- the work of a tick
+
+module _ {b t : List ℕ} {n : ℕ} (k : Formed b) (h : stateOf b .clock < lastClock) (g : Gained b t n) where
+  abbrev S : State
+  S = stateOf b
+
+  abbrev L : List ℕ
+  L = grownLog b t n
+
+  later-formed : kept.Formed (later S)
+  unfolding later
+  later-formed = clock-formed (formed-parts k .formed) h
+
+  log-linked : linked (later S .statements) 0 0 L ≡ true
+  unfolding later withClock tickLog
+  log-linked = commits-linked later-formed (due (later S)) (later S .log) L (due-stored (later S)) (g .is) (later-formed .tables .log)
+
+  pub turning-room : hasRoom (turning L S .now) ≡ hasRoom (lead (later S) .now)
+  unfolding turning
+  turning-room = tick-room later-formed L log-linked
+
+  pub turning-ticked : ticked S ≡ some (turning L S)
+  unfolding ticked turning later tickLog
+  turning-ticked = let now = withClock (S .clock + 1) S in ap (Option·map (λ l. logging l now ▸ complain ▸ lead ▸ enter)) (g .is)
+
+  log-few : length L ≤ mostStatements (sizeIn b)
+  unfolding later withClock
+  log-few =
+      omega (arith, linked-length (S .statements) L log-linked, proposes-length (S .statements), formed-parts k .fewStatements, ap mostStatements (state-size b))
+
+  gained-few : n ≤ mostStatements (sizeIn b)
+  gained-few = omega (arith, log-few, grown-length b t n (g .more))
+
+  log-short : bytes (logging L (later S) .out) ≤ 39 * mostStatements (sizeIn b)
+  unfolding logging saying later withClock
+  log-short =
+      let old = length (S .log) in
+      let a = reports-bytes (suc old) (drop old L) in
+      omega (arith, length-drop old L, log-few)
+
+  module _ {c : ℕ} {b₁ : List ℕ} (e : c ≡ S .clock + 1) (l : Left b₁ (withClock c S)) where
+    pub enough-now : {room : ℕ} → length t ≡ mostStatementsLarge → leastOut (sizeIn b) ≤ room → Enough b₁ t n 0 room
+    enough-now m p = gained-enough b b₁ t n c g l m gained-few (omega (arith, gained-few, tick-enough (sizeIn b)))
+
+    now-later : stateOf b₁ ≡ later S
+    unfolding later
+    now-later = l .is ∙ ap (λ (i : ℕ). withClock i S) e
+
+    same-log : grownLog b₁ t n ≡ L
+    same-log = Option·some-injective (grownLog b₁ t n) L (sym (gained-log b b₁ t n c g l) ∙ g .is)
+
+    module _ {b₂ o o₂ : List ℕ} {r : ℕ} (w : Works (logging (grownLog b₁ t n) (stateOf b₁)) o 0 b₂ o₂ r) where
+      logged : Works (logging L (later S)) o 0 b₂ o₂ r
+      logged = works-is (λ i. logging (same-log i) (now-later i)) w
+
+      pub logged-formed : Formed b₂
+      logged-formed = works-formed logged (logging-keeps later-formed L log-linked)
+
+      pub logged-room : hasRoom (lead (later S) .now) ≡ true → hasRoom (lead (stateOf b₂) .now) ≡ true
+      logged-room q = ap (λ (s : State). hasRoom (lead s .now)) (logged .left .is) ∙ lead-logged L (later S) ∙ q
+
+      logged-size : sizeIn b₂ ≡ sizeIn b
+      unfolding logging saying later withClock withLog stateOf stateFrom
+      logged-size = left-size (logged .left)
+
+      pub logged-space : leastOut (sizeIn b) ≤ length o → r + 299 + 160 * mostStatements (sizeIn b₂) ≤ length o₂
+      logged-space p =
+          omega (arith, works-end logged (39 * mostStatements (sizeIn b)) log-short, works-length logged, tick-enough (sizeIn b), ap mostStatements logged-size)
+
+      pub turned : {b₃ o₃ : List ℕ} {end : ℕ} → Works (moving (stateOf b₂)) o₂ r b₃ o₃ end → Works (turning L S) o 0 b₃ o₃ end
+      turned u = works-is (then-moving L S) (works-then moving logged u)
+
+-- ---- what the commits answer
+
+pub gained-by : {b t : List ℕ} {r : Merged} {n : ℕ} → Committed b t r → r ≡ Grown n → Gained b t n
+gained-by {b} {t} g e = subst (Committed b t) e g
+
+-- ---- the rule
+
+module _ (s : State) where
+  tick-stopped : running s ≡ false → tick s ≡ refused 3 s
+  unfolding tick
+  tick-stopped r = rw (r, tick)
+
+  module _ (r : running s ≡ true) where
+    tick-end : s .clock ≡ lastClock → stopping 8 clock s ≡ tick s
+    unfolding tick
+    tick-end q = rw (r, eq-eqb (s .clock) lastClock q, tick)
+
+    module _ (n : s .clock ≡ lastClock → ⊥) where
+      tick-split : ticked s ≡ none → stopping 7 split s ≡ tick s
+      unfolding tick
+      tick-split q = rw (r, ne-eqb (s .clock) lastClock n, q, tick)
+
+      tick-works : (w : Work) → ticked s ≡ some w → ifRoom s w ≡ tick s
+      unfolding tick
+      tick-works w q = rw (r, ne-eqb (s .clock) lastClock n, q, tick)
+
+ticked-none : (b : List ℕ) → tickLog b ≡ none → ticked (stateOf b) ≡ none
+unfolding ticked tickLog
+ticked-none b e = let now = withClock (stateOf b .clock + 1) (stateOf b) in ap (Option·map (λ l. logging l now ▸ complain ▸ lead ▸ enter)) e
+
+module _ {b : List ℕ} (k : Formed b) (y : running (stateOf b) ≡ true) (s : Station) (e : Loads s b) where
+  pub ends-tick : s .clock ≡ lastClock → {b′ : List ℕ} {r : ℕ} → Mutely (stopping 8 clock (stateOf b)) b′ r → Mutely (tick (stateOf b)) b′ r
+  ends-tick q a o = answers-is (tick-end (stateOf b) y (sym (loaded-clock s b e) ∙ q)) (a o)
+
+  module _ (n : s .clock ≡ lastClock → ⊥) where
+    goes-on : stateOf b .clock ≡ lastClock → ⊥
+    goes-on q = n (loaded-clock s b e ∙ q)
+
+    pub clock-left : stateOf b .clock < lastClock
+    clock-left = omega (arith, clocks-of (formed-parts k .formed) .last, goes-on)
+
+    pub splits-tick : tickLog b ≡ none → {b′ : List ℕ} {r : ℕ} → Mutely (stopping 7 split (stateOf b)) b′ r → Mutely (tick (stateOf b)) b′ r
+    splits-tick q a o = answers-is (tick-split (stateOf b) y goes-on (ticked-none b q)) (a o)
+
+    module _ {t : List ℕ} {m : ℕ} (g : Gained b t m) where
+      abbrev work : Work
+      work = turning (grownLog b t m) (stateOf b)
+
+      works-tick : ifRoom (stateOf b) work ≡ tick (stateOf b)
+      works-tick = tick-works (stateOf b) y goes-on work (turning-ticked k clock-left g)
+
+      pub full-tick : {f : Bool} → f ≡ hasRoom (lead (later (stateOf b)) .now) → not f ≡ true → {b′ : List ℕ} {r : ℕ} → Mutely (stopping 6 words.full (stateOf b)) b′ r
+          → Mutely (tick (stateOf b)) b′ r
+      full-tick {f} p d a o =
+          answers-is works-tick (full-answers (stateOf b) work (turning-room k clock-left g ∙ sym p ∙ not-true f d) a o)
+
+      pub done-tick : {f : Bool} → f ≡ hasRoom (lead (later (stateOf b)) .now) → not f ≡ false → {o b′ o′ : List ℕ} {r : ℕ} → Works work o 0 b′ o′ r
+          → Answers (tick (stateOf b)) o b′ o′ r
+      done-tick {f} p d w =
+          answers-is works-tick (room-answers (stateOf b) work (turning-room k clock-left g ∙ sym p ∙ not-false f d) w)

@@ -1,0 +1,71 @@
+// A tick of a station that runs: what decides it is known before anything is written.
+ghost use mathlib.Core.Path.{_≡_};
+ghost use mathlib.Core.Bool.{true};
+ghost use Prim.Native.Nat.{_+_, _*_, _≤_};
+ghost use lib.ListN.{length};
+ghost use Rattle.rules.specs.Limits.{mostStatements, leastOut};
+ghost use Rattle.rules.specs.Inputs as inputs;
+ghost use Rattle.rules.specs.Refusals.{hasRoom, running, tick};
+ghost use Rattle.store.specs.Layout.{sizeIn};
+ghost use Rattle.store.specs.Decode.{stateOf};
+ghost use Rattle.acts.specs.Works.{Formed, Works};
+ghost use Rattle.turns.specs.Gains.{grownLog};
+ghost use Rattle.refusals.specs.Answers.{Answers};
+ghost use Rattle.ticks.specs.Turns.{later, moving, turning, Clear};
+use commit::Merged;
+use settings::Settings;
+use store::Cause;
+use store::Station;
+
+// Whether there is room for the leader's new-view, if it makes one at the next clock.
+fn next_fits(store: &[u8]) -> bool
+    requires { ⌜ Formed (now store) ⌝ }
+    ensures { λ r. ⌜ r ≡ hasRoom (inputs.lead (later (stateOf (now (store .entry)))) .now) ⌝ }
+{
+    let station = Station::load(store);
+    if !turns::leads_at(store, station.clock + 1) {
+        return true;
+    }
+    let x = turns::own_new_view(store);
+    acts::fits(acts::planned(store, x))
+}
+
+// What follows the commits of a tick: blame, the leader's new-view, entering a view.
+fn moving(store: &mut [u8], out: &mut [u8], at: usize) -> usize
+    requires { ⌜ (Formed (now store)) × (hasRoom (inputs.lead (stateOf (now store)) .now) ≡ true) × (at + 299 + 160 * mostStatements (sizeIn (now store)) ≤ length (now out)) ⌝ }
+    ensures { λ r. ⌜ Works (moving (stateOf (now (store .entry)))) (now (out .entry)) at (now (store .exit)) (now (out .exit)) r ⌝ }
+{
+    let complained = turns::complain(store, out, at);
+    let led = turns::lead(store, out, complained);
+    let mut order = [0u16; Settings::MOST_STATEMENTS_LARGE];
+    turns::enter(store, out, led, &mut order)
+}
+
+// The clock moves on and the new log is written; then what else is due.
+fn turning(store: &mut [u8], out: &mut [u8], clock: u32, gained: &[u16], len: usize) -> usize
+    requires { ⌜ Clear (now store) (now gained) clock len (length (now out)) ⌝ }
+    ensures { λ r. ⌜ Works (turning (grownLog (now (store .entry)) (now (gained .entry)) len) (stateOf (now (store .entry)))) (now (out .entry)) 0 (now (store .exit)) (now (out .exit)) r ⌝ }
+{
+    store::set_clock(store, clock);
+    let reported = turns::logging(store, out, 0, gained, len);
+    moving(store, out, reported)
+}
+
+// A tick of a station that runs: refused before anything is written, or done.
+pub fn ticked(store: &mut [u8], out: &mut [u8]) -> u64
+    requires { ⌜ (Formed (now store)) × (running (stateOf (now store)) ≡ true) × (leastOut (sizeIn (now store)) ≤ length (now out)) ⌝ }
+    ensures { λ r. ⌜ Answers (tick (stateOf (now (store .entry)))) (now (out .entry)) (now (store .exit)) (now (out .exit)) r ⌝ }
+{
+    let station = Station::load(store);
+    if station.clock as u64 == Settings::LAST_CLOCK {
+        return refusals::stop(store, 8, Cause::Clock);
+    }
+    let mut gained = [0u16; Settings::MOST_STATEMENTS_LARGE];
+    let Merged::Grown(len) = commit::commits(store, station, &mut gained) else {
+        return refusals::stop(store, 7, Cause::Split);
+    };
+    if !next_fits(store) {
+        return refusals::stop(store, 6, Cause::Full);
+    }
+    turning(store, out, station.clock + 1, &gained, len) as u64
+}
