@@ -1,2 +1,3 @@
 pub mod Disk
 pub mod After
+pub mod Resumed

@@ -4,7 +4,7 @@ use native.Mathlib.Omega.{arith}
 use mathlib.Core.Path.{_≡_, refl, subst, sym, ap, ap₂, _∙_}
 use mathlib.Core.Bool.{true, false}
 use mathlib.Core.List.{List, [], _++_}
-use lib.ListN.{length, drop}
+use lib.ListN.{length, drop, length-append, length-drop}
 use lib.Seq.{take-at}
 use lib.Dec.{eqb, lit≤}
 use Rattle.rules.specs.Limits.{Size, small, large, leastOut, leastOutLarge}
@@ -22,6 +22,7 @@ use Rattle.kept.proofs.Outs.{step-room, offer-room, tick-room}
 use Rattle.kept.specs.Said.{Each, Sayable}
 use Rattle.kept.proofs.Lists.{each-append}
 use Rattle.kept.proofs.WellFormed.{whole}
+use Rattle.fields.specs.Places.{Bytes}
 use Rattle.agreement.specs.Schedule.{Event, idle, commonTick, tickOf, given, offeredTo, happens, settingsOf, at, out, run, IsLent, reportsIn, reported}
 use Rattle.agreement.proofs.Whole.{formed-at, settings-at, said-at}
 use Rattle.agreement.proofs.Logs.{reportsIn-append}
@@ -136,10 +137,13 @@ module _ (size : Size) (n D : ℕ) (event : ℕ → Event) (proper : (k : ℕ) �
   whole-at : (k : ℕ) → wellFormed (at size n D event i k) ≡ true
   whole-at k = whole (formed-at size n D event proper i good k)
 
+  call-on : (k : ℕ) (o : List ℕ) → leastOut size ≤ length o → calls i (event k) (encode (at size n D event i k)) o ≡ answered (happens i (event k) (at size n D event i k)) o
+  call-on k o l =
+      calls-answered i (event k) (at size n D event i k) o (proper k) (whole-at k)
+      (subst (λ (y : Settings). leastOut (y .size) ≤ length o) (sym (settings-at size n D event proper i good k)) l)
+
   call-at : (k : ℕ) → calls i (event k) (encode (at size n D event i k)) (lent i k) ≡ answered (happens i (event k) (at size n D event i k)) (lent i k)
-  call-at k =
-      calls-answered i (event k) (at size n D event i k) (lent i k) (proper k) (whole-at k)
-      (subst (λ (y : Settings). leastOut (y .size) ≤ length (lent i k)) (sym (settings-at size n D event proper i good k)) (wide k))
+  call-at k = call-on k (lent i k) (wide k)
 
   -- its store is the bytes of its state
   pub store-carried : (k : ℕ) → storeAt size n D event room lent i k ≡ encode (at size n D event i k)
@@ -148,6 +152,23 @@ module _ (size : Size) (n D : ℕ) (event : ℕ → Event) (proper : (k : ℕ) �
   store-carried (suc k) =
       ap (λ (b : List ℕ). calls i (event k) b (lent i k) .store) (store-carried k) ∙ ap (λ (c : Called). c .store) (call-at k)
       ∙ answered-store (happens i (event k) (at size n D event i k)) (lent i k)
+
+  -- its call with another out buffer of its host's: the answer is that of the rules, and the buffer keeps its length
+  pub call-with : (k : ℕ) (o : List ℕ) → leastOut size ≤ length o
+      → calls i (event k) (storeAt size n D event room lent i k) o ≡ answered (happens i (event k) (at size n D event i k)) o
+  call-with k o l = ap (λ (b : List ℕ). calls i (event k) b o) (store-carried k) ∙ call-on k o l
+
+  pub out-kept : (k : ℕ) (o : List ℕ) → leastOut size ≤ length o → length (calls i (event k) (storeAt size n D event room lent i k) o .out) ≡ length o
+  unfolding answered Fits
+  out-kept k o l =
+      let s = at size n D event i k in
+      let said = outgoing (happens i (event k) s .out) in
+      let f : length said ≤ leastOut (s .settings .size) = fits i (event k) s (whole-at k) in
+      ap (λ (c : Called). length (c .out)) (call-with k o l) ∙ length-append said (drop (length said) o)
+      ∙ omega (arith, length-drop (length said) o, f, l, ap (λ (g : Settings). leastOut (g .size)) (settings-at size n D event proper i good k))
+
+  pub bytes-at : (k : ℕ) → Bytes (storeAt size n D event room lent i k)
+  bytes-at k = subst Bytes (sym (store-carried k)) (encoded (at size n D event i k) (whole-at k) .0)
 
   pub state-carried : (k : ℕ) → stateOf (storeAt size n D event room lent i k) ≡ at size n D event i k
   state-carried k = ap stateOf (store-carried k) ∙ encoded-left (at size n D event i k) (whole-at k) .is
