@@ -44,7 +44,7 @@ fn main() -> ExitCode {
 
 fn asked() -> Result<Asked, String> {
     let seed = SystemTime::UNIX_EPOCH.elapsed().map_or(1, |time| time.as_secs());
-    let (leaders, program) = ("late,splitting,silent".into(), "proved".into());
+    let (leaders, program) = ("late,planting,silent".into(), "proved".into());
     let (size, svg, many) = (Size::Small, None, None);
     let mut asked = Asked { size, n: 7, d: 2, leaders, ticks: 88, seed, program, svg, many };
     let mut words = std::env::args().skip(1);

@@ -99,6 +99,11 @@ impl Sheet<'_> {
         self.y(station) + 26.0 + LANE * f64::from((height + LANES - 1) % LANES) + BAR / 2.0
     }
 
+    /// Where a faulty leader's block stands: rivals of one height below each other, clear of the next two heights'.
+    fn stall(&self, station: u8, height: u32, rival: usize) -> f64 {
+        self.y(station) + 28.0 + 10.5 * ((2 * (height as usize - 1) + rival) % 5) as f64
+    }
+
     fn colour(&self, height: u32, name: &Name) -> &'static str {
         BLOCKS[self.trace.rival(height, name).min(BLOCKS.len() - 1)]
     }
@@ -266,9 +271,10 @@ impl Sheet<'_> {
     fn level(&self, station: u8, message: &Message) -> f64 {
         match message {
             Message::Propose { height, name, author, .. } => {
-                let makes = *author == station && !self.trace.plan.is_sound(station);
-                let rival = if makes { self.trace.rival(*height, name) } else { 0 };
-                self.lane(station, *height) + 13.0 * rival as f64
+                match *author == station && !self.trace.plan.is_sound(station) {
+                    true => self.stall(station, *height, self.trace.rival(*height, name)),
+                    false => self.lane(station, *height),
+                }
             }
             Message::Blame { .. } | Message::BlameSet { .. } => self.y(station) + ROW - 17.0,
             _ => self.y(station) + NEW_VIEW,
@@ -386,7 +392,7 @@ impl Sheet<'_> {
             Message::Propose { height, name, .. } => {
                 let (y, colour) = (self.level(station, statement), self.colour(height, &name));
                 let style = format!(r##"fill="{colour}" stroke="#ffffff" stroke-width="1.2""##);
-                self.canvas.diamond((x, y), 6.5, &style, &meaning);
+                self.canvas.diamond((x, y), if sound { 6.5 } else { 5.5 }, &style, &meaning);
                 if !sound {
                     let font = Font { colour, ..SMALL.bold() };
                     self.canvas.text((x + 9.0, y + 3.5), font, &self.trace.label(height, &name));
@@ -398,7 +404,9 @@ impl Sheet<'_> {
                 self.canvas.diamond((x, y), 6.0, &style, &meaning);
                 let words = format!("new-view on {}", self.trace.label(height, &name));
                 let font = Font { colour: INK, ..SMALL };
-                let at = if sound { (x + 9.0, y + 3.5) } else { (x - 4.0, y - 9.0) };
+                // a sound leader's next blocks stand in other lanes
+                let lane = self.lane(station, height + LANES) + 3.5;
+                let at = if sound { (x + 9.0, lane) } else { (x - 4.0, y - 9.0) };
                 self.canvas.text(at, font, &words);
             }
             _ => {}
