@@ -1,11 +1,11 @@
--- `is_block` meets its contract: view and height as one number decide, and then the name. Assumes nothing.
+-- `lookup::is_block` meets its contract: view and height as one number decide, and then the name. Assumes nothing.
 use Rattle.fields.specs.Names.{nameOf}
 use lib.Dec.{eqb}
 use borrow.Author.Tests.{eq-eqb, ne-eqb}
 use mathlib.Core.Path.{sym, ap, _∙_}
 use borrow.Author.Needs.{needs}
-use Rattle.store.proofs.is_block.Statement.{statement}
-use Rattle.store.proofs.is_block.Tie as tie
+use Rattle.lookup.proofs.is_block.Statement.{statement}
+use Rattle.lookup.proofs.is_block.Tie as tie
 
 get-requires : tie.Need-get-requires
 get-requires c κs = search needs
