@@ -105,7 +105,7 @@ impl Settings {
         requires { ⌜ mask < 2 ^ maskBits ⌝ }
         ensures { λ r. ⌜ r ≡ quorum (settingsOf self) mask ⌝ }
     {
-        self.n / 2 < widened(u64::count_ones(mask))
+        self.n / 2 < counting::count(mask)
     }
 }
 
@@ -139,12 +139,6 @@ impl Size {
             Size::Large => Settings::MOST_TALLIES_LARGE,
         }
     }
-}
-
-fn widened(x: u32) -> u64
-    ensures { λ r. ⌜ r ≡ x ⌝ }
-{
-    x as u64
 }
 
 // The mask of one station.

@@ -9,15 +9,16 @@ use native.Mathlib.Numerals.{add-one}
 use native.Mathlib.Nat.{add-zero, zero-add}
 use lib.Dec.{eqb}
 use lib.ListN.{length}
-use borrow.Author.Tests.{eqb-true, eqb-false, eq-eqb, ne-eqb, not-true, not-false}
+use borrow.Author.Tests.{not-true, not-false}
 use Rattle.rules.specs.Lists.{iff, first, any, alter}
 use Rattle.rules.specs.Words.{Statement, sameStatement, Certificate, Tally, certificateOf, opened, sameBlock, ofBlock, grown, join}
-use Rattle.rules.proofs.Tests.{by-bool, eqb-self}
+use Rattle.rules.proofs.Tests.{eqb-self}
 use Rattle.fields.specs.Places.{number, Bytes}
 use Rattle.fields.proofs.Laws.{number-lt, number-split}
-use Rattle.fields.proofs.Differ.{digit-high, digit-low}
+use Rattle.lookup.proofs.Pairs.{same-pair}
+use Rattle.lookup.specs.Search.{seek, pick as lookup-pick, hasBlock}
 use Rattle.rules.specs.Limits.{small}
-use Rattle.store.specs.Layout.{tallyTable, statementTable, sizeIn, placeOf}
+use Rattle.store.specs.Layout.{tallySize, tallyTable, statementTable, sizeIn, placeOf}
 use Rattle.store.specs.Decode.{rows, tallyAt, tallyFor, statementAt}
 use Rattle.store.specs.Changes.{pick, firstFrom, changeAt}
 use Rattle.store.specs.declared.Found.{Found}
@@ -38,6 +39,28 @@ module _ {A : Type 0} (f : ℕ → A) (p : A → Bool) (n : ℕ) where
   pub find-next : (i : ℕ) → i < n → p (f i) ≡ false → firstFrom p i (rows f i (n - i)) ≡ firstFrom p (i + 1) (rows f (i + 1) (n - (i + 1)))
   unfolding firstFrom
   find-next i h t = rw (rows-from f i n h, t, add-one i)
+
+-- ---- by the place that `lookup` answers
+
+module _ {A : Type 0} (f : ℕ → A) (p : A → Bool) (q : ℕ → Bool) (e : (i : ℕ) → q i ≡ p (f i)) where
+  abbrev Placed : ℕ → ℕ → ℕ → Type 0
+  Placed i n j = (j < i + n → firstFrom p i (rows f i n) ≡ At j) × (i + n ≤ j → firstFrom p i (rows f i n) ≡ Nothing) × (i ≤ j)
+
+  placed : (i n : ℕ) → Placed i n (seek q i n)
+  unfolding seek firstFrom rows
+  placed i zero = ((λ h. absurd (omega arith)), (λ h. refl), omega arith)
+  placed i (suc n) = go (q i) refl (placed (suc i) n)
+    where
+      go : (b : Bool) → q i ≡ b → Placed (suc i) n (seek q (suc i) n) → Placed i (suc n) (lookup-pick b i (seek q (suc i) n))
+      go true d h = ((λ l. rw (sym (e i) ∙ d)), (λ l. absurd (omega arith)), omega arith)
+      go false d h = ((λ l. rw (sym (e i) ∙ d) (h .0 (omega arith))), (λ l. rw (sym (e i) ∙ d) (h .1 (omega arith))), omega (arith, h .2))
+
+  module _ (i end j : ℕ) (d : j ≡ seek q i (end - i)) where
+    pub placed-nowhere : end ≤ j → Nothing ≡ firstFrom p i (rows f i (end - i))
+    placed-nowhere l = let h = placed i (end - i) in sym (h .1 (rw (← d) (omega (arith, h .2, d))))
+
+    pub placed-here : j < end → At j ≡ firstFrom p i (rows f i (end - i))
+    placed-here l = let h = placed i (end - i) in sym (h .0 (rw (← d) (omega arith)) ∙ ap At (sym d))
 
 -- ---- what a find tells
 
@@ -143,16 +166,9 @@ module _ (t : Certificate) where
 
 -- ---- view and height as one number
 
-pub same-pair : (v h v′ h′ : ℕ) → h < 256 ^ 4 → h′ < 256 ^ 4 → eqb (v * 256 ^ 4 + h) (v′ * 256 ^ 4 + h′) ≡ (eqb v v′ && eqb h h′)
-same-pair v h v′ h′ l l′ =
-    by-bool (eqb v v′)
-    (λ e. by-bool (eqb h h′) (λ d. rw (eqb-true v v′ e, eqb-true h h′ d, eq-eqb (v′ * 256 ^ 4 + h′) _ refl, eq-eqb v′ v′ refl, eq-eqb h′ h′ refl))
-    (λ d. rw (e, d) (ne-eqb _ _ (λ z. eqb-false h h′ d (digit-low (256 ^ 4) v v′ h h′ l l′ z)))))
-    (λ e. rw e (ne-eqb _ _ (λ z. eqb-false v v′ e (digit-high (256 ^ 4) v v′ h h′ l l′ z))))
-
 key-splits : (b : List ℕ) → Bytes b → (at v h : ℕ) → h < 256 ^ 4 → eqb (v * 256 ^ 4 + h) (number b at 8) ≡ (eqb v (number b (at + 0) 4) && eqb h (number b (at + 4) 4))
 key-splits b k at v h l =
-    ap (eqb (v * 256 ^ 4 + h)) (number-split b at 4 4) ∙ same-pair v h (number b at 4) (number b (at + 4) 4) l (number-lt b k (at + 4) 4)
+    ap (eqb (v * 256 ^ 4 + h)) (number-split b at 4 4) ∙ same-pair (256 ^ 4) v h (number b at 4) (number b (at + 4) 4) l (number-lt b k (at + 4) 4)
     ∙ ap (λ (n : ℕ). eqb v (number b n 4) && eqb h (number b (at + 4) 4)) (sym (add-zero at))
 
 -- a tally is of the same block where key and name agree
@@ -160,6 +176,11 @@ pub block-tally : (b : List ℕ) → Bytes b → (t : Certificate) (i : ℕ) →
     → (eqb (t .view * 256 ^ 4 + t .height) (number b (placeOf tallyTable (sizeIn b) i) 8) && eqb (t .name) (number b (placeOf tallyTable (sizeIn b) i + 8) 32)) ≡ ofBlock t (tallyAt b i)
 unfolding sameBlock tallyFor
 block-tally b k t i l = ap (λ (e : Bool). e && eqb (t .name) (number b (placeOf tallyTable (sizeIn b) i + 8) 32)) (key-splits b k (placeOf tallyTable (sizeIn b) i) (t .view) (t .height) l)
+
+-- the same in the words of `lookup`, by the key and the base that the code has
+pub block-found : (b : List ℕ) → Bytes b → (t : Certificate) → t .height < 256 ^ 4 → (key base : ℕ) → key ≡ t .view * 256 ^ 4 + t .height → base ≡ (tallyTable .base) (sizeIn b)
+    → (i : ℕ) → hasBlock b key (t .name) (base + tallySize * i) ≡ ofBlock t (tallyAt b i)
+block-found b k t l key base d e i = rw (d, e) (block-tally b k t i l)
 
 -- ---- the same statement
 

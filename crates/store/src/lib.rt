@@ -462,34 +462,18 @@ fn key_of(view: u32, height: u32) -> u64
     (view as u64) * 4_294_967_296 + height as u64
 }
 
-// Whether the record at a place is of this block; its name is looked at only where view and height agree.
-fn is_block(store: &[u8], at: usize, key: u64, name: Name) -> bool
-    requires { ⌜ at + 40 ≤ length (now store) ⌝ }
-    ensures { λ r. ⌜ r ≡ (eqb key (number (now (store .entry)) at 8) && eqb (nameOf name) (number (now (store .entry)) (at + 8) 32)) ⌝ }
-{
-    if key != fields::get(store, at, 8) {
-        return false;
-    }
-    name.same(fields::get_name(store, at + NAME))
-}
-
-// The place of the first tally of this block, from one place up to another. Where the tallies begin is asked once.
+// The place of the first tally of this block, from one place up to another.
 pub fn seek_tally(store: &[u8], from: usize, end: usize, block: Certificate) -> Found
     requires { ⌜ (length (now store) ≡ storeLength (sizeIn (now store))) × (end ≤ mostTallies (sizeIn (now store))) ⌝ }
     ensures { λ r. ⌜ r ≡ firstFrom (ofBlock (blockOf block)) from (rows (tallyAt (now (store .entry))) from (end - from)) ⌝ }
 {
     let base = tallies_in(store);
     let key = key_of(block.view, block.height);
-    let mut i = from;
-    loop {
-        if end <= i {
-            break Found::Nothing;
-        }
-        if is_block(store, base + TALLY_SIZE * i, key, block.name) {
-            break Found::At(i);
-        }
-        i += 1;
+    let i = lookup::first(store, base, TALLY_SIZE, from, end, key, block.name);
+    if end <= i {
+        return Found::Nothing;
     }
+    Found::At(i)
 }
 
 // The place of the first tally of this block.
@@ -507,7 +491,7 @@ pub fn is_statement(store: &[u8], i: usize, statement: Statement) -> bool
     ensures { λ r. ⌜ r ≡ sameStatement (statementOf statement none) (statementAt (now (store .entry)) i) ⌝ }
 {
     let key = key_of(statement.view, statement.height);
-    if !is_block(store, STATEMENTS + STATEMENT_SIZE * i, key, statement.name) {
+    if !lookup::is_block(store, STATEMENTS + STATEMENT_SIZE * i, key, statement.name) {
         return false;
     }
     let other = statement_at(store, i);

@@ -1,20 +1,17 @@
-use Rattle.rules.proofs.Masks.{count-ones}
-use Rattle.rules.specs.Sizes.{quorum, count}
-use lib.Count.{ones}
+use Rattle.rules.specs.Sizes.{quorum}
 use lib.Dec.{ltb}
-use Prim.Native.Nat.{ℕ, _/_}
-use mathlib.Core.Path.{ap, sym, _∙_}
+use Prim.Native.Nat.{_/_}
+use mathlib.Core.Path.{ap}
 use borrow.Author.Needs.{needs}
 use Rattle.settings.proofs.Settings.quorum.Statement.{statement}
 use Rattle.settings.proofs.Settings.quorum.Tie as tie
 
-widened-requires : tie.Need-widened-requires
-widened-requires c κs = search needs
+count-requires : tie.Need-count-requires
+count-requires c κs = search needs
 
 returns : tie.Need-returns
 unfolding quorum
-returns c =
-    ap (ltb (c .before .before .args .self .n / 2)) (c .widened .ensures ∙ sym (count-ones (c .before .before .args .mask) (c .before .before .pre)))
+returns c = ap (ltb (c .before .before .args .self .n / 2)) (c .count .ensures)
 
 pub quorum-spec : {M : Type 1} → statement M
-quorum-spec = tie.close (tie.spec widened-requires returns)
+quorum-spec = tie.close (tie.spec count-requires returns)

@@ -1,0 +1,4 @@
+pub mod Pairs
+pub mod Seeks
+pub mod Turns
+pub mod Marks
