@@ -2,6 +2,7 @@ pub mod Lists
 pub mod WellFormed
 pub mod Sendable
 pub mod Tallies
+pub mod Openers
 pub mod Statements
 pub mod Recorded
 pub mod Tables

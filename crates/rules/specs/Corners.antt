@@ -239,7 +239,7 @@ entries =
 -- tallies of k names; a chain of k blocks of view 2, the highest first, for a station in view 1
 tallied : ℕ → List Tally
 tallied zero = []
-tallied (suc k) = record { view = 1; height = 1; name = suc k; mask = 1 } ∷ tallied k
+tallied (suc k) = record { view = 1; height = 1; name = suc k; mask = 1; opener = none } ∷ tallied k
 
 many : ℕ → List Line
 many zero = []
@@ -304,7 +304,7 @@ said : Bool → ℕ → ℕ → ℕ → ℕ → ℕ → Option ℕ → Statement
 said k v h b l a c = record { isNewView = k; view = v; height = h; name = b; link = l; mask = 3; author = a; voted = c }
 
 tally : ℕ → ℕ → ℕ → ℕ → Tally
-tally v h b m = record { view = v; height = h; name = b; mask = m }
+tally v h b m = record { view = v; height = h; name = b; mask = m; opener = none }
 
 lower : Statement
 lower = said false 1 1 77 0 1 (some 4)

@@ -44,7 +44,7 @@ impl Settings {
 
     pub const MOST_STATEMENTS_LARGE: usize = 512;
 
-    pub const MOST_TALLIES: usize = 256;
+    pub const MOST_TALLIES: usize = 512;
 
     pub const MOST_TALLIES_LARGE: usize = 1_024;
 
