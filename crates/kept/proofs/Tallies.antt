@@ -6,14 +6,14 @@ use native.Mathlib.Omega.{arith}
 use mathlib.Core.Bool.{true, false, not}
 use mathlib.Core.List.{List, [], _∷_}
 use lib.Dec.{ltb, eqb, lit≤}
-use mathlib.Core.Option.{none, some}
+use mathlib.Core.Option.{none, some, Option·some-injective}
 use borrow.Author.Tests.{not-true, eqb-true, eqb-false, eq-eqb, ltb-true, lt-ltb}
 use Rattle.rules.specs.Lists.{any, all, distinct}
 use Rattle.rules.specs.Sizes.{Settings, only, bit, holds, joined}
 use Rattle.rules.specs.Messages.{viewAllowed, blockAllowed, certificateAllowed}
 use Rattle.rules.specs.Words.{Certificate, Opener, Tally, certificateOf, opened, ofBlock, sameBlock, grown, join, joinCertificate, voters, highest, State}
 use Rattle.rules.specs.WellFormed.{isName, isMask, lockGood, openerGood, tallyGood, sameTally}
-use Rattle.rules.proofs.Tests.{by-bool, no-bool, eqb-self}
+use Rattle.rules.proofs.Tests.{by-bool, no-bool, no-some, eqb-self}
 use Rattle.rules.proofs.Masks.{joined-lt, joined-left}
 use Rattle.rules.proofs.Truths.{and-2, and-4, and-5, both, eqb-sym}
 use Rattle.rules.proofs.Tallies.{only-bit, block-cong, voters-tally, highest-tally}
@@ -45,6 +45,11 @@ unfolding openerGood holds
 opener-grown g m l none e = refl
 opener-grown g m l (some a) e =
     let p = and-2 (ltb a (g .n)) (holds m a) e in both (p .0) (eq-eqb (bit (joined m l) a) 1 (joined-left m l a (eqb-true (bit m a) 1 (p .1))))
+
+pub opener-lt : (g : Settings) (m : ℕ) (k : Opener) (a : ℕ) → openerGood g m k ≡ true → k ≡ some a → a < g .n
+unfolding openerGood
+opener-lt g m none a e q = no-some q
+opener-lt g m (some b) a e q = rw (← Option·some-injective b a q) (ltb-true b (g .n) (and-2 (ltb b (g .n)) (holds m b) e .0))
 
 -- who opens a tally by a vote is its voter
 pub opener-only : (g : Settings) (a : ℕ) → a < g .n → openerGood g (only a) (some a) ≡ true

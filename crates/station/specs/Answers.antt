@@ -6,7 +6,8 @@ use mathlib.Core.List.{List}
 use lib.ListN.{length}
 use lib.Dec.{leb, eqb}
 use Rattle.rules.specs.Limits.{leastOut, lastView, mostStatements, mostTallies}
-use Rattle.rules.specs.Messages.{outgoing}
+use Rattle.rules.specs.Messages.{Message, vote, outgoing}
+use Rattle.rules.specs.Words.{Certificate}
 use Rattle.rules.specs.Refusals.{Outcome, running, result}
 use Rattle.rules.specs.WellFormed.{wellFormed}
 use Rattle.outgoing.specs.Wrote.{wrote}
@@ -21,6 +22,10 @@ barred b o =
       | false ↦ 1
       | true ↦ elim (hasForm b && wellFormed (stateOf b)) [ false ↦ 2 | true ↦ elim (running (stateOf b)) [ false ↦ 3 | true ↦ 0 ] ]
     ]
+
+-- an author's vote for a block
+abbrev pub voteFor : Certificate → ℕ → Message
+voteFor t a = vote (t .view) (t .height) (t .name) a
 
 -- an outcome: the store holds what is left, its words are written from the start on, and the result is what a host is told
 pub record Answers (x : Outcome) (o b′ o′ : List ℕ) (r : ℕ) : Type 0 where

@@ -5,25 +5,26 @@ ghost use mathlib.Core.Option.{none};
 ghost use Prim.Native.Nat.{_+_, _*_, _^_, _≤_, _<_};
 ghost use lib.ListN.{length};
 ghost use lib.Dec.{ltb};
-ghost use Rattle.rules.specs.Limits.{mostStations, mostStatements, leastOut};
+ghost use Rattle.rules.specs.Limits.{mostStations, maskBits, mostStatements, leastOut};
 ghost use Rattle.rules.specs.Sizes.{only};
 ghost use Rattle.rules.specs.Messages.{viewOf, viewAllowed};
 ghost use Rattle.rules.specs.Words.{message as said};
 ghost use Rattle.rules.specs.Inputs as inputs;
-ghost use Rattle.rules.specs.Refusals.{stopping, hasRoom, ifRoom, running, tick};
+ghost use Rattle.rules.specs.Refusals.{stopping, hasRoom, ifRoom, running, heard, tick};
 ghost use Rattle.fields.specs.Names.{nameOf};
 ghost use Rattle.wire.specs.Meaning.{statementOf, messageOf};
 ghost use Rattle.store.specs.Layout.{sizeIn};
-ghost use Rattle.store.specs.Decode.{stateOf, Form};
+ghost use Rattle.store.specs.Decode.{tallies, stateOf, Form};
 ghost use Rattle.store.specs.Fresh.{answer, freshly};
 ghost use Rattle.store.specs.Changes.{withVoters};
-ghost use Rattle.store.specs.Meaning.{causeOf, votersOf, Numbered};
+ghost use Rattle.store.specs.Meaning.{causeOf, votersOf, authorOf, Numbered};
 ghost use Rattle.kept.specs.Said.{Sendable};
 ghost use Rattle.words.specs.Meaning.{blockOf};
 ghost use Rattle.calls.specs.Calls.{stepCalled, offerCalled, tickCalled, Gives};
 ghost use Rattle.acts.specs.Works.{Formed, Works};
+ghost use Rattle.acts.specs.Plans.{certifiedAt};
 ghost use Rattle.turns.specs.Gains.{grownLog};
-ghost use Rattle.station.specs.Answers.{barred, Answers, Mutely};
+ghost use Rattle.station.specs.Answers.{barred, voteFor, Answers, Mutely};
 ghost use Rattle.station.specs.Offers.{offerOf, mayOffer, extension};
 ghost use Rattle.station.specs.Turns.{later, moving, turning, Ready};
 use commit::Merged;
@@ -174,15 +175,27 @@ fn stated(store: &mut [u8], out: &mut [u8], x: Statement) -> u64
     acts::statement(store, out, 0, x, plan) as u64
 }
 
-// A vote or a status: whoever joins the tally of a block.
-fn counted(store: &mut [u8], block: Certificate, voters: Voters) -> u64
-    requires { ⌜ (Form (now store)) × (Numbered voters) ⌝ }
-    ensures { λ r. ⌜ Mutely (ifRoom (stateOf (now (store .entry))) (inputs.tallied (withVoters (votersOf voters) (blockOf block)) (stateOf (now (store .entry))))) (now (store .exit)) r ⌝ }
+// A vote or a status: whoever joins the tally of a block, as it was found.
+fn counted(store: &mut [u8], block: Certificate, place: Found, voters: Voters) -> u64
+    requires { ⌜ (Form (now store)) × (place ≡ certifiedAt (blockOf block) (tallies (now store))) × (Numbered voters) ⌝ }
+    ensures { λ r. ⌜ Mutely (ifRoom (stateOf (now (store .entry))) (inputs.tallied (authorOf voters) (withVoters (votersOf voters) (blockOf block)) (stateOf (now (store .entry))))) (now (store .exit)) r ⌝ }
 {
-    if !acts::tallied(store, block, voters) {
+    if !acts::tallied(store, block, place, voters) {
         return stop(store, 6, Cause::Full);
     }
     0
+}
+
+// A vote for a block: refused where its author would open one tally too many.
+fn voted(store: &mut [u8], block: Certificate, author: u64) -> u64
+    requires { ⌜ (Form (now store)) × (blockOf block .view ≡ 0 → ⊥) × (author < maskBits) ⌝ }
+    ensures { λ r. ⌜ Mutely (heard (voteFor (blockOf block) author) (stateOf (now (store .entry)))) (now (store .exit)) r ⌝ }
+{
+    let place = acts::find_certificate(store, block);
+    if acts::used_up(store, place, author) {
+        return refuse(12);
+    }
+    counted(store, block, place, Voters::One(author))
 }
 
 // A blame or a blame set.
@@ -204,7 +217,7 @@ fn voter(author: u8) -> u16
 // A message that is allowed, by its kind.
 fn handled(store: &mut [u8], out: &mut [u8], message: Message) -> u64
     requires { ⌜ (Formed (now store)) × (Sendable (stateOf (now store) .settings) (messageOf message)) × (200 ≤ length (now out)) ⌝ }
-    ensures { λ r. ⌜ Answers (ifRoom (stateOf (now (store .entry))) (inputs.handled (messageOf message) (stateOf (now (store .entry))))) (now (out .entry)) (now (store .exit)) (now (out .exit)) r ⌝ }
+    ensures { λ r. ⌜ Answers (heard (messageOf message) (stateOf (now (store .entry)))) (now (out .entry)) (now (store .exit)) (now (out .exit)) r ⌝ }
 {
     match message {
         Message::Stated(x) => stated(store, out, x),
@@ -220,7 +233,7 @@ fn handled(store: &mut [u8], out: &mut [u8], message: Message) -> u64
                 name,
                 mask: 0,
             };
-            counted(store, block, Voters::One(author as u64))
+            voted(store, block, author as u64)
         }
         Message::Blame { view, author } => {
             let mask = voter(author);
@@ -239,7 +252,8 @@ fn handled(store: &mut [u8], out: &mut [u8], message: Message) -> u64
                 name,
                 mask,
             };
-            counted(store, block, Voters::Mask(mask))
+            let place = acts::find_certificate(store, block);
+            counted(store, block, place, Voters::Mask(mask))
         }
     }
 }
