@@ -14,7 +14,7 @@ use Rattle.acts.proofs.tallied.Tie as tie
 
 load-requires : tie.Need-load-requires
 load-requires c κs =
-    omega (arith, form-long _ (c .before .before .before .before .pre .0))
+    omega (arith, form-long _ (c .before .before .pre .0))
 
 most-tallies-in-requires : tie.Need-most-tallies-in-requires
 most-tallies-in-requires c κs = search needs
@@ -24,7 +24,7 @@ needed-requires c κs = search needs
 
 add-if1 : tie.Need-add-if1
 add-if1 c =
-    let start = c .before .before .before .before .before .before .before .before .before in
+    let start = c .before .before .before .before .before .before .before in
     let load = c .before .before .before .before .load in
     omega (arith, loaded-tallies (load .result) (start .args .store .now) (load .ensures), form-tallies _ (start .pre .0), c .before .needed .ensures, needed-few (blockOf (start .args .block)) (start .args .place))
 
@@ -33,13 +33,13 @@ same-length c = search needs
 
 returns : tie.Need-returns
 returns c =
-    let start = c .before .before .before .before .before .before .before .before .before .before in
+    let start = c .before .before .before .before .before .before .before .before in
     let load = c .before .before .before .before .before .load in
     tallied-full (start .pre .0) (authorOf (start .args .voters)) (blockOf (start .args .block)) (votersOf (start .args .voters)) (start .args .place) (start .pre .1) _ (ap₂ _+_ (loaded-tallies (load .result) (start .args .store .now) (load .ensures)) (c .before .before .needed .ensures)) (omega (arith, c .if1 .taken, c .before .before .before .most-tallies-in .ensures))
 
 join-certified-requires : tie.Need-join-certified-requires
 join-certified-requires c κs =
-    let start = c .before .before .before .before .before .before .before .before .before .before .before in
+    let start = c .before .before .before .before .before .before .before .before .before in
     let load = c .before .before .before .before .before .before .load in
     (start .pre .0, tallied-fits (start .pre .0) (authorOf (start .args .voters)) (blockOf (start .args .block)) (votersOf (start .args .voters)) (start .args .place) (start .pre .1) _ (ap₂ _+_ (loaded-tallies (load .result) (start .args .store .now) (load .ensures)) (c .before .before .before .needed .ensures)) (omega (arith, c .before .if1 .left, c .before .before .before .before .most-tallies-in .ensures)), start .pre .1, start .pre .2)
 
@@ -48,7 +48,7 @@ same-length-2 c = search needs
 
 returns-2 : tie.Need-returns-2
 returns-2 c =
-    let start = c .before .before .before .before .before .before .before .before .before .before .before .before .before .before in
+    let start = c .before .before .before .before .before .before .before .before .before .before .before .before in
     let load = c .before .before .before .before .before .before .before .before .before .load in
     tallied-done (start .pre .0) (authorOf (start .args .voters)) (blockOf (start .args .block)) (votersOf (start .args .voters)) (start .args .place) (start .pre .1) _ (ap₂ _+_ (loaded-tallies (load .result) (start .args .store .now) (load .ensures)) (c .before .before .before .before .before .before .needed .ensures)) (omega (arith, c .before .before .before .before .if1 .left, c .before .before .before .before .before .before .before .most-tallies-in .ensures)) (c .before .before .join-certified .ensures)
 
