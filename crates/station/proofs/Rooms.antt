@@ -5,7 +5,7 @@ use mathlib.Core.Bool.{Bool, true, false, _&&_}
 use mathlib.Core.List.{List}
 use borrow.Author.Tests.{le-leb}
 use Rattle.rules.specs.Limits.{mostStatements, mostTallies}
-use Rattle.rules.specs.Words.{State, full, Certificate}
+use Rattle.rules.specs.Words.{State, full, Certificate, Opener}
 use Rattle.rules.specs.Inputs.{Work, saying, withPhase, withBlames, isIn, quit, blamed, blameFull, blaming, tallied}
 use Rattle.rules.specs.Refusals.{done, stopping, hasRoom, ifRoom, result}
 use Rattle.rules.proofs.Tests.{by-bool}
