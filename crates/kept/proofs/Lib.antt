@@ -20,3 +20,4 @@ pub mod Ticking
 pub mod Outs
 pub mod Facts
 pub mod Largest
+pub mod Neighbours
