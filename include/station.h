@@ -18,9 +18,10 @@
  *    9  offer not to be taken                                                                nothing changes
  *   10  bad settings for a fresh store                                                       nothing changes
  *   11  message more than one view ahead of the view held or last quit                       nothing changes
+ *   12  vote that would open a tally, by an author who has opened 16                         nothing changes
  *   13  journal: no slot left, no input, or a slot that stops a replay                       see the journal's calls
  *
- * Order: 1, 2, 3, then 4, 5, 11, 6 for messages; 9, 6 for offers; 8, 7, 6 for ticks. A fresh store: 1, then 10. The display:
+ * Order: 1, 2, 3, then 4, 5, 11, 12, 6 for messages; 9, 6 for offers; 8, 7, 6 for ticks. A fresh store: 1, then 10. The display:
  * 1, then 2.
  */
 #ifndef STATION_H
@@ -30,17 +31,17 @@
 #include <stdint.h>
 
 /* A store has one of two exact lengths, and its length says which limits its station goes by; the out buffer lent with it
- * has at least the length beside it. The small store has room for 32 views, 128 statements and 256 tallies, the large one
+ * has at least the length beside it. The small store has room for 32 views, 128 statements and 512 tallies, the large one
  * for 256 views, 512 statements and 1,024 tallies. Take the small one where that is enough for a group's life: each call
  * looks at the whole store. All stations of one group have the same length. */
-#define STATION_STORE_LENGTH 25220
+#define STATION_STORE_LENGTH 36484
 #define STATION_OUT_LENGTH 32768
-#define STATION_STORE_LENGTH_LARGE 100932
+#define STATION_STORE_LENGTH_LARGE 101956
 #define STATION_OUT_LENGTH_LARGE 131072
 
 /* Where the log's names begin in a store, 32 bytes each, from height 1 on; bytes 66 and 67 say how many there are. */
-#define STATION_LOG 21124
-#define STATION_LOG_LARGE 84548
+#define STATION_LOG 32388
+#define STATION_LOG_LARGE 85572
 
 /* The length of a journal's slot, and the least length of a replay's report for so many slots. */
 #define JOURNAL_SLOT_LENGTH 128
@@ -57,7 +58,7 @@ extern "C" {
  * ticks, 1 to 10,000; own, this station's number, below n. Answers 0, or refusal 1 or 10. */
 uint64_t station_fresh(uint8_t *store, size_t store_len, uint64_t n, uint64_t d, uint64_t own);
 
-/* Hands the station one message whose signatures the host has checked. Refusals 1 to 6 and 11. */
+/* Hands the station one message whose signatures the host has checked. Refusals 1 to 6, 11 and 12. */
 uint64_t station_step(uint8_t *store, size_t store_len, const uint8_t *message, size_t message_len, uint8_t *out, size_t out_len);
 
 /* One tick of the clock. Refusals 1, 2, 3, 6, 7 and 8. */

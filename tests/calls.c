@@ -53,6 +53,12 @@ static uint64_t vote(uint32_t view, uint32_t height, uint32_t name, uint32_t aut
     return station_step(store, row->store, sent, message(sent, 3, 4, f), out, row->out);
 }
 
+static uint64_t status(uint32_t view, uint32_t height, uint32_t name, uint32_t mask)
+{
+    const uint32_t f[][2] = { { 3, height }, { 4, name }, { 6, view }, { 7, mask } };
+    return station_step(store, row->store, sent, message(sent, 6, 4, f), out, row->out);
+}
+
 static uint64_t blame_set(uint32_t view, uint32_t mask)
 {
     const uint32_t f[][2] = { { 2, view }, { 7, mask } };
@@ -152,6 +158,24 @@ static void not_well_formed(void) /* 2 */
     }
 }
 
+static void authors(void) /* 12: an author's seventeenth tally, after 5 and 11 and before 6 */
+{
+    fresh(2);
+    for (uint32_t i = 0; i < 16; i++)
+        EXPECT(vote(1, 1, i + 1, 0) == 0);
+    keep();
+    EXPECT(vote(1, 1, 17, 0) == refusal(12) && vote(2, 1, 17, 0) == refusal(12));
+    EXPECT(vote(3, 1, 17, 0) == refusal(11) && vote(0, 1, 17, 0) == refusal(5));
+    EXPECT(untouched());
+    EXPECT(vote(1, 1, 16, 0) == 0 && vote(1, 1, 17, 1) == 0 && vote(1, 1, 17, 0) == 0);
+    for (uint32_t i = 17; i < row->tallies; i++)
+        EXPECT(status(1, 1, i + 1, 3) == 0);
+    keep();
+    EXPECT(vote(1, 1, row->tallies + 1, 0) == refusal(12));
+    EXPECT(untouched());
+    EXPECT(vote(1, 1, row->tallies + 1, 1) == refusal(6));
+}
+
 static void messages(void) /* 4, 5, 11, then 0 */
 {
     fresh(2);
@@ -185,7 +209,7 @@ static void full_tallies(void)
 {
     fresh(0);
     for (uint32_t i = 0; i < row->tallies; i++)
-        EXPECT(vote(1, 1, i + 1, 0) == 0);
+        EXPECT(status(1, 1, i + 1, 3) == 0);
     EXPECT(vote(1, 1, row->tallies, 1) == 0);
     keep();
     stops_full(vote(1, 1, row->tallies + 1, 0));
@@ -287,6 +311,7 @@ static void every(void)
     not_well_formed();
     messages();
     full_tallies();
+    authors();
     full_statements();
     last_view();
     split();

@@ -11,7 +11,7 @@ struct row {
 };
 
 static const struct row rows[] = {
-    { "small", STATION_STORE_LENGTH, STATION_OUT_LENGTH, STATION_LOG, 32, 128, 256 },
+    { "small", STATION_STORE_LENGTH, STATION_OUT_LENGTH, STATION_LOG, 32, 128, 512 },
     { "large", STATION_STORE_LENGTH_LARGE, STATION_OUT_LENGTH_LARGE, STATION_LOG_LARGE, 256, 512, 1024 },
 };
 

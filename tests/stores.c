@@ -5,7 +5,7 @@
 
 #include "rows.h"
 
-enum { STATEMENTS = 68, STATEMENT = 80, TALLY = 42, MASK = 2, NAME = 32 };
+enum { STATEMENTS = 68, STATEMENT = 80, TALLY = 43, MASK = 2, NAME = 32 };
 
 static uint8_t good[STATION_STORE_LENGTH_LARGE + 1], store[sizeof good], kept[sizeof good];
 static uint8_t out[STATION_OUT_LENGTH_LARGE];
@@ -61,6 +61,15 @@ static void tally(int i, uint64_t view, uint64_t height, uint64_t name, int mask
     put(at + 40, 2, (uint64_t)mask);
 }
 
+/* tallies 3 to 2 + count, each opened by station 0 */
+static void opened(int count)
+{
+    for (int i = 3; i < 3 + count; i++) {
+        tally(i, 1, 1, 1000 + (uint64_t)i, 1);
+        put(tallies + TALLY * (size_t)i + 42, 1, 1);
+    }
+}
+
 static void counts(uint64_t statements, uint64_t tallied, uint64_t logged)
 {
     put(62, 2, statements);
@@ -112,6 +121,11 @@ static void every(void)
     put(20, 4, 1), put(24, 4, 1), put(52, 8, 77), put(60, 2, 3), bad("lock of the view itself");
     put(60, 2, 1), bad("lock on genesis with a mask");
     put(tallies + 40, 2, 0xb), bad("tally with a mask bit at n");
+    put(tallies + 42, 1, 2), answers(4, row->store, "a tally opened by one of its voters");
+    put(tallies + 42, 1, 3), bad("a tally opened by a station that is no voter of it");
+    put(tallies + 42, 1, 4), bad("a tally opened by station n");
+    opened(16), counts(2, 19, 1), answers(4, row->store, "sixteen tallies of one author");
+    opened(17), counts(2, 20, 1), bad("seventeen tallies of one author");
     put(blames, 2, 8), bad("blame mask with a bit at n");
     put(names - 2, 2, 8), bad("blame mask of the last view with a bit at n");
     statement(2, 1, 1, 77, 2, 1, 5, 0, 0), counts(3, 3, 1), bad("a statement twice");

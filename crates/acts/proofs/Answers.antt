@@ -83,7 +83,7 @@ module _ (x : Statement) (s : State) where
 
   stored-own : any (ofBlock (ownBlock x 0)) (stored x s .tallies) ≡ true
   unfolding stored withTables
-  stored-own = join-there (ownBlock x 0) (ownBlock x 0) (joinCertificate (certificate x) (s .tallies)) (block-self (ownBlock x 0))
+  stored-own = join-there none (ownBlock x 0) (ownBlock x 0) (joinCertificate none (certificate x) (s .tallies)) (block-self (ownBlock x 0))
 
   module _ (n : any (sameStatement x) (s .statements) ≡ false) where
     pub statement-new : statement x s ≡ answered x (stored x s)

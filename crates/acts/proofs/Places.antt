@@ -11,7 +11,7 @@ use borrow.Author.Tests.{not-true}
 use Rattle.rules.specs.Limits.{mostTallies}
 use Rattle.rules.specs.Lists.{any, distinct, alter}
 use Rattle.rules.specs.Sizes.{Settings, only}
-use Rattle.rules.specs.Words.{Statement, message, sameStatement, Certificate, Tally, ownBlock, sameBlock, ofBlock, join, State}
+use Rattle.rules.specs.Words.{Statement, message, sameStatement, Certificate, Opener, Tally, ownBlock, sameBlock, ofBlock, join, State}
 use Rattle.rules.specs.Inputs.{withTables, noted, votedFor}
 use Rattle.rules.specs.WellFormed.{statementGood, talliesThere}
 use Rattle.rules.proofs.Tests.{by-bool, no-bool}
@@ -33,7 +33,7 @@ use Rattle.words.proofs.Statements.{same-unvoted, certifies-allowed}
 use Rattle.acts.specs.Works.{Formed}
 use Rattle.acts.specs.Answers.{Stands}
 use Rattle.acts.proofs.Works.{formed-parts, left-then}
-use Rattle.acts.proofs.Rooms.{same-cong, own-any, there-length}
+use Rattle.acts.proofs.Rooms.{same-cong, own-any, there-length, there-same}
 use Rattle.acts.proofs.Answers.{same-self}
 
 -- ---- records that differ
@@ -129,24 +129,27 @@ module _ {b : List ℕ} (k : Formed b) {i : ℕ} {x : code.Statement} (t : Stand
       own-any X m (stateOf b .tallies) ∙ ap (λ (u : Certificate). any (ofBlock u) (stateOf b .tallies)) (sym e) ∙ h
 
   -- its vote is noted and joined
-  pub place-voted : {b₁ b₂ : List ℕ} (c : ℕ) (u : Certificate) → c ≡ stateOf b .clock → u ≡ ownBlock X (only (stateOf b .settings .own)) → Left b₁ (noting i c (stateOf b))
-      → Left b₂ (joining u (stateOf b₁)) → Left b₂ (votedFor X (stateOf b))
+  pub place-voted : {b₁ b₂ : List ℕ} (o : Opener) (c : ℕ) (u : Certificate) → c ≡ stateOf b .clock → u ≡ ownBlock X (only (stateOf b .settings .own)) → Left b₁ (noting i c (stateOf b))
+      → Left b₂ (joining o u (stateOf b₁)) → Left b₂ (votedFor X (stateOf b))
   unfolding joining noting votedFor withTables
-  place-voted c u d e l m =
+  place-voted o c u d e l m =
       let s = stateOf b in
       let a = alter-found (sameStatement X) (noted c) (s .statements) i place-first in
-      left-then (joining u) l m (λ j. withTables ((sym a ∙ ap (λ (n : ℕ). alter (sameStatement X) (noted n) (s .statements)) d) j) (join (e j) (s .tallies)) s)
+      let own = only (s .settings .own) in
+      left-then (joining o u) l m
+      ((λ j. withTables ((sym a ∙ ap (λ (n : ℕ). alter (sameStatement X) (noted n) (s .statements)) d) j) (join o (e j) (s .tallies)) s)
+      ∙ ap (λ (us : List Tally). withTables (alter (sameStatement X) (noted (s .clock)) (s .statements)) us s) (there-same o (ownBlock X own) none (s .tallies) (place-own own)))
 
   pub place-message : message X ≡ message (statementAt b i)
   place-message = sym (unvoted-message x (statementAt b i .voted)) ∙ ap message (t .is)
 
   -- so its tally needs no record
-  pub place-room : {b₁ : List ℕ} (c m : ℕ) (u : Certificate) → u ≡ ownBlock X m → Left b₁ (noting i c (stateOf b)) → length (join u (tallies b₁)) ≤ mostTallies (sizeIn b₁)
+  pub place-room : {b₁ : List ℕ} (o : Opener) (c m : ℕ) (u : Certificate) → u ≡ ownBlock X m → Left b₁ (noting i c (stateOf b)) → length (join o u (tallies b₁)) ≤ mostTallies (sizeIn b₁)
   unfolding noting withTables stateOf stateFrom
-  place-room {b₁} c m u e l =
+  place-room {b₁} o c m u e l =
       let s = stateOf b in
       let r : tallies b₁ ≡ tallies b = ap (λ (z : State). z .tallies) (l .is) in
-      let n = there-length (ownBlock X m) (s .tallies) (place-own m) in
+      let n = there-length o (ownBlock X m) (s .tallies) (place-own m) in
       let z : sizeIn b₁ ≡ sizeIn b = ap (λ (y : State). y .settings .size) (l .is) in
       rw (r, e, z) (omega (arith, formed-parts k .fewTallies))
 

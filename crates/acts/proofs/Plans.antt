@@ -9,7 +9,7 @@ use lib.ListN.{length}
 use borrow.Author.Tests.{eqb-true, eqb-false, eq-eqb, ne-eqb, le-leb, lt-leb}
 use Rattle.rules.specs.Limits.{mostTallies}
 use Rattle.rules.specs.Lists.{any}
-use Rattle.rules.specs.Words.{Statement, sameStatement, Certificate, Tally, ownBlock, certificate, sameBlock, join, joinCertificate, State}
+use Rattle.rules.specs.Words.{Statement, sameStatement, Certificate, Opener, Tally, ownBlock, certificate, sameBlock, join, joinCertificate, State}
 use Rattle.rules.specs.Inputs.{saying, stored, statement, tallied}
 use Rattle.rules.specs.Refusals.{hasRoom}
 use Rattle.rules.proofs.Tests.{by-bool}
@@ -58,19 +58,19 @@ module _ (t : Certificate) where
   needed-few (At j) = by-bool (eqb (t .view) 0) (λ q. rw (q, needed) (omega arith)) (λ q. rw (q, needed) (omega arith))
 
   -- a block that is joined adds what it needs
-  module _ (us : List Tally) (r : Found) where
-    pub block-adds : (t .view ≡ 0 → ⊥) → r ≡ blockAt t us → length us + needed t r ≡ length (join t us)
+  module _ (k : Opener) (us : List Tally) (r : Found) where
+    pub block-adds : (t .view ≡ 0 → ⊥) → r ≡ blockAt t us → length us + needed t r ≡ length (join k t us)
     block-adds d e = go r refl
       where
-        go : (p : Found) → r ≡ p → length us + needed t r ≡ length (join t us)
-        go Nothing q = omega (arith, needed-one r d q, subst (Adds t us) (sym e ∙ q) (adds t 0 us))
-        go (At j) q = omega (arith, needed-none r d j q, subst (Adds t us) (sym e ∙ q) (adds t 0 us))
+        go : (p : Found) → r ≡ p → length us + needed t r ≡ length (join k t us)
+        go Nothing q = omega (arith, needed-one r d q, subst (Adds k t us) (sym e ∙ q) (adds k t 0 us))
+        go (At j) q = omega (arith, needed-none r d j q, subst (Adds k t us) (sym e ∙ q) (adds k t 0 us))
 
-    pub certificate-adds : r ≡ certifiedAt t us → length us + needed t r ≡ length (joinCertificate t us)
+    pub certificate-adds : r ≡ certifiedAt t us → length us + needed t r ≡ length (joinCertificate k t us)
     unfolding joinCertificate
     certificate-adds e =
         by-bool (eqb (t .view) 0) (λ q. rw (q, joinCertificate) (omega (arith, needed-genesis r (eqb-true (t .view) 0 q))))
-        (λ q. let d = eqb-false (t .view) 0 q in block-adds d (e ∙ certified-block us d) ∙ sym (ap length (certificate-joins t us d)))
+        (λ q. let d = eqb-false (t .view) 0 q in block-adds d (e ∙ certified-block us d) ∙ sym (ap length (certificate-joins k t us d)))
 
 -- ---- a vote or a status, where k tallies would be in use
 
@@ -83,32 +83,32 @@ needed-apart : (m : ℕ) (t : Certificate) (r : Found) → needed (withVoters m 
 unfolding needed
 needed-apart m t r = refl
 
-module _ {b : List ℕ} (f : Form b) (u : Certificate) (m : ℕ) (r : Found) (e : r ≡ certifiedAt u (tallies b)) (k : ℕ) (d : k ≡ countOf tallyTable b + needed u r) where
+module _ {b : List ℕ} (f : Form b) (o : Opener) (u : Certificate) (m : ℕ) (r : Found) (e : r ≡ certifiedAt u (tallies b)) (k : ℕ) (d : k ≡ countOf tallyTable b + needed u r) where
   abbrev t : Certificate
   t = withVoters m u
 
-  k-is : k ≡ length (joinCertificate t (tallies b))
+  k-is : k ≡ length (joinCertificate o t (tallies b))
   unfolding stateOf stateFrom
-  k-is = omega (arith, d, needed-apart m u r, count-tallies b, certificate-adds t (tallies b) r (e ∙ certified-apart m u (tallies b)))
+  k-is = omega (arith, d, needed-apart m u r, count-tallies b, certificate-adds t o (tallies b) r (e ∙ certified-apart m u (tallies b)))
 
-  room-by : leb k (mostTallies (sizeIn b)) ≡ hasRoom (tallied t (stateOf b) .now)
+  room-by : leb k (mostTallies (sizeIn b)) ≡ hasRoom (tallied o t (stateOf b) .now)
   unfolding stateOf stateFrom
-  room-by = tallied-room (stateOf b) t (omega (arith, count-statements b, form-statements b f)) k k-is
+  room-by = tallied-room (stateOf b) o t (omega (arith, count-statements b, form-statements b f)) k k-is
 
-  pub tallied-full : mostTallies (sizeIn b) < k → Tried (tallied t (stateOf b) .now) (stateOf b) b false
+  pub tallied-full : mostTallies (sizeIn b) < k → Tried (tallied o t (stateOf b) .now) (stateOf b) b false
   unfolding fitting
   tallied-full l =
-      let q : hasRoom (tallied t (stateOf b) .now) ≡ false = sym room-by ∙ lt-leb k (mostTallies (sizeIn b)) l in
+      let q : hasRoom (tallied o t (stateOf b) .now) ≡ false = sym room-by ∙ lt-leb k (mostTallies (sizeIn b)) l in
       record { room = sym q; left = rw (q, fitting) (record { form = f; is = refl }) }
 
   module _ (l : k ≤ mostTallies (sizeIn b)) where
-    pub tallied-fits : length (joinCertificate t (tallies b)) ≤ mostTallies (sizeIn b)
+    pub tallied-fits : length (joinCertificate o t (tallies b)) ≤ mostTallies (sizeIn b)
     tallied-fits = omega (arith, k-is)
 
-    pub tallied-done : {b′ : List ℕ} → Left b′ (certifying t (stateOf b)) → Tried (tallied t (stateOf b) .now) (stateOf b) b′ true
+    pub tallied-done : {b′ : List ℕ} → Left b′ (certifying o t (stateOf b)) → Tried (tallied o t (stateOf b) .now) (stateOf b) b′ true
     unfolding fitting certifying tallied saying
     tallied-done h =
-        let q : hasRoom (tallied t (stateOf b) .now) ≡ true = sym room-by ∙ le-leb k (mostTallies (sizeIn b)) l in
+        let q : hasRoom (tallied o t (stateOf b) .now) ≡ true = sym room-by ∙ le-leb k (mostTallies (sizeIn b)) l in
         record { room = sym q; left = rw (q, fitting) h }
 
 -- ---- a statement

@@ -4,6 +4,7 @@ use Prim.Native.Nat.{ℕ, suc, _+_, _-_, _≤_}
 use mathlib.Core.Path.{_≡_, refl, sym, ap, ap₂, _∙_}
 use mathlib.Core.Bool.{Bool, true, false, _&&_, _||_}
 use mathlib.Core.List.{List, [], _∷_}
+use mathlib.Core.Option.{none}
 use native.Mathlib.Omega.{arith}
 use lib.Dec.{leb, ltb, eqb}
 use lib.ListN.{length, length-append}
@@ -12,7 +13,7 @@ use Rattle.rules.specs.Limits.{mostStatements, mostTallies}
 use Rattle.rules.specs.Lists.{iff, any, alter}
 use Rattle.rules.specs.Sizes.{Settings, only}
 use Rattle.rules.specs.Messages.{newView}
-use Rattle.rules.specs.Words.{Statement, message, sameStatement, Certificate, Tally, ownBlock, certificate, sameBlock, ofBlock, grown, join, joinCertificate, State}
+use Rattle.rules.specs.Words.{Statement, message, sameStatement, Certificate, Opener, Tally, ownBlock, certificate, sameBlock, ofBlock, grown, join, joinCertificate, State}
 use Rattle.rules.specs.Inputs.{saying, withPhase, withTables, withBlames, isIn, quit, belowLock, noted, votedFor, voting, certificateJoined, stored, statement, tallied, blamed, blameFull, blaming}
 use Rattle.rules.specs.Refusals.{hasRoom}
 use Rattle.rules.specs.WellFormed.{talliesThere}
@@ -33,16 +34,22 @@ block-grown : (t : Certificate) (u : Tally) (m : ℕ) → ofBlock t (grown u m) 
 unfolding sameBlock grown
 block-grown t u m = refl
 
-module _ (t : Certificate) where
-  pub there-length : (us : List Tally) → any (ofBlock t) us ≡ true → length (join t us) ≡ length us
+module _ (k : Opener) (t : Certificate) where
+  pub there-length : (us : List Tally) → any (ofBlock t) us ≡ true → length (join k t us) ≡ length us
   unfolding any join
   there-length [] h = no-bool (sym h)
   there-length (u ∷ us) h = by-bool (ofBlock t u) (λ q. rw (q, join)) (λ q. rw (q, join) (ap suc (there-length us (rw (q, any) at h))))
 
+  -- a tally that is there is opened by nobody, whoever joins it
+  pub there-same : (j : Opener) (us : List Tally) → any (ofBlock t) us ≡ true → join k t us ≡ join j t us
+  unfolding any join
+  there-same j [] h = no-bool (sym h)
+  there-same j (u ∷ us) h = by-bool (ofBlock t u) (λ q. rw (q, join)) (λ q. rw (q, join) (ap (u ∷_) (there-same j us (rw (q, any) at h))))
+
   -- by its place: none is added where it is there, else one
   abbrev pub Adds : List Tally → Found → Type 0
-  Adds us Nothing = length (join t us) ≡ suc (length us)
-  Adds us (At j) = length (join t us) ≡ length us
+  Adds us Nothing = length (join k t us) ≡ suc (length us)
+  Adds us (At j) = length (join k t us) ≡ length us
 
   pub adds : (i : ℕ) (us : List Tally) → Adds us (firstFrom (ofBlock t) i us)
   unfolding firstFrom join
@@ -54,29 +61,29 @@ module _ (t : Certificate) where
       go false Nothing e h = rw (e, join) (ap suc h)
       go false (At j) e h = rw (e, join) (ap suc h)
 
-  pub join-grows : (us : List Tally) → length us ≤ length (join t us)
+  pub join-grows : (us : List Tally) → length us ≤ length (join k t us)
   join-grows us = go (blockAt t us) (adds 0 us)
     where
-      go : (r : Found) → Adds us r → length us ≤ length (join t us)
+      go : (r : Found) → Adds us r → length us ≤ length (join k t us)
       go Nothing h = omega arith
       go (At j) h = omega arith
 
   -- other blocks stay where they are
-  join-others : (x : Certificate) (i : ℕ) (us : List Tally) → sameBlock x t ≡ false → firstFrom (ofBlock x) i (join t us) ≡ firstFrom (ofBlock x) i us
+  join-others : (x : Certificate) (i : ℕ) (us : List Tally) → sameBlock x t ≡ false → firstFrom (ofBlock x) i (join k t us) ≡ firstFrom (ofBlock x) i us
   unfolding firstFrom join
   join-others x i [] n = rw n
   join-others x i (u ∷ us) n =
       by-bool (ofBlock t u) (λ q. rw (q, join, block-grown x u (t .mask)))
       (λ q. by-bool (ofBlock x u) (λ r. rw (q, join, r)) (λ r. rw (q, join, r) (join-others x (suc i) us n)))
 
-module _ (t : Certificate) (us : List Tally) where
-  pub certificate-there : (eqb (t .view) 0 || any (ofBlock t) us) ≡ true → length (joinCertificate t us) ≡ length us
+module _ (k : Opener) (t : Certificate) (us : List Tally) where
+  pub certificate-there : (eqb (t .view) 0 || any (ofBlock t) us) ≡ true → length (joinCertificate k t us) ≡ length us
   unfolding joinCertificate
-  certificate-there h = by-bool (eqb (t .view) 0) (λ q. rw (q, joinCertificate)) (λ q. rw (q, joinCertificate) (there-length t us (rw q at h)))
+  certificate-there h = by-bool (eqb (t .view) 0) (λ q. rw (q, joinCertificate)) (λ q. rw (q, joinCertificate) (there-length k t us (rw q at h)))
 
-  pub certificate-others : (x : Certificate) → sameBlock x t ≡ false → blockAt x (joinCertificate t us) ≡ blockAt x us
+  pub certificate-others : (x : Certificate) → sameBlock x t ≡ false → blockAt x (joinCertificate k t us) ≡ blockAt x us
   unfolding joinCertificate
-  certificate-others x n = by-bool (eqb (t .view) 0) (λ q. rw (q, joinCertificate)) (λ q. rw (q, joinCertificate) (join-others t x 0 us n))
+  certificate-others x n = by-bool (eqb (t .view) 0) (λ q. rw (q, joinCertificate)) (λ q. rw (q, joinCertificate) (join-others k t x 0 us n))
 
 -- ---- a statement's two blocks
 
@@ -115,12 +122,12 @@ module _ (x y : Statement) (e : sameStatement x y ≡ true) where
 
 -- a stored statement's tallies are there
 module _ {s : State} (f : Formed s) (x : Statement) (e : any (sameStatement x) (s .statements) ≡ true) where
-  pub repeat-length : length (joinCertificate (certificate x) (s .tallies)) ≡ length (s .tallies)
+  pub repeat-length : length (joinCertificate none (certificate x) (s .tallies)) ≡ length (s .tallies)
   unfolding talliesThere
   repeat-length =
       let (y, m, q) = any-find (sameStatement x) (s .statements) e in
       let t = and-2 (any (ofBlock (ownBlock y 0)) (s .tallies)) _ (all-mem (talliesThere (s .tallies)) (f .tables .opened) m) in
-      certificate-there (certificate x) (s .tallies) (certificate-held x y q (s .tallies) ∙ t .1)
+      certificate-there none (certificate x) (s .tallies) (certificate-held x y q (s .tallies) ∙ t .1)
 
 module _ (g : Settings) (x : Statement) (m : Sendable g (message x)) where
   -- its own block is another than its certified one
@@ -156,15 +163,15 @@ room-same : (s t : State) → s .settings ≡ t .settings → length (s .stateme
 unfolding hasRoom
 room-same s t g p q = rw (g, p, q)
 
-pub tallied-room : (s : State) (t : Certificate) → length (s .statements) ≤ mostStatements (s .settings .size) → (n : ℕ) → n ≡ length (joinCertificate t (s .tallies))
-    → leb n (mostTallies (s .settings .size)) ≡ hasRoom (tallied t s .now)
+pub tallied-room : (s : State) (k : Opener) (t : Certificate) → length (s .statements) ≤ mostStatements (s .settings .size) → (n : ℕ) → n ≡ length (joinCertificate k t (s .tallies))
+    → leb n (mostTallies (s .settings .size)) ≡ hasRoom (tallied k t s .now)
 unfolding hasRoom tallied saying withTables
-tallied-room s t l n e = rw (le-leb _ _ l, e)
+tallied-room s k t l n e = rw (le-leb _ _ l, e)
 
 next-below : (a b : ℕ) → ltb a b ≡ leb (a + 1) b
 next-below a b = by-bool (ltb a b) (λ q. rw (q, le-leb (a + 1) b (omega (arith, ltb-true a b q)))) (λ q. rw (q, lt-leb (a + 1) b (omega (arith, ltb-false a b q))))
 
-pub stored-room : (s : State) (x : Statement) (n : ℕ) → n ≡ length (join (ownBlock x 0) (joinCertificate (certificate x) (s .tallies)))
+pub stored-room : (s : State) (x : Statement) (n : ℕ) → n ≡ length (join none (ownBlock x 0) (joinCertificate none (certificate x) (s .tallies)))
     → (ltb (length (s .statements)) (mostStatements (s .settings .size)) && leb n (mostTallies (s .settings .size))) ≡ hasRoom (stored x s)
 unfolding hasRoom stored withTables
 stored-room s x n e =
@@ -191,7 +198,7 @@ voting-room x s h =
     by-bool (belowLock x s) (λ q. rw (q, voting))
     (λ q.
     rw (q, voting)
-    (room-same (votedFor x s) s refl (alter-length (sameStatement x) (noted (s .clock)) (s .statements)) (there-length (ownBlock x m) (s .tallies) (own-any x m (s .tallies) ∙ h))))
+    (room-same (votedFor x s) s refl (alter-length (sameStatement x) (noted (s .clock)) (s .statements)) (there-length none (ownBlock x m) (s .tallies) (own-any x m (s .tallies) ∙ h))))
 
 -- a blame mask is always there
 pub blaming-room : (v m : ℕ) (s : State) → hasRoom (blaming v m s .now) ≡ hasRoom s

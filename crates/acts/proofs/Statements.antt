@@ -82,8 +82,8 @@ module _ (b : List ℕ) (x : Statement) (r : Found) where
 module _ (b : List ℕ) (x : Statement) (m : Sendable (stateOf b .settings) (message x)) (t u : Certificate) (et : t ≡ certificate x) (eu : u ≡ ownBlock x 0) where
   module _ (q : Found) (eq : q ≡ blockAt u (tallies b)) where
     -- the certificate leaves its own block's tally where it is
-    own-stays : q ≡ blockAt u (joinCertificate t (tallies b))
-    own-stays = eq ∙ sym (certificate-others t (tallies b) u (rw (et, eu) (own-differs (stateOf b .settings) x m)))
+    own-stays : q ≡ blockAt u (joinCertificate none t (tallies b))
+    own-stays = eq ∙ sym (certificate-others none t (tallies b) u (rw (et, eu) (own-differs (stateOf b .settings) x m)))
 
     own-view : u .view ≡ 0 → ⊥
     unfolding ownBlock
@@ -95,31 +95,31 @@ module _ (b : List ℕ) (x : Statement) (m : Sendable (stateOf b .settings) (mes
     unfolding stateOf stateFrom
     new-planned new p ep i j k l few many ef em ei ej ek el =
         let s = stateOf b in
-        let n : j + (k + l) ≡ length (join u (joinCertificate t (s .tallies))) =
-        omega (arith, count-tallies b, certificate-adds t (s .tallies) p ep, block-adds u (joinCertificate t (s .tallies)) q own-view own-stays) in
+        let n : j + (k + l) ≡ length (join none u (joinCertificate none t (s .tallies))) =
+        omega (arith, count-tallies b, certificate-adds t none (s .tallies) p ep, block-adds u none (joinCertificate none t (s .tallies)) q own-view own-stays) in
         let room = (λ h. ltb ((ei ∙ sym (count-statements b)) h) (ef h) && leb (j + (k + l)) (em h))
-        ∙ stored-room s x (j + (k + l)) (n ∙ ap₂ (λ (v w : Certificate). length (join w (joinCertificate v (s .tallies)))) et eu) in
+        ∙ stored-room s x (j + (k + l)) (n ∙ ap₂ (λ (v w : Certificate). length (join none w (joinCertificate none v (s .tallies)))) et eu) in
         planned-new x s new room (rw (← et) ep) (rw (← eu) eq)
 
   -- ---- it is stored
 
   module _ {p q : Found} (k : Newly x (stateOf b) p q) where
-    few : (length (stateOf b .statements) < mostStatements (sizeIn b)) × (length (join u (joinCertificate t (stateOf b .tallies))) ≤ mostTallies (sizeIn b))
+    few : (length (stateOf b .statements) < mostStatements (sizeIn b)) × (length (join none u (joinCertificate none t (stateOf b .tallies))) ≤ mostTallies (sizeIn b))
     unfolding stored withTables stateOf stateFrom
     few =
         let r = room-parts (stored x (stateOf b)) (k .room) in
         (omega (arith, r .0, length-append (stateOf b .statements) (x ∷ [])), rw (et, eu) (r .1))
 
-    pub certificate-fits : length (joinCertificate t (tallies b)) ≤ mostTallies (sizeIn b)
+    pub certificate-fits : length (joinCertificate none t (tallies b)) ≤ mostTallies (sizeIn b)
     unfolding stateOf stateFrom
-    certificate-fits = omega (arith, few .1, join-grows u (joinCertificate t (tallies b)))
+    certificate-fits = omega (arith, few .1, join-grows none u (joinCertificate none t (tallies b)))
 
     pub certificate-found : p ≡ certifiedAt t (tallies b)
     unfolding stateOf stateFrom
     certificate-found = rw et (k .certified)
 
-    module _ {b₁ : List ℕ} (l : Left b₁ (certifying t (stateOf b))) where
-      certified-tallies : tallies b₁ ≡ joinCertificate t (tallies b)
+    module _ {b₁ : List ℕ} (l : Left b₁ (certifying none t (stateOf b))) where
+      certified-tallies : tallies b₁ ≡ joinCertificate none t (tallies b)
       unfolding certifying withTables stateOf stateFrom
       certified-tallies = ap (λ (s : State). s .tallies) (l .is)
 
@@ -127,7 +127,7 @@ module _ (b : List ℕ) (x : Statement) (m : Sendable (stateOf b .settings) (mes
       unfolding certifying withTables stateOf stateFrom
       certified-size = ap (λ (s : State). s .settings .size) (l .is)
 
-      pub own-fits : length (join u (tallies b₁)) ≤ mostTallies (sizeIn b₁)
+      pub own-fits : length (join none u (tallies b₁)) ≤ mostTallies (sizeIn b₁)
       unfolding stateOf stateFrom
       own-fits = rw (certified-tallies, certified-size) (few .1)
 
@@ -135,7 +135,7 @@ module _ (b : List ℕ) (x : Statement) (m : Sendable (stateOf b .settings) (mes
       unfolding stateOf stateFrom
       own-found = rw certified-tallies (own-stays q (rw eu (k .own)))
 
-      module _ {b₂ : List ℕ} {i : ℕ} (h : Joined u (stateOf b₁) b₂ i) where
+      module _ {b₂ : List ℕ} {i : ℕ} (h : Joined none u (stateOf b₁) b₂ i) where
         joined-size : sizeIn b₂ ≡ sizeIn b₁
         unfolding joining withTables stateOf stateFrom
         joined-size = ap (λ (s : State). s .settings .size) (h .left .is)
@@ -143,7 +143,7 @@ module _ (b : List ℕ) (x : Statement) (m : Sendable (stateOf b .settings) (mes
         pub one-more-fits : countOf statementTable b₂ < mostStatements (sizeIn b₂)
         unfolding joining certifying withTables
         one-more-fits =
-            let e : stateOf b₂ .statements ≡ stateOf b .statements = ap (λ (s : State). s .statements) (h .left .is ∙ ap (joining u) (l .is)) in
+            let e : stateOf b₂ .statements ≡ stateOf b .statements = ap (λ (s : State). s .statements) (h .left .is ∙ ap (joining none u) (l .is)) in
             omega (arith, count-statements b₂, ap length e, few .0, ap mostStatements joined-size, ap mostStatements certified-size)
 
         pub new-stored : {b₃ : List ℕ} → Left b₃ (storing x (stateOf b₂)) → Stored x (stateOf b) b₃ i
@@ -155,8 +155,8 @@ module _ (b : List ℕ) (x : Statement) (m : Sendable (stateOf b .settings) (mes
                   record {
                     form = g .form;
                     is =
-                        g .is ∙ ap (storing x) (h .left .is ∙ ap (joining u) (l .is))
-                        ∙ ap₂ (λ (v w : Certificate). withTables (stateOf b .statements ++ x ∷ []) (join w (joinCertificate v (stateOf b .tallies))) (stateOf b)) et eu;
+                        g .is ∙ ap (storing x) (h .left .is ∙ ap (joining none u) (l .is))
+                        ∙ ap₂ (λ (v w : Certificate). withTables (stateOf b .statements ++ x ∷ []) (join none w (joinCertificate none v (stateOf b .tallies))) (stateOf b)) et eu;
                   };
               place = h .place ∙ ap₂ blockAt eu (sym e);
             }
@@ -183,10 +183,10 @@ module _ (x : Statement) (s : State) where
   statement-repeat q = rw (q, statement)
 
 module _ {b : List ℕ} (k : Formed b) (x : Statement) (t : Certificate) (e : t ≡ certificate x) where
-  pub repeat-fits : any (sameStatement x) (stateOf b .statements) ≡ true → length (joinCertificate t (tallies b)) ≤ mostTallies (sizeIn b)
+  pub repeat-fits : any (sameStatement x) (stateOf b .statements) ≡ true → length (joinCertificate none t (tallies b)) ≤ mostTallies (sizeIn b)
   unfolding stateOf stateFrom
   repeat-fits q = let w = formed-parts k in rw e (omega (arith, repeat-length (w .formed) x q, w .fewTallies))
 
-  pub repeat-left : {b′ : List ℕ} → Left b′ (certifying t (stateOf b)) → Left b′ (certificateJoined x (stateOf b))
+  pub repeat-left : {b′ : List ℕ} → Left b′ (certifying none t (stateOf b)) → Left b′ (certificateJoined x (stateOf b))
   unfolding certifying certificateJoined
   repeat-left l = rw (← e) l

@@ -3,9 +3,10 @@ use Prim.Native.Nat.{ℕ}
 use mathlib.Core.Path.{_≡_}
 use mathlib.Core.Bool.{Bool, true, false}
 use mathlib.Core.List.{List}
-use lib.Dec.{eqb}
+use lib.Dec.{leb, eqb}
+use Rattle.rules.specs.Limits.{mostOpened}
 use Rattle.rules.specs.Lists.{any}
-use Rattle.rules.specs.Words.{Statement, sameStatement, Certificate, Tally, ownBlock, certificate, sameBlock, ofBlock, State}
+use Rattle.rules.specs.Words.{Statement, sameStatement, Certificate, Tally, ownBlock, certificate, sameBlock, ofBlock, openedBy, State}
 use Rattle.rules.specs.Inputs.{stored}
 use Rattle.rules.specs.Refusals.{hasRoom}
 use Rattle.store.specs.Decode.{tallies, Left}
@@ -23,6 +24,12 @@ certifiedAt t us = elim (eqb (t .view) 0) [ true ↦ Nothing | false ↦ blockAt
 -- the records that a tally needs by its place
 unfoldable pub needed : Certificate → Found → ℕ
 needed t r = elim (eqb (t .view) 0) [ true ↦ 0 | false ↦ elim r [ At j ↦ 0 | Nothing ↦ 1 ] ]
+
+-- a vote would open a tally, by its place, and its author opened as many as one may
+unfoldable pub usedBy : Found → ℕ → List Tally → Bool
+unfolding openedBy
+usedBy (At j) a us = false
+usedBy Nothing a us = leb mostOpened (openedBy a us)
 
 -- what comes of a new statement, by whether there is room
 abbrev pub newPlan : Bool → Found → Found → Plan

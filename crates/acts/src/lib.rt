@@ -5,7 +5,7 @@ ghost use mathlib.Core.List.{[], _∷_};
 ghost use mathlib.Core.Option.{none};
 ghost use Prim.Native.Nat.{_+_, _^_, _≤_, _<_};
 ghost use lib.ListN.{length};
-ghost use Rattle.rules.specs.Limits.{mostTallies};
+ghost use Rattle.rules.specs.Limits.{maskBits, mostTallies};
 ghost use Rattle.rules.specs.Messages.{viewAllowed, toAll, blameSet, outgoing};
 ghost use Rattle.rules.specs.Words.{message as said, ownBlock, joinCertificate};
 ghost use Rattle.rules.specs.Inputs as inputs;
@@ -15,12 +15,13 @@ ghost use Rattle.outgoing.specs.Wrote.{Says};
 ghost use Rattle.store.specs.Layout.{sizeIn};
 ghost use Rattle.store.specs.Decode.{stateOf, tallies, Form, Left};
 ghost use Rattle.store.specs.Changes.{blockAt, withVoters, certifying};
-ghost use Rattle.store.specs.Meaning.{votersOf, Numbered};
+ghost use Rattle.store.specs.Meaning.{votersOf, authorOf, Numbered};
 ghost use Rattle.kept.specs.Said.{Sendable};
 ghost use Rattle.words.specs.Meaning.{blockOf};
 ghost use Rattle.acts.specs.Works.{Formed, Works, Tried};
-ghost use Rattle.acts.specs.Plans.{certifiedAt, needed, newPlan, planned, fits, Newly, Stored};
+ghost use Rattle.acts.specs.Plans.{certifiedAt, needed, usedBy, newPlan, planned, fits, Newly, Stored};
 ghost use Rattle.acts.specs.Answers.{answered, Stands};
+use settings::Settings;
 use store::Found;
 use store::Phase;
 use store::Station;
@@ -105,7 +106,7 @@ pub fn blaming(store: &mut [u8], out: &mut [u8], at: usize, view: u32, mask: u16
 }
 
 // The place of a certificate's tally. Genesis has none in view 0, and nothing is searched.
-fn find_certificate(store: &[u8], certificate: Certificate) -> Found
+pub fn find_certificate(store: &[u8], certificate: Certificate) -> Found
     requires { ⌜ Form (now store) ⌝ }
     ensures { λ r. ⌜ r ≡ certifiedAt (blockOf certificate) (tallies (now (store .entry))) ⌝ }
 {
@@ -130,20 +131,30 @@ fn needed(block: Certificate, place: Found) -> usize
 
 // Whoever joins the tally of a block, as it was found; genesis has none in view 0.
 fn join_certified(store: &mut [u8], block: Certificate, place: Found, voters: Voters)
-    requires { ⌜ (Form (now store)) × (length (joinCertificate (withVoters (votersOf voters) (blockOf block)) (tallies (now store))) ≤ mostTallies (sizeIn (now store))) × (place ≡ certifiedAt (blockOf block) (tallies (now store))) × (Numbered voters) ⌝ }
-    ensures { λ _. ⌜ Left (now (store .exit)) (certifying (withVoters (votersOf voters) (blockOf block)) (stateOf (now (store .entry)))) ⌝ }
+    requires { ⌜ (Form (now store)) × (length (joinCertificate (authorOf voters) (withVoters (votersOf voters) (blockOf block)) (tallies (now store))) ≤ mostTallies (sizeIn (now store))) × (place ≡ certifiedAt (blockOf block) (tallies (now store))) × (Numbered voters) ⌝ }
+    ensures { λ _. ⌜ Left (now (store .exit)) (certifying (authorOf voters) (withVoters (votersOf voters) (blockOf block)) (stateOf (now (store .entry)))) ⌝ }
 {
     if block.view != 0 {
         store::join_found(store, block, place, voters);
     }
 }
 
-// A vote or a status joins its tally, if the record that it may need is free; if not, nothing changes.
-pub fn tallied(store: &mut [u8], block: Certificate, voters: Voters) -> bool
-    requires { ⌜ (Form (now store)) × (Numbered voters) ⌝ }
-    ensures { λ r. ⌜ Tried (inputs.tallied (withVoters (votersOf voters) (blockOf block)) (stateOf (now (store .entry))) .now) (stateOf (now (store .entry))) (now (store .exit)) r ⌝ }
+// Whether a vote would open a tally, by the place of its block's, and its author opened as many as one may.
+pub fn used_up(store: &[u8], place: Found, author: u64) -> bool
+    requires { ⌜ (Form (now store)) × (author < maskBits) ⌝ }
+    ensures { λ r. ⌜ r ≡ usedBy place author (tallies (now (store .entry))) ⌝ }
 {
-    let place = find_certificate(store, block);
+    match place {
+        Found::At(_) => false,
+        Found::Nothing => Settings::MOST_OPENED <= search::opened_by(store, author),
+    }
+}
+
+// A vote or a status joins its tally, as it was found, if the record that it may need is free; if not, nothing changes.
+pub fn tallied(store: &mut [u8], block: Certificate, place: Found, voters: Voters) -> bool
+    requires { ⌜ (Form (now store)) × (place ≡ certifiedAt (blockOf block) (tallies (now store))) × (Numbered voters) ⌝ }
+    ensures { λ r. ⌜ Tried (inputs.tallied (authorOf voters) (withVoters (votersOf voters) (blockOf block)) (stateOf (now (store .entry))) .now) (stateOf (now (store .entry))) (now (store .exit)) r ⌝ }
+{
     let station = Station::load(store);
     if store::most_tallies_in(store) < station.tallies + needed(block, place) {
         return false;
@@ -167,7 +178,8 @@ pub fn quit_with_pair(
     send_both(out, at, Message::Stated(first), Message::Stated(second))
 }
 
-// Votes for the statement at a place, with its own block's tally as found, unless its certificate ranks below the lock.
+// Votes for the statement at a place, with its own block's tally as found, unless its certificate ranks below the lock. The tally is
+// there, so the vote opens none.
 pub fn voting(
     store: &mut [u8],
     out: &mut [u8],

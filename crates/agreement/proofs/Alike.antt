@@ -4,10 +4,11 @@ use Prim.Native.Nat.{ℕ, _<_}
 use mathlib.Core.List.{List, List·Memᴰ}
 use mathlib.Core.Logic.{inl, inr}
 use mathlib.Core.Option.{some}
-use Rattle.rules.specs.Messages.{Message, newView, propose, vote, blame, blameSet, status, Effect, toAll, toOne}
+use Rattle.rules.specs.Messages.{Message, newView, propose, vote, blame, blameSet, status, write, Effect, toAll, toOne}
 use Rattle.rules.specs.Words.{State}
 use Rattle.rules.specs.Inputs.{offered}
-use Rattle.agreement.specs.Schedule.{Event, HasRoom, Run, Says, Sends, Sound, VotersVoted, Genuine, OneName, Premises, Schedule}
+use Rattle.rules.specs.Refusals.{step}
+use Rattle.agreement.specs.Schedule.{Event, HasRoom, Run, Says, Sends, Speaks, Sound, VotersVoted, Genuine, OneName, NeverUsedUp, Premises, Schedule}
 
 -- another run of the same group
 abbrev pub other : Run → (ℕ → Event) → (ℕ → ℕ → State) → (ℕ → ℕ → List Effect) → Run
@@ -55,6 +56,15 @@ module _ (R : Run) (state : ℕ → ℕ → State) (said : ℕ → ℕ → List 
     names-alike one k j m (inl h) = one k j m (inl h)
     names-alike one k j m (inr (ok, (b, e, r))) = one k j m (inr (ok, (b, e, subst (λ (s : State). offered b s ≡ some m) (sym (states j ok k)) r)))
 
+    speaks-alike : (i k : ℕ) (m : Message) → Sound R faulty i → Speaks T i k m → Speaks R i k m
+    speaks-alike i k m ok (inl s) = inl (subst (List·Memᴰ (toAll m)) (sym (words i ok k)) s)
+    speaks-alike i k m ok (inr (j, s)) = inr (j, subst (List·Memᴰ (toOne j m)) (sym (words i ok k)) s)
+
+    heard-alike : NeverUsedUp R faulty → NeverUsedUp T faulty
+    heard-alike heard i j hi hj l k v h b a s o e r =
+        let m = vote v h b a in
+        heard i j hi hj l k v h b a (speaks-alike i l m hi s) o e (subst (λ (u : State). step (write m) u .number ≡ 12) (sym (states j hj k)) r)
+
     pub premises-alike : Premises R faulty heightOf parentOf → Premises T faulty heightOf parentOf
     premises-alike P =
         record {
@@ -65,6 +75,7 @@ module _ (R : Run) (state : ℕ → ℕ → State) (said : ℕ → ℕ → List 
           inTime = λ i j hi hj k m s. P .inTime i j hi hj k m (sends-alike i j k m hi s);
           noForgery = λ k j m h. genuine-on R (R .event) state said faulty k (λ i p e ok u s. says-alike i p e ok s) m (P .noForgery k j m h);
           oneName = names-alike (P .oneName);
+          heard = heard-alike (P .heard);
         }
 
     pub schedule-alike : Schedule R faulty heightOf parentOf → Schedule T faulty heightOf parentOf

@@ -9,22 +9,22 @@ use mathlib.Core.Logic.{_⊎_, inl, inr}
 use mathlib.Core.Option.{Option, none, some}
 use lib.Dec.{ltb, eqb}
 use lib.ListN.{length, getD, List·getD-eq-default}
-use borrow.Author.Tests.{eqb-true, eq-eqb, leb-true, lt-ltb, ltb-true}
+use borrow.Author.Tests.{eqb-true, eq-eqb, not-true, leb-true, lt-ltb, ltb-true}
 use Rattle.rules.specs.Limits.{Size}
 use Rattle.rules.specs.Lists.{first, any, all}
 use Rattle.rules.specs.Sizes.{goodSettings, faults, bit, count}
 use Rattle.rules.specs.Messages.{Message, newView, propose, vote, blame, blameSet, status, table, rowOf, kind, values, read, write, allowed, Effect, toAll, toOne, committed}
 use Rattle.rules.specs.Words.{State}
 use Rattle.rules.specs.Inputs.{saying, offered}
-use Rattle.rules.specs.Refusals.{done, running}
+use Rattle.rules.specs.Refusals.{done, running, step}
 use Rattle.rules.specs.Script.{sameList}
 use Rattle.rules.proofs.Tests.{by-bool, by-option, no-some, no-bool}
 use Rattle.rules.proofs.Bytes.{Bytes, none as no-bytes, one}
 use Rattle.rules.proofs.Truths.{and-2, both, or-2}
 use Rattle.rules.proofs.Searches.{by-mem, first-mem, first-any, first-none}
-use Rattle.agreement.specs.Schedule.{Event, idle, commonTick, tickOf, given, offeredTo, happens, ticks, IsCommon, CommonTicks, settingsOf, at, out, clock, Says, HasVoted, HasBlamed, HasMade, Sound, NeverFull, IsLent, ProperBuffers, Sends, InTime, VotersVoted, Genuine, Hands, NoForgery, Offers, OneBlock, OneName, Run, run, HasRoom, Schedule}
+use Rattle.agreement.specs.Schedule.{Event, idle, commonTick, tickOf, given, offeredTo, happens, ticks, IsCommon, CommonTicks, settingsOf, at, out, clock, Says, HasVoted, HasBlamed, HasMade, Sound, NeverFull, IsLent, ProperBuffers, Sends, InTime, VotersVoted, Genuine, Hands, NoForgery, Offers, OneBlock, OneName, NeverUsedUp, Run, run, HasRoom, Schedule}
 use Rattle.agreement.proofs.Events.{never-idle}
-use Rattle.agreement.specs.Checks.{Premise, settingsGood, fewFaulty, neverFull, commonTicks, properBuffers, inTime, noForgery, oneName, premises, place, other, Holds, AllBut, test, verdict, implies, every, some?, sameMessage, maskIn, toAllThat, brought, ifSome, isCommon, givenTo, offeredAs, listed, isSound, hasSaid, votersVoted, hasMade, isGenuine, taken, noneForged, comes, comesInTime, saidInTime, allInTime, allCommon, allRun, allLent, isOneBlock, oneNamed}
+use Rattle.agreement.specs.Checks.{Premise, settingsGood, fewFaulty, neverFull, commonTicks, properBuffers, inTime, noForgery, oneName, neverUsedUp, premises, place, other, Holds, AllBut, test, verdict, implies, every, some?, sameMessage, maskIn, toAllThat, brought, ifSome, isCommon, givenTo, offeredAs, listed, isSound, hasSaid, votersVoted, hasMade, isGenuine, taken, noneForged, comes, comesInTime, saidInTime, allInTime, allCommon, allRun, allLent, isOneBlock, oneNamed, allHeard}
 
 -- ---- tests
 
@@ -207,6 +207,21 @@ module _ (size : Size) (n D : ℕ) (es : List Event) (faulty : ℕ) where
     names-checked t k j m (inl h) = block-test m (hands-test k j m fine h (λ d. and-2 (taken size n D es faulty k fine) _ (every-true (length es) _ t k d) .0))
     names-checked t k j m (inr o) = block-test m (offers-test k j m o (λ d. and-2 (taken size n D es faulty k fine) _ (every-true (length es) _ t k d) .1))
 
+  -- ---- nobody used up
+
+  heard-checked : allHeard size n D es faulty ≡ true → NeverUsedUp R faulty
+  unfolding allHeard givenTo
+  heard-checked t i j hi hj l k v h b a s o e r =
+      elim (decLt k (length es)) [
+        | yes d ↦ (
+            let u = at size n D E j k in
+            let bs = write (vote v h b a) in
+            let z = subst (λ (y : Event). givenTo y (λ j bs. implies (isSound size n D es faulty j) (not (eqb (step bs (at size n D E j k) .number) 12))) true ≡ true) e (every-true (length es) _ t k d) in
+            let w = implies-true (isSound size n D es faulty j) z (sound-test j hj) in
+            no-bool (sym (eq-eqb (step bs u .number) 12 r) ∙ not-true (eqb (step bs u .number) 12) w))
+        | no d ↦ never-idle (given j (write (vote v h b a))) tt (sym (listed-idle k (omega arith)) ∙ e)
+      ]
+
   -- ---- proper buffers
 
   bytes-test : (bs : List ℕ) → all (λ b. ltb b 256) bs ≡ true → Bytes bs
@@ -332,6 +347,7 @@ module _ (size : Size) (n D : ℕ) (es : List Event) (faulty : ℕ) where
     tested inTime t = time-checked t
     tested noForgery t = forgery-checked t
     tested oneName t = names-checked heightOf parentOf t
+    tested neverUsedUp t = heard-checked t
 
     -- a test stands in the verdict at its place
     placed : (f : Premise → Bool) (p : Premise) → getD (map f premises) (place p) false ≡ f p
@@ -344,6 +360,7 @@ module _ (size : Size) (n D : ℕ) (es : List Event) (faulty : ℕ) where
     placed f inTime = refl
     placed f noForgery = refl
     placed f oneName = refl
+    placed f neverUsedUp = refl
 
     holds : (f : Premise → Bool) → verdict size n D es faulty heightOf parentOf ≡ map f premises → (p : Premise) → f p ≡ true → Holds R faulty heightOf parentOf p
     unfolding verdict
@@ -365,6 +382,7 @@ module _ (size : Size) (n D : ℕ) (es : List Event) (faulty : ℕ) where
                 inTime = all inTime;
                 noForgery = all noForgery;
                 oneName = all oneName;
+                heard = all neverUsedUp;
               };
           room = all neverFull;
         }

@@ -2,21 +2,21 @@
 use mathlib.Core.Path.{_≡_, subst, refl, sym, ap, _∙_}
 use Prim.Native.Nat.{ℕ, suc, _+_, _≤_, _<_}
 use native.Mathlib.Omega.{arith}
-use mathlib.Core.Bool.{true}
+use mathlib.Core.Bool.{true, false}
 use mathlib.Core.Logic.{_⊎_, inl, inr}
 use mathlib.Core.Option.{some, Option·some-injective}
 use Rattle.rules.specs.Limits.{Size}
 use Rattle.rules.specs.Sizes.{Settings, bit}
-use Rattle.rules.specs.Messages.{Message, newView, propose, vote, blame, blameSet, status, viewOf, write, allowed}
+use Rattle.rules.specs.Messages.{Message, newView, propose, vote, blame, blameSet, status, viewOf, read, write, allowed}
 use Rattle.rules.specs.Words.{Certificate}
-use Rattle.rules.specs.Refusals.{Outcome, running, step}
-use Rattle.rules.proofs.Tests.{no-some}
+use Rattle.rules.specs.Refusals.{Outcome, running, ahead, usedUp, step}
+use Rattle.rules.proofs.Tests.{by-bool, no-some}
 use Rattle.rules.proofs.Tallies.{bit-only}
 use Rattle.rules.proofs.Moves.{carried}
-use Rattle.rules.proofs.Held.{step-taken}
+use Rattle.rules.proofs.Held.{step-taken, step-used}
 use Rattle.rules.proofs.Views.{not-ahead}
 use Rattle.rules.proofs.Proper.{Parented}
-use Rattle.agreement.specs.Schedule.{Event, commonTick, given, happens, ticks, IsCommon, at, clock, HasVoted, Sound, GoodSettings, SoundRun, ProperBuffers, Sends, Speaks, Genuine, OneBlock, Premises, Run, run, CommonTicks, InTime}
+use Rattle.agreement.specs.Schedule.{Event, commonTick, given, happens, ticks, IsCommon, at, clock, HasVoted, Sound, GoodSettings, SoundRun, ProperBuffers, Sends, Speaks, Genuine, OneBlock, Premises, Run, run, CommonTicks, InTime, NeverUsedUp}
 use Rattle.agreement.proofs.Events.{happens-given}
 use Rattle.agreement.proofs.Whole.{settings-alike, settings-at, sent-allowed}
 use Rattle.agreement.proofs.Clock.{last-of, clock-alike, one-tick}
@@ -54,16 +54,31 @@ module _ (size : Size) (n D : ℕ) (event : ℕ → Event) (faulty : ℕ) where
   abbrev R : Run
   R = run size n D event
 
-  -- who runs takes a message of a sound station that is at most one view ahead: it can be read, is allowed, and there is room
-  pub running-takes : GoodSettings R → ProperBuffers R → SoundRun R faulty → Takes R faulty
+  -- a sound station's message finds no sound station at which its author is used up
+  never-used : NeverUsedUp R faulty → (i j : ℕ) → Sound R faulty i → Sound R faulty j → (l k : ℕ) (m : Message) → Speaks R i l m → l < k → event k ≡ given j (write m)
+      → running (at size n D event j k) ≡ true → read (write m) ≡ some m → allowed (at size n D event j k .settings) m ≡ true → ahead m (at size n D event j k) ≡ false
+      → usedUp m (at size n D event j k) ≡ false
+  unfolding usedUp
+  never-used heard i j hi hj l k (newView v h b c m a) s o e r q w d = refl
+  never-used heard i j hi hj l k (propose v h b p m a) s o e r q w d = refl
+  never-used heard i j hi hj l k (vote v h b a) s o e r q w d =
+      by-bool (usedUp (vote v h b a) (at size n D event j k))
+      (λ u. absurd (heard i j hi hj l k v h b a s o e (step-used (write (vote v h b a)) (vote v h b a) (at size n D event j k) r q w d u))) (λ u. u)
+  never-used heard i j hi hj l k (blame v a) s o e r q w d = refl
+  never-used heard i j hi hj l k (blameSet v m) s o e r q w d = refl
+  never-used heard i j hi hj l k (status h b c m) s o e r q w d = refl
+
+  -- who runs takes a message of a sound station that is at most one view ahead: it can be read, is allowed, its author
+  -- is not used up, and there is room
+  pub running-takes : GoodSettings R → ProperBuffers R → SoundRun R faulty → NeverUsedUp R faulty → Takes R faulty
   unfolding at
-  running-takes g lent runs i j hi hj l h m s o e v =
+  running-takes g lent runs heard i j hi hj l h m s o e v =
       let t = at size n D event j h in
       let z : happens j (event h) t ≡ step (write m) t = ap (λ (y : Event). happens j y t) e ∙ happens-given j (write m) t in
       let (r, a) = sent-allowed size n D event lent i (settings-alike size n D i g (hi .0)) j l m s in
       let b = subst (λ (y : Settings). allowed y m ≡ true) (sym (settings-at size n D event lent j (settings-alike size n D j g (hj .0)) h)) a in
       ap (λ (x : Outcome). x .number) z
-      ∙ step-taken (write m) m t (runs j hj h) r b (not-ahead m t v) (subst (λ (x : Outcome). running (x .next) ≡ true) z (runs j hj (suc h)))
+      ∙ step-taken (write m) m t (runs j hj h) r b (not-ahead m t v) (never-used heard i j hi hj l h m s o e (runs j hj h) r b (not-ahead m t v)) (subst (λ (x : Outcome). running (x .next) ≡ true) z (runs j hj (suc h)))
 
   -- what was sent to all or to one is handed over before every moment after which the clock is D + 1 later
   pub delivered : CommonTicks R → InTime R faulty → Reaches R faulty (λ k. clock event 0 (suc k))
@@ -94,7 +109,7 @@ module _ (size : Size) (n D : ℕ) (event : ℕ → Event) (faulty : ℕ) where
           late = late;
           lent = P .lent;
           reaches = reaches;
-          takes = running-takes (P .settings) (P .lent) runs;
+          takes = running-takes (P .settings) (P .lent) runs (P .heard);
           voters = λ k j m h t c i ok y. genuine-voters R faulty k m t c (P .noForgery k j m h) i ok y;
           parents = λ k j m o. block-parent heightOf parentOf m (P .oneName k j m o);
         }

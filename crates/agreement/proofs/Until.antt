@@ -11,12 +11,12 @@ use mathlib.Core.Option.{some}
 use lib.Dec.{ltb}
 use borrow.Author.Tests.{lt-ltb, ltb-true}
 use Rattle.rules.specs.Limits.{Size}
-use Rattle.rules.specs.Messages.{Message, Effect, toAll, toOne}
+use Rattle.rules.specs.Messages.{Message, vote, write, Effect, toAll, toOne}
 use Rattle.rules.specs.Words.{State}
 use Rattle.rules.specs.Inputs.{saying, offered}
-use Rattle.rules.specs.Refusals.{done}
+use Rattle.rules.specs.Refusals.{done, step}
 use Rattle.rules.proofs.Tests.{by-bool}
-use Rattle.agreement.specs.Schedule.{Event, idle, commonTick, tickOf, given, offeredTo, happens, ticks, IsCommon, until, at, out, clock, Says, CommonTicks, RoomTo, IsLent, ProperBuffers, Sends, InTime, Hands, NoForgery, Offers, OneName, Premises, Schedule, reportsIn, reported, Run, run}
+use Rattle.agreement.specs.Schedule.{Event, idle, commonTick, tickOf, given, offeredTo, happens, ticks, IsCommon, until, at, out, clock, Says, CommonTicks, RoomTo, IsLent, ProperBuffers, Sends, Speaks, InTime, NeverUsedUp, Hands, NoForgery, Offers, OneName, Premises, Schedule, reportsIn, reported, Run, run}
 use Rattle.agreement.proofs.Events.{Happening, never-idle}
 use Rattle.agreement.proofs.Alike.{genuine-on}
 
@@ -124,6 +124,10 @@ module _ (size : Size) (n D : ℕ) (event : ℕ → Event) (K : ℕ) where
     sends-back i j l m (inl (s, ne)) = let (u, t) = says-back i l (toAll m) s in (u, inl (t, ne))
     sends-back i j l m (inr s) = let (u, t) = says-back i l (toOne j m) s in (u, inr t)
 
+    spoken-back : (i l : ℕ) (m : Message) → Speaks Q i l m → Speaks R i l m
+    spoken-back i l m (inl s) = inl (says-back i l (toAll m) s .1)
+    spoken-back i l m (inr (j, s)) = inr (j, says-back i l (toOne j m) s .1)
+
     -- ---- the premises
 
     common-until : CommonTicks R → CommonTicks Q
@@ -158,6 +162,12 @@ module _ (size : Size) (n D : ℕ) (event : ℕ → Event) (K : ℕ) where
     forgery-until : NoForgery R faulty → NoForgery Q faulty
     forgery-until genuine l j m h = let (d, g) = hands-back l j m h in genuine-on R E (at size n D E) (out size n D E) faulty l (λ i p e ok u s. says-on i p e (omega arith) s) m (genuine l j m g)
 
+    heard-until : NeverUsedUp R faulty → NeverUsedUp Q faulty
+    heard-until heard i j hi hj l k v h b a s o e r =
+        let m = vote v h b a in
+        let (d, f) = happened K event k (given j (write m)) tt e in
+        heard i j hi hj l k v h b a (spoken-back i l m s) o f (subst (λ (u : State). step (write m) u .number ≡ 12) (at-until j k (omega arith)) r)
+
     module _ (heightOf parentOf : ℕ → ℕ) where
       names-until : OneName R faulty heightOf parentOf → OneName Q faulty heightOf parentOf
       names-until one l j m (inl h) = one l j m (inl (hands-back l j m h .1))
@@ -174,6 +184,7 @@ module _ (size : Size) (n D : ℕ) (event : ℕ → Event) (K : ℕ) where
             inTime = inTime-until (P .inTime);
             noForgery = forgery-until (P .noForgery);
             oneName = names-until (P .oneName);
+            heard = heard-until (P .heard);
           }
 
       -- who is full or at the last clock only after K is sound up to K

@@ -12,9 +12,9 @@ use Rattle.rules.specs.Lists.{any, all}
 use Rattle.rules.specs.Sizes.{goodSettings, faults, bit, count}
 use Rattle.rules.specs.Messages.{Message, newView, propose, vote, blame, blameSet, status, kind, values, read, write, allowed, Effect, toAll, toOne, committed}
 use Rattle.rules.specs.Inputs.{offered}
-use Rattle.rules.specs.Refusals.{running}
+use Rattle.rules.specs.Refusals.{running, step}
 use Rattle.rules.specs.Script.{sameList}
-use Rattle.agreement.specs.Schedule.{Event, idle, commonTick, tickOf, given, offeredTo, ticks, settingsOf, at, out, clock, Run, GoodSettings, CommonTicks, ProperBuffers, AtMostF, NeverFull, InTime, NoForgery, OneName}
+use Rattle.agreement.specs.Schedule.{Event, idle, commonTick, tickOf, given, offeredTo, ticks, settingsOf, at, out, clock, Run, GoodSettings, CommonTicks, ProperBuffers, AtMostF, NeverFull, InTime, NoForgery, OneName, NeverUsedUp}
 
 unfoldable pub implies : Bool → Bool → Bool
 implies true b = b
@@ -81,10 +81,10 @@ offeredAs (offeredTo j b) p = p j b
 -- ---- the premises, by name
 
 pub data Premise : Type 0 where
-  settingsGood fewFaulty neverFull commonTicks properBuffers inTime noForgery oneName : Premise
+  settingsGood fewFaulty neverFull commonTicks properBuffers inTime noForgery oneName neverUsedUp : Premise
 
 unfoldable pub premises : List Premise
-premises = settingsGood ∷ fewFaulty ∷ neverFull ∷ commonTicks ∷ properBuffers ∷ inTime ∷ noForgery ∷ oneName ∷ []
+premises = settingsGood ∷ fewFaulty ∷ neverFull ∷ commonTicks ∷ properBuffers ∷ inTime ∷ noForgery ∷ oneName ∷ neverUsedUp ∷ []
 
 unfoldable pub place : Premise → ℕ
 place settingsGood = 0
@@ -95,6 +95,7 @@ place properBuffers = 4
 place inTime = 5
 place noForgery = 6
 place oneName = 7
+place neverUsedUp = 8
 
 unfoldable pub other : Premise → Premise → Bool
 unfolding place
@@ -110,6 +111,7 @@ module _ (R : Run) (faulty : ℕ) (heightOf parentOf : ℕ → ℕ) where
   Holds inTime = InTime R faulty
   Holds noForgery = NoForgery R faulty
   Holds oneName = OneName R faulty heightOf parentOf
+  Holds neverUsedUp = NeverUsedUp R faulty
 
   -- every premise but one holds
   abbrev pub AllBut : Premise → Type 0
@@ -188,6 +190,11 @@ module _ (size : Size) (n D : ℕ) (es : List Event) (faulty : ℕ) where
   unfolding every givenTo offeredAs listed all
   allLent = every (length es) (λ k. givenTo (listed es k) (λ j bs. all (λ b. ltb b 256) bs) true && offeredAs (listed es k) (λ j b. ltb b (256 ^ 32)))
 
+  -- no sound station answers 12 to anything
+  unfoldable pub allHeard : Bool
+  unfolding every givenTo listed implies isSound step at
+  allHeard = every (length es) (λ k. givenTo (listed es k) (λ j bs. implies (isSound j) (not (eqb (step bs (at size n D (listed es) j k) .number) 12))) true)
+
   module _ (heightOf parentOf : ℕ → ℕ) where
     unfoldable pub isOneBlock : Message → Bool
     isOneBlock (newView v h b c m a) = eqb (heightOf b) h
@@ -205,7 +212,7 @@ module _ (size : Size) (n D : ℕ) (es : List Event) (faulty : ℕ) where
 
     -- the test of each premise
     unfoldable pub test : Premise → Bool
-    unfolding goodSettings count allRun allCommon allLent allInTime noneForged oneNamed
+    unfolding goodSettings count allRun allCommon allLent allInTime noneForged oneNamed allHeard
     test settingsGood = goodSettings (settingsOf size n D 0)
     test fewFaulty = leb (count faulty) (faults (settingsOf size n D 0))
     test neverFull = allRun
@@ -214,6 +221,7 @@ module _ (size : Size) (n D : ℕ) (es : List Event) (faulty : ℕ) where
     test inTime = allInTime
     test noForgery = noneForged
     test oneName = oneNamed
+    test neverUsedUp = allHeard
 
     unfoldable pub verdict : List Bool
     unfolding test

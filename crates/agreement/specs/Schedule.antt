@@ -208,6 +208,12 @@ module _ (R : Run) where
     abbrev pub Offers : (k j : ℕ) → Message → Type 0
     Offers k j m = Sound j × ((b : ℕ) × (event k ≡ offeredTo j b) × (offered b (state j k) ≡ some m))
 
+    -- 02: "a station that answers 12 to a sound station's vote counts among the f"
+    abbrev pub NeverUsedUp : Type 0
+    NeverUsedUp =
+        (i j : ℕ) → Sound i → Sound j → (l k v h b a : ℕ) → Speaks i l (vote v h b a) → l < k → event k ≡ given j (write (vote v h b a))
+        → ¬ (step (write (vote v h b a)) (state j k) .number ≡ 12)
+
     -- "in all statements and offers, sound leaders' too, one name has one height and parent"
     module _ (heightOf parentOf : ℕ → ℕ) where
       abbrev pub OneName : Type 0
@@ -223,6 +229,7 @@ module _ (R : Run) where
         pub inTime : InTime
         pub noForgery : NoForgery
         pub oneName : OneName
+        pub heard : NeverUsedUp
 
       pub record Schedule : Type 0 where
         pub premises : Premises

@@ -15,7 +15,7 @@ use Rattle.rules.specs.Sizes.{Settings, goodSettings}
 use Rattle.rules.specs.Messages.{propose, viewAllowed, blockAllowed, maskAllowed, allowed}
 use Rattle.rules.specs.Words.{Statement, message, Phase, inView, waiting, stopped, State, sameStatement}
 use Rattle.rules.specs.Inputs.{withClock, isIn, isDue, due, commits}
-use Rattle.rules.specs.WellFormed.{isName, wellFormed, clocksInOrder, lockGood, statementGood, tallyGood, sameTally, talliesThere, blamesGood, linked}
+use Rattle.rules.specs.WellFormed.{isName, wellFormed, clocksInOrder, lockGood, statementGood, tallyGood, sameTally, talliesThere, blamesGood, linked, fewOpened}
 use Rattle.rules.proofs.Tests.{by-bool, and-left, and-right}
 use Rattle.fields.specs.Places.{Bytes}
 use Rattle.fields.specs.Records.{fields}
@@ -119,19 +119,19 @@ module _ (b : List ℕ) where
 
 -- ---- a propose has height at least 1
 
-sixth-last : (a x b c d e f g : Bool) → (a && x && b && c && d && e && f && g) ≡ true → x ≡ true
-sixth-last a x b c d e f g q =
+seventh-last : (a x b c d e f g h : Bool) → (a && x && b && c && d && e && f && g && h) ≡ true → x ≡ true
+seventh-last a x b c d e f g h q =
     and-right a x (and-left (a && x) b (and-left (a && x && b) c (and-left (a && x && b && c) d (and-left (a && x && b && c && d) e
-    (and-left (a && x && b && c && d && e) f (and-left (a && x && b && c && d && e && f) g q))))))
+    (and-left (a && x && b && c && d && e) f (and-left (a && x && b && c && d && e && f) g (and-left (a && x && b && c && d && e && f && g) h q)))))))
 
 all-good : (s : State) → wellFormed s ≡ true → all (statementGood s) (s .statements) ≡ true
 unfolding wellFormed
 all-good s =
-    sixth-last
+    seventh-last
     (goodSettings (s .settings) && viewAllowed (s .settings) (s .view) && clocksInOrder s && lockGood s && leb (length (s .statements)) (mostStatements (s .settings .size))
     && leb (length (s .tallies)) (mostTallies (s .settings .size)))
     (all (statementGood s) (s .statements)) (distinct sameStatement (s .statements)) (all (tallyGood (s .settings)) (s .tallies)) (distinct sameTally (s .tallies))
-    (all (talliesThere (s .tallies)) (s .statements)) (blamesGood (s .settings) (s .blames)) (linked (s .statements) 0 0 (s .log))
+    (all (talliesThere (s .tallies)) (s .statements)) (blamesGood (s .settings) (s .blames)) (linked (s .statements) 0 0 (s .log)) (fewOpened (s .settings .n) (s .tallies))
 
 propose-high : (s : State) (x : Statement) → statementGood s x ≡ true → x .isNewView ≡ false → 1 ≤ x .height
 unfolding statementGood message allowed

@@ -11,12 +11,13 @@ use lib.IntN.{pos}
 use lib.Signed.{leZ}
 use Rattle.rules.specs.Lists.{first, any, alter}
 use Rattle.rules.specs.Sizes.{Settings, only}
-use Rattle.rules.specs.Messages.{Message, newView, propose, vote, blame, blameSet, status, read, allowed, Effect}
-use Rattle.rules.specs.Words.{Statement, sameStatement, conflict, Certificate, Cause, full, State, fresh}
+use Rattle.rules.specs.Messages.{Message, newView, propose, vote, blame, blameSet, status, Effect}
+use Rattle.rules.specs.Words.{Statement, sameStatement, conflict, Certificate, Opener, Cause, full, State, fresh}
 use Rattle.rules.specs.Inputs.{Work, saying, withPhase, withTables, isIn, quit, belowLock, noted, votedFor, voting, certificateJoined, stored, statement, tallied, blamed, blameFull, blaming, handled, offered}
-use Rattle.rules.specs.Refusals.{done, refused, stopping, hasRoom, ifRoom, running, ahead, step, offer, tick}
+use Rattle.rules.specs.Refusals.{done, refused, stopping, hasRoom, ifRoom, running, step, offer, tick}
 use Rattle.rules.specs.WellFormed.{wellFormed}
 use Rattle.rules.specs.Display.{Shown, isShown, dueClock, shown, showingAll, display}
+use Rattle.rules.proofs.Answers.{by-step}
 use Rattle.rules.proofs.Tests.{by-bool, by-option, no-bool}
 use Rattle.rules.proofs.Searches.{by-mem}
 use Rattle.rules.proofs.Moves.{voting-low, voting-high}
@@ -100,18 +101,18 @@ module _ (xs : List Statement) where
       by-bool (isIn v (blamed v m s) && blameFull v (blamed v m s)) (λ q. rw (q, blaming) (quit-behind [] (blamed v m s)))
       (λ q. rw (q, blaming) (same-behind s (blamed v m s) (blamed-shown s v m) k))
 
-  tallied-behind : (c : Certificate) (s : State) → Behind xs s → Behind xs (tallied c s .now)
+  tallied-behind : (j : Opener) (c : Certificate) (s : State) → Behind xs s → Behind xs (tallied j c s .now)
   unfolding tallied saying
-  tallied-behind c s k = same-behind s (tallied c s .now) (joined-shown s _) k
+  tallied-behind j c s k = same-behind s (tallied j c s .now) (joined-shown s _) k
 
   handled-behind : (m : Message) (s : State) → Behind xs s → Behind xs (handled m s .now)
   unfolding handled
   handled-behind (newView v h b c m a) s k = statement-behind (record { isNewView = true; view = v; height = h; name = b; link = c; mask = m; author = a; voted = none }) s refl k
   handled-behind (propose v h b p m a) s k = statement-behind (record { isNewView = false; view = v; height = h; name = b; link = p; mask = m; author = a; voted = none }) s refl k
-  handled-behind (vote v h b a) s k = tallied-behind (record { view = v; height = h; name = b; mask = only a }) s k
+  handled-behind (vote v h b a) s k = tallied-behind (some a) (record { view = v; height = h; name = b; mask = only a }) s k
   handled-behind (blame v a) s k = blaming-behind v (only a) s k
   handled-behind (blameSet v m) s k = blaming-behind v m s k
-  handled-behind (status h b c m) s k = tallied-behind (record { view = c; height = h; name = b; mask = m }) s k
+  handled-behind (status h b c m) s k = tallied-behind none (record { view = c; height = h; name = b; mask = m }) s k
 
   -- ---- the calls
 
@@ -120,15 +121,8 @@ module _ (xs : List Statement) where
   ifRoom-behind s w k = by-bool (hasRoom (w .now)) (λ q. rw (q, ifRoom) k) (λ q. rw (q, ifRoom) (stopping-behind 6 full s))
 
   pub step-behind : (bs : List ℕ) (s : State) → Behind xs s → Behind xs (step bs s .next)
-  unfolding step refused
-  step-behind bs s k =
-      by-bool (running s)
-      (λ r.
-      by-option (read bs) (λ q. rw (r, q, step) k) λ m q.
-      by-bool (allowed (s .settings) m)
-      (λ a. by-bool (ahead m s) (λ h. rw (r, q, a, h, step) k) (λ h. rw (r, q, a, h, step) (ifRoom-behind s (handled m s) (handled-behind m s k))))
-      (λ a. rw (r, q, a, step) k))
-      (λ r. rw (r, step) k)
+  unfolding refused
+  step-behind bs s k = by-step (λ o. Behind xs (o .next)) s (λ n. k) bs (λ m q a u. ifRoom-behind s (handled m s) (handled-behind m s k))
 
   pub offer-behind : (b : ℕ) (s : State) → Behind xs s → Behind xs (offer b s .next)
   unfolding offer refused

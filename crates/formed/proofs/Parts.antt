@@ -7,16 +7,16 @@ use native.Mathlib.Omega.{arith}
 use native.Mathlib.Numerals.{add-one}
 use lib.ListN.{length}
 use lib.Dec.{leb, ltb, eqb}
-use borrow.Author.Tests.{lt-ltb, ltb-true, leb-true, ne-eqb, eq-eqb}
+use borrow.Author.Tests.{lt-ltb, le-ltb, ltb-true, leb-true, ne-eqb, eq-eqb}
 use Rattle.rules.specs.Limits.{lastClock, lastView}
 use Rattle.rules.specs.Lists.{all, any, within}
 use Rattle.rules.specs.Sizes as sizes
-use Rattle.rules.specs.Sizes.{goodSettings, leader}
+use Rattle.rules.specs.Sizes.{goodSettings, leader, holds}
 use Rattle.rules.specs.Messages.{newView, propose, viewAllowed, blockAllowed, maskAllowed, certificateAllowed, allowed}
 use Rattle.rules.specs.Words as words
 use Rattle.rules.specs.Words.{message, ownBlock, certificate, opened, ofBlock}
 use Rattle.rules.specs.Inputs.{isBlock}
-use Rattle.rules.specs.WellFormed.{isName, isMask, clocksInOrder, lockGood, statementGood, tallyGood, talliesThere, blamesGood, linked}
+use Rattle.rules.specs.WellFormed.{isName, isMask, clocksInOrder, lockGood, statementGood, openerGood, tallyGood, talliesThere, blamesGood, linked}
 use Rattle.rules.proofs.Bounds.{views-most}
 use Rattle.rules.proofs.Tests.{by-bool, and-left, and-right}
 use Rattle.fields.specs.declared.Name.{Name}
@@ -33,7 +33,7 @@ use Rattle.wire.specs.declared.Statement.{Statement}
 use Rattle.words.specs.Meaning.{Certifies}
 use Rattle.words.proofs.Statements.{certifies-allowed, certifies-read}
 use Rattle.store.specs.Layout.{sizeIn}
-use Rattle.store.specs.Decode.{rows, voteOf, statementAt, voteAt, blameAt, blamesFor, blames, stateFrom}
+use Rattle.store.specs.Decode.{rows, voteOf, openerOf, statementAt, voteAt, blameAt, blamesFor, blames, stateFrom}
 use Rattle.store.specs.Meaning.{courseOf, tallyOf, headerOf}
 use Rattle.store.specs.declared.Phase.{Phase}
 use Rattle.store.specs.declared.Station.{Station}
@@ -77,9 +77,31 @@ unfolding lockGood stateFrom headerOf
 lock-is s w = rw (words-name (s .lock .name) w, and-true)
 
 pub tally-is : (g : Settings) (t : Tally) → Words (t .name)
-    → (viewAllowed (settingsOf g) (t .view) && blockAllowed (t .height) (nameOf (t .name)) && ltb (t .mask) (2 ^ g .n)) ≡ tallyGood (settingsOf g) (tallyOf t)
+    → (viewAllowed (settingsOf g) (t .view) && blockAllowed (t .height) (nameOf (t .name)) && ltb (t .mask) (2 ^ g .n) && openerGood (settingsOf g) (t .mask) (openerOf (t .opener))) ≡ tallyGood (settingsOf g) (tallyOf t)
 unfolding tallyGood tallyOf isMask
 tally-is g t w = rw (words-name (t .name) w, and-true)
+
+-- who opened a tally, by the record's number
+module _ (g : Settings) (m k : ℕ) where
+  pub opener-none : k ≡ 0 → true ≡ openerGood (settingsOf g) m (openerOf k)
+  unfolding openerGood
+  opener-none e = rw e
+
+  pub opener-other : (k ≡ 0 → ⊥) → g .n ≤ k - 1 → false ≡ openerGood (settingsOf g) m (openerOf k)
+  unfolding openerGood
+  opener-other d l = go k refl
+    where
+      go : (j : ℕ) → k ≡ j → false ≡ openerGood (settingsOf g) m (openerOf j)
+      go zero e = absurd (d e)
+      go (suc a) e = let f : ltb a (g .n) ≡ false = le-ltb a (g .n) (omega arith) in rw f
+
+  pub opener-some : (k ≡ 0 → ⊥) → k - 1 < g .n → {r : Bool} → r ≡ holds m (k - 1) → r ≡ openerGood (settingsOf g) m (openerOf k)
+  unfolding openerGood
+  opener-some d l {r} q = go k refl
+    where
+      go : (j : ℕ) → k ≡ j → r ≡ openerGood (settingsOf g) m (openerOf j)
+      go zero e = absurd (d e)
+      go (suc a) e = let f : k - 1 ≡ a = omega arith in rw (lt-ltb a (g .n) (omega arith)) (q ∙ ap (holds m) f)
 
 -- ---- a statement
 

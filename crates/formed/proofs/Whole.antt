@@ -7,13 +7,14 @@ use mathlib.Core.Option.{none, some}
 use native.Mathlib.Omega.{arith}
 use lib.ListN.{length}
 use borrow.Author.Tests.{le-leb, not-true, not-false}
-use Rattle.rules.specs.Limits.{Size, mostStatements, mostTallies}
+use Rattle.rules.specs.Limits.{Size, mostStations, mostStatements, mostTallies}
 use Rattle.rules.specs.Lists.{all, distinct}
 use Rattle.rules.specs.Sizes.{goodSettings}
 use Rattle.rules.specs.Messages.{viewAllowed}
 use Rattle.rules.specs.Words.{Statement, sameStatement, Tally}
-use Rattle.rules.specs.WellFormed.{clocksInOrder, lockGood, statementGood, tallyGood, sameTally, talliesThere, blamesGood, linked, wellFormed}
+use Rattle.rules.specs.WellFormed.{clocksInOrder, lockGood, statementGood, tallyGood, sameTally, talliesThere, blamesGood, linked, fewOpened, wellFormed}
 use Rattle.rules.proofs.Tests.{and-left, and-right}
+use Rattle.rules.proofs.Allowed.{sizes}
 use Rattle.fields.specs.Records.{fields}
 use Rattle.settings.specs.Made.{sizeFrom, settingsOf}
 use Rattle.store.specs.Layout.{sizeIn, headerFormat, storeLength, statementTable, countOf}
@@ -32,7 +33,7 @@ headerGood s = goodSettings (alone s .settings) && viewAllowed (alone s .setting
 parts-are : (s : Station) (xs : List Statement) (ts : List Tally) (ms l : List ℕ) → length xs ≤ mostStatements (sizeFrom (s .settings .size))
     → length ts ≤ mostTallies (sizeFrom (s .settings .size))
     → (headerGood s && all (statementGood (alone s)) xs && distinct sameStatement xs && all (tallyGood (settingsOf (s .settings))) ts && distinct sameTally ts
-    && all (talliesThere ts) xs && blamesGood (settingsOf (s .settings)) ms && linked xs 0 0 l)
+    && all (talliesThere ts) xs && blamesGood (settingsOf (s .settings)) ms && linked xs 0 0 l && fewOpened (s .settings .n) ts)
     ≡ wellFormed (stateFrom (sizeFrom (s .settings .size)) (headerOf s) xs ts ms l)
 unfolding wellFormed clocksInOrder lockGood statementGood stateFrom headerOf
 parts-are s xs ts ms l p q = simp (le-leb _ _ p, le-leb _ _ q, and-true)
@@ -42,9 +43,9 @@ state-is : (b : List ℕ) → stateOf b ≡ stateFrom (sizeIn b) (fields b 0 hea
 unfolding stateOf
 state-is b = refl
 
-grouped : (x a b c d e : Bool) → (x && (a && b && c && d && e)) ≡ (x && a && b && c && d && e)
-grouped true a b c d e = refl
-grouped false a b c d e = refl
+grouped : (x a b c d e f : Bool) → (x && (a && b && c && d && e && f)) ≡ (x && a && b && c && d && e && f)
+grouped true a b c d e f = refl
+grouped false a b c d e f = refl
 
 -- without the form nothing else counts
 pub formless : (b : List ℕ) (r : Bool) → r ≡ hasForm b → not r ≡ true → false ≡ (hasForm b && wellFormed (stateOf b))
@@ -88,12 +89,19 @@ module _ (b : List ℕ) (s : Station) (long : length b ≡ storeLength (sizeIn b
       let xs = statements b in
       let ts = tallies b in
       let whole = wellFormed (stateOf b) in
-      grouped (headerGood s && good && apart) (all (tallyGood g) ts) (distinct sameTally ts) (all (talliesThere ts) xs) (blamesGood g (blames b)) (linked xs 0 0 (names b))
+      grouped (headerGood s && good && apart) (all (tallyGood g) ts) (distinct sameTally ts) (all (talliesThere ts) xs) (blamesGood g (blames b)) (linked xs 0 0 (names b)) (fewOpened (g .n) ts)
       ∙ parts-are s xs ts (blames b) (names b) few-statements few-tallies
       ∙ ap (λ (z : Size). wellFormed (stateFrom z (headerOf s) xs ts (blames b) (names b))) (holds .size)
       ∙ ap (λ (vs : List ℕ). wellFormed (stateFrom (sizeIn b) vs xs ts (blames b) (names b))) (holds .header)
       ∙ ap wellFormed (sym (state-is b))
       ∙ ap (_&& whole) (sym form)
+
+  -- good settings are of no more stations than may be
+  few-stations : headerGood s ≡ true → s .settings .n ≤ mostStations
+  few-stations e =
+      let set = goodSettings (alone s .settings) in
+      let view = viewAllowed (alone s .settings) (alone s .view) in
+      sizes (settingsOf (s .settings)) (unfold stateFrom headerOf in and-left set view (and-left (set && view) (clocksInOrder (alone s)) (and-left (set && view && clocksInOrder (alone s)) (lockGood (alone s)) e))) .most
 
   -- statements that are good certify
   certify : good ≡ true → AllCertify b (s .statements)
@@ -114,6 +122,7 @@ module _ (b : List ℕ) (s : Station) (long : length b ≡ storeLength (sizeIn b
           tallies = counts-tallies b s lent k;
           log = counts-log b s lent k;
           certify = certify (and-right (headerGood s) good (and-left (headerGood s && good) apart (sym tests ∙ not-false (x && y && z) e)));
+          stations = few-stations (and-left (headerGood s) good (and-left (headerGood s && good) apart (sym tests ∙ not-false (x && y && z) e)));
         }
 
     pub formed-not : not (x && y && z) ≡ true → false ≡ (hasForm b && wellFormed (stateOf b))

@@ -6,10 +6,11 @@ use mathlib.Core.List.{List, []}
 use mathlib.Core.Option.{Option, none, some}
 use lib.ListN.{length}
 use lib.Dec.{leb, ltb, eqb}
-use Rattle.rules.specs.Lists.{all, distinct, within}
+use Rattle.rules.specs.Limits.{mostStations}
+use Rattle.rules.specs.Lists.{all, distinct, keep, within}
 use Rattle.rules.specs.Sizes.{Settings}
 use Rattle.rules.specs.Words as words
-use Rattle.rules.specs.WellFormed.{tallyGood, sameTally, talliesThere, blamesGood, linked}
+use Rattle.rules.specs.WellFormed.{tallyGood, sameTally, talliesThere, blamesGood, linked, fewOpened}
 use Rattle.rules.specs.Inputs.{isBlock}
 use Rattle.fields.specs.Places.{number}
 use Rattle.fields.specs.Records.{fields}
@@ -18,7 +19,7 @@ use Rattle.wire.specs.declared.Statement.{Statement}
 use Rattle.words.specs.Meaning.{Certifies}
 use Rattle.settings.specs.Made.{sizeFrom}
 use Rattle.store.specs.Layout.{sizeIn, headerFormat, storeLength, Table, statementTable, tallyTable, logTable, countOf}
-use Rattle.store.specs.Decode.{nth, statementAt, statements, tallies, blames, names, stateFrom}
+use Rattle.store.specs.Decode.{nth, rows, openerAt, statementAt, statements, tallies, blames, names, stateFrom}
 use Rattle.store.specs.Meaning.{headerOf, Loads}
 use Rattle.store.specs.declared.Station.{Station}
 
@@ -40,6 +41,15 @@ fits b base size room count = leb count room && eqb (number b (base + size * cou
 -- the marks of a table's first n records: the last four bytes of their names
 abbrev pub Marked : List ℕ → ℕ → ℕ → ℕ → List ℕ → Type 0
 Marked b base size n marks = (i : ℕ) → i < n → nth marks i ≡ number b (base + size * i + 36) 4
+
+-- how often a number is among some
+unfoldable pub times : ℕ → List ℕ → ℕ
+unfolding keep
+times k ms = length (keep (eqb k) ms)
+
+-- of n tallies from tally i on, how many have which opener's number
+abbrev pub Counted : List ℕ → ℕ → ℕ → List ℕ → Type 0
+Counted b i n counts = (k : ℕ) → k < 256 → nth counts k ≡ times k (rows (openerAt b) i n)
 
 -- a place below n where the test holds, n itself where it fails
 pub record Place (n : ℕ) (test : Bool) (r : ℕ) : Type 0 where
@@ -72,16 +82,17 @@ isLink height name parent x = isBlock height name x && eqb parent (x .link)
 abbrev pub AllCertify : List ℕ → ℕ → Type 0
 AllCertify b n = (i : ℕ) → i < n → Certifies (statementAt b i)
 
--- the limits of the store, every table's count in range, and statements that certify
+-- the limits of the store, every table's count in range, statements that certify, and not too many stations
 pub record Ready (b : List ℕ) (s : Station) : Type 0 where
   pub size : sizeFrom (s .settings .size) ≡ sizeIn b
   pub statements : Counts statementTable b (s .statements)
   pub tallies : Counts tallyTable b (s .tallies)
   pub log : Counts logTable b (s .logged)
   pub certify : AllCertify b (s .statements)
+  pub stations : s .settings .n ≤ mostStations
 
 -- the parts of the definition after the statements
 unfoldable pub tablesGood : Settings → List ℕ → Bool
 tablesGood g b =
     all (tallyGood g) (tallies b) && distinct sameTally (tallies b) && all (talliesThere (tallies b)) (statements b)
-    && blamesGood g (blames b) && linked (statements b) 0 0 (names b)
+    && blamesGood g (blames b) && linked (statements b) 0 0 (names b) && fewOpened (g .n) (tallies b)

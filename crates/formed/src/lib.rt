@@ -15,6 +15,7 @@ mod form;
 mod header;
 mod log;
 mod marks;
+mod openers;
 mod statements;
 mod tallies;
 
@@ -29,6 +30,7 @@ fn tables_good(store: &[u8], station: Station) -> bool
         & tallies::all_there(store, station.tallies, station.statements)
         & blames::all_good(store, settings)
         & log::is_linked(store, station.logged, station.statements)
+        & openers::few_opened(store, settings, station.tallies)
 }
 
 // Whether a store of the exact length is well formed.

@@ -2,15 +2,15 @@
 ghost use mathlib.Core.Path.{_≡_};
 ghost use Prim.Native.Nat.{_+_, _-_, _≤_, _<_};
 ghost use lib.ListN.{length};
-ghost use Rattle.rules.specs.Limits.{mostTallies};
+ghost use Rattle.rules.specs.Limits.{mostStations, mostTallies};
 ghost use Rattle.rules.specs.Lists.{all, any, distinct};
 ghost use Rattle.rules.specs.Words.{ofBlock};
-ghost use Rattle.rules.specs.WellFormed.{tallyGood, sameTally, talliesThere};
+ghost use Rattle.rules.specs.WellFormed.{openerGood, tallyGood, sameTally, talliesThere};
 ghost use Rattle.settings.specs.Made.{settingsOf};
 ghost use Rattle.words.specs.Meaning.{blockOf, Certifies};
 ghost use Rattle.store.specs.Meaning.{tallyOf};
 ghost use Rattle.store.specs.Layout.{sizeIn, storeLength, statementTable, tallyTable};
-ghost use Rattle.store.specs.Decode.{rows, tallyAt, statements, tallies};
+ghost use Rattle.store.specs.Decode.{rows, openerOf, tallyAt, statements, tallies};
 ghost use Rattle.formed.specs.Lent.{Counts, Marked, Place, bare, AllCertify};
 use super::marks;
 use allowed::clauses;
@@ -21,8 +21,24 @@ use store::Tally;
 use wire::Statement;
 use words::Certificate;
 
-// Whether a tally is of a view and a block that are allowed, with a mask of these stations.
+// Whether who opened a tally, if an author did, is one of these stations and among its voters.
+fn opener_good(settings: Settings, mask: u16, opener: u8) -> bool
+    requires { ⌜ settings .n ≤ mostStations ⌝ }
+    ensures { λ r. ⌜ r ≡ openerGood (settingsOf settings) mask (openerOf opener) ⌝ }
+{
+    if opener == 0 {
+        return true;
+    }
+    let author = opener as u64 - 1;
+    if settings.n <= author {
+        return false;
+    }
+    settings::holds(mask as u64, author)
+}
+
+// Whether a tally is of a view and a block that are allowed, with a mask of these stations, opened by nobody or by one of its voters.
 fn tally_good(settings: Settings, tally: Tally) -> bool
+    requires { ⌜ settings .n ≤ mostStations ⌝ }
     ensures { λ r. ⌜ r ≡ tallyGood (settingsOf settings) (tallyOf tally) ⌝ }
 {
     let name = tally.name;
@@ -30,11 +46,12 @@ fn tally_good(settings: Settings, tally: Tally) -> bool
     clauses::view_allowed(settings, tally.view as u64)
         & block
         & clauses::mask_within(settings, tally.mask)
+        & opener_good(settings, tally.mask, tally.opener)
 }
 
 // Whether every tally is good.
 pub fn all_good(store: &[u8], settings: Settings, count: usize) -> bool
-    requires { ⌜ Counts tallyTable (now store) count ⌝ }
+    requires { ⌜ Counts tallyTable (now store) count × (settings .n ≤ mostStations) ⌝ }
     ensures { λ r. ⌜ r ≡ all (tallyGood (settingsOf settings)) (tallies (now (store .entry))) ⌝ }
 {
     let mut i: usize = 0;

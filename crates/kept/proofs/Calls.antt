@@ -28,7 +28,7 @@ use Rattle.kept.proofs.Sendable.{read-sendable}
 use Rattle.kept.proofs.Phases.{clocks-parts, stopped-formed}
 use Rattle.kept.proofs.Keeps.{Keeps, handled-keeps}
 use Rattle.kept.proofs.Ticks.{ticked-keeps}
-use Rattle.kept.proofs.Offers.{offered-sendable}
+use Rattle.kept.proofs.Offers.{offered-sendable, offered-free}
 
 -- what a call keeps
 pub record Kept (s : State) (o : Outcome) : Type 0 where
@@ -65,10 +65,10 @@ module _ {s : State} (w : WellFormed s) where
       (λ q. rw (q, ifRoom) (stopping-kept 6 full))
 
   pub step-kept : (bs : List ℕ) → Bytes bs → Kept s (step bs s)
-  step-kept bs h = by-step (Kept s) s refused-kept bs (λ m q a. ifRoom-kept (handled m s) (handled-keeps (w .formed) m (read-sendable (s .settings) bs m h q a)))
+  step-kept bs h = by-step (Kept s) s refused-kept bs (λ m q a u. ifRoom-kept (handled m s) (handled-keeps (w .formed) m (read-sendable (s .settings) bs m h q a) u))
 
   pub offer-kept : (b : ℕ) → b < 256 ^ 32 → Kept s (offer b s)
-  offer-kept b h = by-offer (Kept s) s refused-kept b (λ m q. ifRoom-kept (handled m s) (handled-keeps (w .formed) m (offered-sendable (w .formed) b m h q)))
+  offer-kept b h = by-offer (Kept s) s refused-kept b (λ m q. ifRoom-kept (handled m s) (handled-keeps (w .formed) m (offered-sendable (w .formed) b m h q) (offered-free b s m q)))
 
   pub tick-kept : Kept s (tick s)
   tick-kept =

@@ -15,7 +15,7 @@ use Rattle.rules.proofs.Tests.{by-option, no-some}
 use Rattle.rules.proofs.Allowed.{Sizes, sizes, view-within, height-le, leader-lt, mask-small, certificate-mask}
 use Rattle.kept.specs.Parts.{Formed, WellFormed}
 use Rattle.kept.proofs.Lists.{all-mem}
-use Rattle.kept.proofs.Tallies.{TallyGood, tally-parts, CertificateGood, lock-parts}
+use Rattle.kept.proofs.Tallies.{TallyGood, tally-parts, opener-lt, CertificateGood, lock-parts}
 use Rattle.kept.proofs.Statements.{Stated, voted-le, stored-stated}
 use Rattle.kept.proofs.Phases.{Clocks, clocks-parts}
 use Rattle.kept.proofs.Blames.{blames-mask, blames-length}
@@ -63,6 +63,9 @@ module _ {s : State} (f : Formed s) where
         let d = tally-of in
         let v = view-within (s .settings) (t .view) (d .view) in
         (v .0, v .1, height-le (t .height) (t .name) (d .block), mask-small sizes-of (d .mask), v .2)
+
+    pub opener-below : (a : ℕ) → t .opener ≡ some a → a < s .settings .n
+    opener-below a e = opener-lt (s .settings) (t .mask) (t .opener) a (tally-of .opener) e
 
   -- ---- the lock, the blame masks
 

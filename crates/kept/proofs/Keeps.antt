@@ -3,13 +3,14 @@ use mathlib.Core.Path.{_≡_, refl, _∙_}
 use Prim.Native.Nat.{ℕ, _^_, _<_}
 use mathlib.Core.Bool.{true, false, _&&_}
 use mathlib.Core.List.{List, [], _∷_}
-use mathlib.Core.Option.{none}
+use mathlib.Core.Option.{none, some}
 use borrow.Author.Tests.{lt-ltb}
 use Rattle.rules.specs.Lists.{first, any}
 use Rattle.rules.specs.Sizes.{only}
 use Rattle.rules.specs.Messages.{Message, newView, propose, vote, blame, blameSet, status, viewAllowed, allowed, Effect, toAll}
-use Rattle.rules.specs.Words.{Statement, message, sameStatement, conflict, Certificate, Tally, certificateOf, opened, ofBlock, State}
+use Rattle.rules.specs.Words.{Statement, message, sameStatement, conflict, Certificate, Opener, State}
 use Rattle.rules.specs.Inputs.{Work, saying, _▸_, withPhase, withTables, withBlames, isIn, quit, belowLock, votedFor, ballot, voting, certificateJoined, stored, statement, tallied, blamesOf, blamed, blameFull, blaming, handled}
+use Rattle.rules.specs.Refusals.{usedUp}
 use Rattle.rules.proofs.Tests.{by-bool, by-option}
 use Rattle.rules.proofs.Truths.{and-2, both}
 use Rattle.rules.proofs.Searches.{first-mem}
@@ -18,7 +19,8 @@ use Rattle.kept.specs.Parts.{Formed}
 use Rattle.kept.specs.Said.{Each, Sendable, Sayable}
 use Rattle.kept.proofs.Lists.{each-append}
 use Rattle.kept.proofs.Sendable.{named, sendable}
-use Rattle.kept.proofs.Tallies.{Joinable, joinable, tally-made}
+use Rattle.kept.proofs.Tallies.{Joinable, joinable, tally-made, opener-only}
+use Rattle.kept.proofs.Openers.{MayOpen, nobody-may, author-may}
 use Rattle.kept.proofs.Statements.{stated, stored-said}
 use Rattle.kept.proofs.Tables.{tallied-formed, certificateJoined-formed, stored-formed, votedFor-formed}
 use Rattle.kept.proofs.Phases.{quit-formed}
@@ -85,9 +87,9 @@ module _ {s : State} (f : Formed s) (x : Statement) (m : Sendable (s .settings) 
 -- ---- vote, status, blame, blame set
 
 module _ {s : State} (f : Formed s) where
-  pub tallied-keeps : (t : Certificate) → Joinable (s .settings) t → Keeps s (tallied t s)
+  pub tallied-keeps : (k : Opener) (t : Certificate) → Joinable (s .settings) k t → MayOpen k t (s .tallies) → Keeps s (tallied k t s)
   unfolding tallied saying withTables
-  tallied-keeps t j = record { settings = refl; formed = tallied-formed f t j; said = tt }
+  tallied-keeps k t j o = record { settings = refl; formed = tallied-formed f k t j o; said = tt }
 
   -- the set that is sent is the full mask now held
   pub full-sendable : (v : ℕ) → viewAllowed (s .settings) v ≡ true → blameFull v s ≡ true → Sendable (s .settings) (blameSet v (blamesOf v s))
@@ -109,22 +111,23 @@ module _ {s : State} (f : Formed s) where
 
   -- ---- a message
 
-  pub handled-keeps : (m : Message) → Sendable (s .settings) m → Keeps s (handled m s)
+  pub handled-keeps : (m : Message) → Sendable (s .settings) m → usedUp m s ≡ false → Keeps s (handled m s)
   unfolding handled message
-  handled-keeps (newView v h b c m a) e =
+  handled-keeps (newView v h b c m a) e u =
       statement-keeps f (record { isNewView = true; view = v; height = h; name = b; link = c; mask = m; author = a; voted = none }) e refl
-  handled-keeps (propose v h b p m a) e =
+  handled-keeps (propose v h b p m a) e u =
       statement-keeps f (record { isNewView = false; view = v; height = h; name = b; link = p; mask = m; author = a; voted = none }) e refl
-  handled-keeps (vote v h b a) e =
+  handled-keeps (vote v h b a) e u =
       let (i, j, k) = allowed-rights (s .settings) (vote v h b a) (e .isAllowed) in
       let n = named (vote v h b a) (e .fits) in
-      tallied-keeps f (record { view = v; height = h; name = b; mask = only a })
-      (λ q. tally-made (record { view = i; block = j; name = n; mask = only-lt (s .settings) a k }))
-  handled-keeps (blame v a) e =
+      let t : Certificate = record { view = v; height = h; name = b; mask = only a } in
+      tallied-keeps f (some a) t (λ q. tally-made (record { view = i; block = j; name = n; mask = only-lt (s .settings) a k; opener = opener-only (s .settings) a k }))
+      (author-may v h b a s u)
+  handled-keeps (blame v a) e u =
       let (i, j) = allowed-rights (s .settings) (blame v a) (e .isAllowed) in blaming-keeps v (only a) i (only-lt (s .settings) a j)
-  handled-keeps (blameSet v m) e =
+  handled-keeps (blameSet v m) e u =
       let (i, j) = allowed-rights (s .settings) (blameSet v m) (e .isAllowed) in blaming-keeps v m i (mask-parts (s .settings) m j .0)
-  handled-keeps (status h b c m) e =
+  handled-keeps (status h b c m) e u =
       let (i, j) = allowed-rights (s .settings) (status h b c m) (e .isAllowed) in
-      tallied-keeps f (record { view = c; height = h; name = b; mask = m })
-      (joinable (s .settings) (record { view = c; height = h; name = b; mask = m }) i (named (status h b c m) (e .fits)) j)
+      let t : Certificate = record { view = c; height = h; name = b; mask = m } in
+      tallied-keeps f none t (joinable (s .settings) t i (named (status h b c m) (e .fits)) j) (nobody-may t (s .tallies))

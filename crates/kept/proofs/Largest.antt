@@ -20,8 +20,8 @@ proposesTo (suc h) =
     ++ record { isNewView = false; view = 2; height = suc h; name = suc h; link = h; mask = 3; author = 2; voted = none } ∷ []
 
 talliesTo : ℕ → List Tally
-talliesTo zero = record { view = 2; height = 0; name = 0; mask = 3 } ∷ []
-talliesTo (suc h) = talliesTo h ++ record { view = 2; height = suc h; name = suc h; mask = 3 } ∷ []
+talliesTo zero = record { view = 2; height = 0; name = 0; mask = 3; opener = none } ∷ []
+talliesTo (suc h) = talliesTo h ++ record { view = 2; height = suc h; name = suc h; mask = 3; opener = none } ∷ []
 
 pub largest : State
 unfolding proposesTo talliesTo

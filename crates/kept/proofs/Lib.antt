@@ -2,6 +2,7 @@ pub mod Lists
 pub mod WellFormed
 pub mod Sendable
 pub mod Tallies
+pub mod Openers
 pub mod Statements
 pub mod Recorded
 pub mod Tables
@@ -19,3 +20,4 @@ pub mod Ticking
 pub mod Outs
 pub mod Facts
 pub mod Largest
+pub mod Neighbours

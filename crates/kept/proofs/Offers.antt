@@ -1,5 +1,5 @@
 -- The propose that an offer makes may be sent. Assumes nothing.
-use mathlib.Core.Path.{_≡_}
+use mathlib.Core.Path.{_≡_, refl}
 use Prim.Native.Nat.{ℕ, _+_, _-_, _^_, _<_}
 use native.Mathlib.Omega.{arith}
 use mathlib.Core.Bool.{true, false}
@@ -12,6 +12,7 @@ use Rattle.rules.specs.Sizes.{leader, quorum}
 use Rattle.rules.specs.Messages.{Message, propose, allowed}
 use Rattle.rules.specs.Words.{Statement, ownBlock, voters, State}
 use Rattle.rules.specs.Inputs.{leads, extendable, above, offered}
+use Rattle.rules.specs.Refusals.{usedUp}
 use Rattle.rules.proofs.Truths.{and-2}
 use Rattle.rules.proofs.Allowed.{sizes, block-made, mask-made}
 use Rattle.rules.proofs.Offers.{top-mem, offer-made}
@@ -40,3 +41,8 @@ module _ {s : State} (f : Formed s) where
 
   pub offered-sendable : (b : ℕ) (m : Message) → b < 256 ^ 32 → offered b s ≡ some m → Sendable (s .settings) m
   offered-sendable b m n e = let (x, t, l, o, z, k, f) = offer-made b s m e in rw (← f) (above-sendable x b (top-mem (s .view) (s .statements) x t .0) k l z n)
+
+-- an offer makes no vote, so nobody's tallies can be used up by it
+pub offered-free : (b : ℕ) (s : State) (m : Message) → offered b s ≡ some m → usedUp m s ≡ false
+unfolding above usedUp
+offered-free b s m e = let (x, t, l, o, z, k, f) = offer-made b s m e in rw (← f) refl

@@ -38,7 +38,7 @@ ifRoom-bytes s w k h =
 
 module _ (s : State) where
   pub step-bytes : (bs : List ℕ) → bytes (step bs s .out) ≤ 200
-  step-bytes bs = by-step (λ o. bytes (o .out) ≤ 200) s (λ k. refused-bytes 200 k s) bs (λ m q a. ifRoom-bytes s (handled m s) 200 (handled-bytes m s))
+  step-bytes bs = by-step (λ o. bytes (o .out) ≤ 200) s (λ k. refused-bytes 200 k s) bs (λ m q a _. ifRoom-bytes s (handled m s) 200 (handled-bytes m s))
 
   pub offer-bytes : (b : ℕ) → bytes (offer b s .out) ≤ 200
   offer-bytes b = by-offer (λ o. bytes (o .out) ≤ 200) s (λ k. refused-bytes 200 k s) b (λ m q. ifRoom-bytes s (handled m s) 200 (handled-bytes m s))

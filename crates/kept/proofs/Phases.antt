@@ -92,6 +92,7 @@ module _ {s : State} (f : Formed s) where
               talliesDiffer = f .tables .talliesDiffer;
               opened = f .tables .opened;
               log = f .tables .log;
+              fewOpened = f .tables .fewOpened;
             };
         blames = f .blames;
       }

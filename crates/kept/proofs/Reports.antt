@@ -59,5 +59,6 @@ module _ {s : State} (f : Formed s) where
         talliesDiffer = old .talliesDiffer;
         opened = old .opened;
         log = e;
+        fewOpened = old .fewOpened;
       })
       (f .blames)

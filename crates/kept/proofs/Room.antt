@@ -5,13 +5,13 @@ use Prim.Native.Nat.{ℕ, suc, _+_, _*_, _≤_}
 use native.Mathlib.Omega.{arith}
 use mathlib.Core.Bool.{true, false, _&&_}
 use mathlib.Core.List.{List, [], _∷_}
-use mathlib.Core.Option.{none}
+use mathlib.Core.Option.{none, some}
 use lib.Dec.{eqb}
 use lib.ListN.{length}
 use Rattle.rules.specs.Lists.{first, any}
 use Rattle.rules.specs.Sizes.{leader, only}
 use Rattle.rules.specs.Messages.{Message, newView, propose, vote, blame, blameSet, status, Effect, toAll, toOne}
-use Rattle.rules.specs.Words.{Statement, message, sameStatement, conflict, Certificate, Tally, certificateOf, opened, ofBlock, State}
+use Rattle.rules.specs.Words.{Statement, message, sameStatement, conflict, Certificate, Opener, State}
 use Rattle.rules.specs.Inputs.{Work, saying, _▸_, isIn, quit, belowLock, ballot, voting, stored, statement, tallied, blamesOf, blamed, blameFull, blaming, handled, overdue, complain, leadsNow, ownNewView, lead, nextLock, report, entering, entered, current, pair, inOrder, votingAll, arrive, entersNow, enter}
 use Rattle.rules.proofs.Tests.{by-bool, by-option}
 use Rattle.kept.proofs.Lists.{keep-length, sorted-length}
@@ -69,18 +69,18 @@ blaming-bytes v m s =
     by-bool (isIn v (blamed v m s) && blameFull v (blamed v m s))
     (λ q. rw (q, blaming) (let a = set-bytes v (blamesOf v (blamed v m s)) in omega arith)) (λ q. rw (q, blaming) (let a = bytes-none in omega arith))
 
-tallied-bytes : (t : Certificate) (s : State) → bytes (tallied t s .out) ≡ 0
+tallied-bytes : (k : Opener) (t : Certificate) (s : State) → bytes (tallied k t s .out) ≡ 0
 unfolding tallied saying
-tallied-bytes t s = bytes-none
+tallied-bytes k t s = bytes-none
 
 pub handled-bytes : (m : Message) (s : State) → bytes (handled m s .out) ≤ 200
 unfolding handled
 handled-bytes (newView v h b c m a) s = statement-bytes (record { isNewView = true; view = v; height = h; name = b; link = c; mask = m; author = a; voted = none }) s
 handled-bytes (propose v h b p m a) s = statement-bytes (record { isNewView = false; view = v; height = h; name = b; link = p; mask = m; author = a; voted = none }) s
-handled-bytes (vote v h b a) s = let k = tallied-bytes (record { view = v; height = h; name = b; mask = only a }) s in omega arith
+handled-bytes (vote v h b a) s = let k = tallied-bytes (some a) (record { view = v; height = h; name = b; mask = only a }) s in omega arith
 handled-bytes (blame v a) s = let k = blaming-bytes v (only a) s in omega arith
 handled-bytes (blameSet v m) s = let k = blaming-bytes v m s in omega arith
-handled-bytes (status h b c m) s = let k = tallied-bytes (record { view = c; height = h; name = b; mask = m }) s in omega arith
+handled-bytes (status h b c m) s = let k = tallied-bytes none (record { view = c; height = h; name = b; mask = m }) s in omega arith
 
 -- ---- blame, new-view
 

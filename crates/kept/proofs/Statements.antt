@@ -11,7 +11,7 @@ use Rattle.rules.specs.Sizes.{Settings, leader}
 use Rattle.rules.specs.Messages.{newView, propose, allowed, viewAllowed, blockAllowed}
 use Rattle.rules.specs.Words.{Statement, message, sameStatement, Certificate, Tally, certificateOf, opened, ofBlock, ownBlock, certificate, State}
 use Rattle.rules.specs.Inputs.{noted}
-use Rattle.rules.specs.WellFormed.{isName, statementGood, tallyGood, talliesThere}
+use Rattle.rules.specs.WellFormed.{isName, statementGood, openerGood, tallyGood, talliesThere}
 use Rattle.rules.proofs.Tests.{by-bool, by-option, no-bool}
 use Rattle.rules.proofs.Truths.{and-4}
 use Rattle.rules.proofs.Allowed.{Sizes, sizes, view-within, view-name, name-lt, lt-name, mask-parts, certificate-mask, allowed-rights}
@@ -28,7 +28,7 @@ pub record Stated (g : Settings) (x : Statement) : Type 0 where
   pub link : x .link < 256 ^ 32
   pub mask : x .mask < 2 ^ g .n
   pub author : x .author ≡ leader g (x .view)
-  pub certified : Joinable g (certificate x)
+  pub certified : Joinable g none (certificate x)
   -- a propose stands above its parent
   pub parent : x .isNewView ≡ false → (1 ≤ x .height) × (blockAllowed (x .height - 1) (x .link) ≡ true)
 
@@ -51,7 +51,7 @@ module _ (g : Settings) (x : Statement) (e : Sendable g (message x)) where
       }
 
   propose-stated : x .isNewView ≡ false → Stated g x
-  unfolding message certificate
+  unfolding message certificate openerGood
   propose-stated k =
       let (v, h, b, c, m, a) = allowed-rights g (propose (x .view) (x .height) (x .name) (x .link) (x .mask) (x .author)) (rw (k, message) at (e .isAllowed)) in
       let n = named (propose (x .view) (x .height) (x .name) (x .link) (x .mask) (x .author)) (rw (k, message) at (e .fits)) in
@@ -62,7 +62,7 @@ module _ (g : Settings) (x : Statement) (e : Sendable g (message x)) where
         link = n .1;
         mask = mask-parts g (x .mask) m .0;
         author = a;
-        certified = rw (k, certificate) (λ q. tally-made (record { view = v; block = c; name = n .1; mask = mask-parts g (x .mask) m .0 }));
+        certified = rw (k, certificate) (λ q. tally-made (record { view = v; block = c; name = n .1; mask = mask-parts g (x .mask) m .0; opener = refl }));
         parent = λ q. (h, c);
       }
 
@@ -70,9 +70,9 @@ module _ (g : Settings) (x : Statement) (e : Sendable g (message x)) where
   stated = by-bool (x .isNewView) newView-stated propose-stated
 
   -- a vote for it joins the tally of its block
-  pub own-good : (m : ℕ) → m < 2 ^ g .n → tallyGood g (opened (ownBlock x m)) ≡ true
-  unfolding ownBlock
-  own-good m h = let k = stated in tally-made (record { view = k .view; block = k .block; name = k .name; mask = h })
+  pub own-good : (m : ℕ) → m < 2 ^ g .n → tallyGood g (opened none (ownBlock x m)) ≡ true
+  unfolding ownBlock openerGood
+  own-good m h = let k = stated in tally-made (record { view = k .view; block = k .block; name = k .name; mask = h; opener = refl })
 
 -- ---- stored
 

@@ -8,7 +8,7 @@ use mathlib.Core.Option.{none}
 use lib.Dec.{eqb}
 use Rattle.rules.specs.Lists.{any, all, alter}
 use Rattle.rules.specs.Sizes.{only}
-use Rattle.rules.specs.Words.{Statement, message, sameStatement, Certificate, Tally, certificateOf, opened, ofBlock, ownBlock, certificate, sameBlock, join, joinCertificate, State}
+use Rattle.rules.specs.Words.{Statement, message, sameStatement, Certificate, Opener, Tally, certificateOf, ofBlock, ownBlock, certificate, sameBlock, join, joinCertificate, State}
 use Rattle.rules.specs.Inputs.{withTables, withBlames, withLog, noted, votedFor, certificateJoined, stored, isBlock}
 use Rattle.rules.specs.WellFormed.{statementGood, talliesThere, linked}
 use Rattle.rules.proofs.Tests.{by-bool}
@@ -21,6 +21,7 @@ use Rattle.kept.specs.Said.{Sendable}
 use Rattle.kept.proofs.Lists.{all-last, all-weaken, all-alter, any-append, distinct-append, distinct-alter}
 use Rattle.kept.proofs.Recorded.{recorded}
 use Rattle.kept.proofs.Tallies.{Joinable, block-self, join-good, join-any, join-there, join-distinct, certificate-good, certificate-any, certificate-there, certificate-distinct}
+use Rattle.kept.proofs.Openers.{MayOpen, nobody-may, join-few, certificate-few}
 use Rattle.kept.proofs.Statements.{stated, own-good, new-good, noted-good, noted-left, noted-right, noted-there}
 
 -- a block of that height and name above that parent
@@ -54,58 +55,62 @@ opened-mono : (ts us : List Tally) → ((t : Certificate) → any (ofBlock t) ts
     → all (talliesThere ts) xs ≡ true → all (talliesThere us) xs ≡ true
 opened-mono ts us f xs h = all-weaken (talliesThere ts) (talliesThere us) (there-mono ts us f) xs h
 
-new-there : (x : Statement) (us : List Tally) → talliesThere (join (ownBlock x 0) (joinCertificate (certificate x) us)) x ≡ true
+new-there : (x : Statement) (us : List Tally) → talliesThere (join none (ownBlock x 0) (joinCertificate none (certificate x) us)) x ≡ true
 unfolding talliesThere
 new-there x us =
-    let ts = joinCertificate (certificate x) us in
-    both (join-there (ownBlock x 0) (ownBlock x 0) ts (block-self (ownBlock x 0)))
-    (by-bool (eqb (certificate x .view) 0) (λ q. or-left (any (ofBlock (certificate x)) (join (ownBlock x 0) ts)) q)
-    (λ q. or-right (eqb (certificate x .view) 0) (join-any (ownBlock x 0) (certificate x) ts (certificate-there (certificate x) us q))))
+    let ts = joinCertificate none (certificate x) us in
+    both (join-there none (ownBlock x 0) (ownBlock x 0) ts (block-self (ownBlock x 0)))
+    (by-bool (eqb (certificate x .view) 0) (λ q. or-left (any (ofBlock (certificate x)) (join none (ownBlock x 0) ts)) q)
+    (λ q. or-right (eqb (certificate x .view) 0) (join-any none (ownBlock x 0) (certificate x) ts (certificate-there none (certificate x) us q))))
 
 module _ {s : State} (f : Formed s) where
   tabled : (xs : List Statement) (ts : List Tally) → Tables (statementGood s) (s .settings) xs ts (s .log) → Formed (withTables xs ts s)
   unfolding withTables withBlames withLog
   tabled xs ts t = recorded f xs ts (s .blames) (s .log) t (f .blames)
 
-  pub tallied-formed : (t : Certificate) → Joinable (s .settings) t → Formed (withTables (s .statements) (joinCertificate t (s .tallies)) s)
-  tallied-formed t j =
+  pub tallied-formed : (k : Opener) (t : Certificate) → Joinable (s .settings) k t → MayOpen k t (s .tallies) → Formed (withTables (s .statements) (joinCertificate k t (s .tallies)) s)
+  tallied-formed k t j o =
       let old = f .tables in
-      let ts = joinCertificate t (s .tallies) in
+      let ts = joinCertificate k t (s .tallies) in
       tabled (s .statements) ts
       (record {
         statements = old .statements;
         statementsDiffer = old .statementsDiffer;
-        tallies = certificate-good t (s .tallies) (s .settings) j (old .tallies);
-        talliesDiffer = certificate-distinct t (s .tallies) (old .talliesDiffer);
-        opened = opened-mono (s .tallies) ts (certificate-any t (s .tallies)) (s .statements) (old .opened);
+        tallies = certificate-good k t (s .tallies) (s .settings) j (old .tallies);
+        talliesDiffer = certificate-distinct k t (s .tallies) (old .talliesDiffer);
+        opened = opened-mono (s .tallies) ts (certificate-any k t (s .tallies)) (s .statements) (old .opened);
         log = old .log;
+        fewOpened = certificate-few k t (s .settings .n) (s .tallies) o (old .fewOpened);
       })
 
   module _ (x : Statement) (m : Sendable (s .settings) (message x)) where
     pub certificateJoined-formed : Formed (certificateJoined x s)
     unfolding certificateJoined
-    certificateJoined-formed = tallied-formed (certificate x) (stated (s .settings) x m .certified)
+    certificateJoined-formed = tallied-formed none (certificate x) (stated (s .settings) x m .certified) (nobody-may (certificate x) (s .tallies))
 
     module _ (v : x .voted ≡ none) (n : any (sameStatement x) (s .statements) ≡ false) where
       pub stored-formed : Formed (stored x s)
       unfolding stored
       stored-formed =
           let old = f .tables in
-          let us = joinCertificate (certificate x) (s .tallies) in
+          let us = joinCertificate none (certificate x) (s .tallies) in
           let own = ownBlock x 0 in
-          let ts = join own us in
+          let ts = join none own us in
           let xs = s .statements ++ x ∷ [] in
-          let good = certificate-good (certificate x) (s .tallies) (s .settings) (stated (s .settings) x m .certified) (old .tallies) in
+          let good = certificate-good none (certificate x) (s .tallies) (s .settings) (stated (s .settings) x m .certified) (old .tallies) in
           let still =
-          opened-mono (s .tallies) ts (λ t h. join-any own t us (certificate-any (certificate x) (s .tallies) t h)) (s .statements) (old .opened) in
+          opened-mono (s .tallies) ts (λ t h. join-any none own t us (certificate-any none (certificate x) (s .tallies) t h)) (s .statements) (old .opened) in
           tabled xs ts
           (record {
             statements = all-last (statementGood s) (s .statements) x (old .statements) (new-good s x m v);
             statementsDiffer = distinct-append sameStatement same-sym (s .statements) x (old .statementsDiffer) n;
-            tallies = join-good own (s .settings) us (own-good (s .settings) x m 0 (none-lt (s .settings))) good;
-            talliesDiffer = join-distinct own us (certificate-distinct (certificate x) (s .tallies) (old .talliesDiffer));
+            tallies = join-good none own (s .settings) us (own-good (s .settings) x m 0 (none-lt (s .settings))) good;
+            talliesDiffer = join-distinct none own us (certificate-distinct none (certificate x) (s .tallies) (old .talliesDiffer));
             opened = all-last (talliesThere ts) (s .statements) x still (new-there x (s .tallies));
             log = linked-mono (s .statements) xs (λ h b p. any-append (isAbove h b p) (s .statements) (x ∷ [])) 0 0 (s .log) (old .log);
+            fewOpened =
+                join-few none own (s .settings .n) us (nobody-may own us)
+                (certificate-few none (certificate x) (s .settings .n) (s .tallies) (nobody-may (certificate x) (s .tallies)) (old .fewOpened));
           })
 
     pub votedFor-formed : Formed (votedFor x s)
@@ -113,20 +118,21 @@ module _ {s : State} (f : Formed s) where
     votedFor-formed =
         let old = f .tables in
         let t = ownBlock x (only (s .settings .own)) in
-        let ts = join t (s .tallies) in
+        let ts = join none t (s .tallies) in
         let c = s .clock in
         let same = sameStatement x in
         let xs = alter same (noted c) (s .statements) in
         let own = only-lt (s .settings) (s .settings .own) (sizes (s .settings) (f .settings) .own) in
-        let still = opened-mono (s .tallies) ts (λ u. join-any t u (s .tallies)) (s .statements) (old .opened) in
+        let still = opened-mono (s .tallies) ts (λ u. join-any none t u (s .tallies)) (s .statements) (old .opened) in
         tabled xs ts
         (record {
           statements = all-alter (statementGood s) same (noted c) (noted-good s) (s .statements) (old .statements);
           statementsDiffer = distinct-alter sameStatement same (noted c) (noted-left c) (noted-right c) (s .statements) ∙ old .statementsDiffer;
-          tallies = join-good t (s .settings) (s .tallies) (own-good (s .settings) x m (only (s .settings .own)) own) (old .tallies);
-          talliesDiffer = join-distinct t (s .tallies) (old .talliesDiffer);
+          tallies = join-good none t (s .settings) (s .tallies) (own-good (s .settings) x m (only (s .settings .own)) own) (old .tallies);
+          talliesDiffer = join-distinct none t (s .tallies) (old .talliesDiffer);
           opened = all-alter (talliesThere ts) same (noted c) (λ y h. noted-there c ts y ∙ h) (s .statements) still;
           log =
               linked-mono (s .statements) xs (λ h b p e. any-alter (isAbove h b p) same (noted c) (noted-above c h b p) (s .statements) ∙ e) 0 0 (s .log)
               (old .log);
+          fewOpened = join-few none t (s .settings .n) (s .tallies) (nobody-may t (s .tallies)) (old .fewOpened);
         })

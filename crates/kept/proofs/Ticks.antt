@@ -13,6 +13,7 @@ use Rattle.rules.specs.Sizes.{Settings, leader, only}
 use Rattle.rules.specs.Messages.{newView, blame, blameSet, status, allowed, toAll}
 use Rattle.rules.specs.Words.{Statement, message, highest, State}
 use Rattle.rules.specs.Inputs.{Work, saying, _▸_, withClock, withLog, isIn, blamesOf, blameFull, leads, due, commits, logging, overdue, complain, leadsNow, ownNewView, lead, entersNow, nextLock, report, entering, entered, current, pair, inOrder, votingAll, arrive, enter, ticked}
+use Rattle.rules.specs.Refusals.{usedUp}
 use Rattle.rules.specs.WellFormed.{linked}
 use Rattle.rules.proofs.Tests.{by-bool, by-option}
 use Rattle.rules.proofs.Truths.{and-2, both}
@@ -76,12 +77,12 @@ module _ {s : State} (f : Formed s) where
       (both (both (both (both (f .view) (c .block)) (lt-ltb (t .view) (s .view) (c .earlier))) (c .isAllowed)) o) (c .name)
 
   pub lead-keeps : Keeps s (lead s)
-  unfolding lead leadsNow
+  unfolding lead leadsNow ownNewView usedUp
   lead-keeps =
       by-bool (leadsNow s)
       (λ q.
       let t = and-2 (leads s) (eqb (s .clock) (s .entry + 2 * s .settings .D + 1)) q in
-      rw (q, lead) (handled-keeps f (ownNewView s) (ownNewView-sendable (t .0))))
+      rw (q, lead) (handled-keeps f (ownNewView s) (ownNewView-sendable (t .0)) refl))
       (λ q. rw (q, lead) (silent f))
 
 -- ---- entering a view

@@ -9,15 +9,16 @@ use lib.Dec.{leb}
 use lib.ListN.{length, replicate, length-replicate}
 use borrow.Author.Tests.{lt-ltb, leb-true, le-leb, eq-eqb}
 use Rattle.rules.specs.Limits.{mostStatements, mostTallies, lastView}
-use Rattle.rules.specs.Lists.{all, distinct}
+use Rattle.rules.specs.Lists.{all, distinct, keep}
 use Rattle.rules.specs.Sizes.{Settings, goodSettings}
 use Rattle.rules.specs.Messages.{viewAllowed}
-use Rattle.rules.specs.Words.{sameStatement, State, fresh}
-use Rattle.rules.specs.WellFormed.{isMask, clocksInOrder, lockGood, statementGood, tallyGood, sameTally, talliesThere, blamesGood, linked, wellFormed}
+use Rattle.rules.specs.Words.{sameStatement, openedBy, State, fresh}
+use Rattle.rules.specs.WellFormed.{isMask, clocksInOrder, lockGood, statementGood, tallyGood, sameTally, talliesThere, blamesGood, linked, fewOpened, wellFormed}
 use Rattle.rules.proofs.Bounds.{views-some}
 use Rattle.rules.proofs.Truths.{and-2, both}
 use Rattle.kept.specs.Parts.{WellFormed}
 use Rattle.kept.specs.Said.{Each}
+use Rattle.kept.proofs.Openers.{each-few}
 
 -- a test and more
 every : Bool → List Bool → Bool
@@ -37,7 +38,7 @@ parts s e =
     (viewAllowed (s .settings) (s .view) ∷ clocksInOrder s ∷ lockGood s ∷ leb (length (s .statements)) (mostStatements (s .settings .size))
     ∷ leb (length (s .tallies)) (mostTallies (s .settings .size)) ∷ all (statementGood s) (s .statements) ∷ distinct sameStatement (s .statements)
     ∷ all (tallyGood (s .settings)) (s .tallies) ∷ distinct sameTally (s .tallies) ∷ all (talliesThere (s .tallies)) (s .statements)
-    ∷ blamesGood (s .settings) (s .blames) ∷ linked (s .statements) 0 0 (s .log) ∷ []) e in
+    ∷ blamesGood (s .settings) (s .blames) ∷ linked (s .statements) 0 0 (s .log) ∷ fewOpened (s .settings .n) (s .tallies) ∷ []) e in
     let rest = h .1 .1 .1 .1 .1 .1 in
     record {
       formed =
@@ -54,6 +55,7 @@ parts s e =
                   talliesDiffer = rest .1 .1 .1 .0;
                   opened = rest .1 .1 .1 .1 .0;
                   log = rest .1 .1 .1 .1 .1 .1 .0;
+                  fewOpened = rest .1 .1 .1 .1 .1 .1 .1 .0;
                 };
             blames = rest .1 .1 .1 .1 .1 .0;
           };
@@ -68,7 +70,7 @@ whole {s} w =
     let t = f .tables in
     let n = le-leb (length (s .statements)) (mostStatements (s .settings .size)) (w .fewStatements) in
     let m = le-leb (length (s .tallies)) (mostTallies (s .settings .size)) (w .fewTallies) in
-    simp (f .settings, f .view, f .clocks, f .lock, n, m, t .statements, t .statementsDiffer, t .tallies, t .talliesDiffer, t .opened, f .blames, t .log)
+    simp (f .settings, f .view, f .clocks, f .lock, n, m, t .statements, t .statementsDiffer, t .tallies, t .talliesDiffer, t .opened, f .blames, t .log, t .fewOpened)
 
 -- ---- a fresh state
 
@@ -78,7 +80,7 @@ zeros g zero = refl
 zeros g (suc k) = both (lt-ltb 0 (2 ^ g .n) (one-le-pow (g .n) 2 (omega arith))) (zeros g k)
 
 pub fresh-formed : (g : Settings) → goodSettings g ≡ true → WellFormed (fresh g)
-unfolding fresh viewAllowed clocksInOrder lockGood all distinct blamesGood linked
+unfolding fresh viewAllowed clocksInOrder lockGood all distinct blamesGood linked openedBy keep
 fresh-formed g h =
     record {
       formed =
@@ -88,7 +90,7 @@ fresh-formed g h =
             clocks = refl;
             lock = refl;
             tables =
-                record { statements = refl; statementsDiffer = refl; tallies = refl; talliesDiffer = refl; opened = refl; log = refl };
+                record { statements = refl; statementsDiffer = refl; tallies = refl; talliesDiffer = refl; opened = refl; log = refl; fewOpened = each-few (g .n) [] (λ a l. omega arith) };
             blames = both (eq-eqb _ (lastView (g .size)) (length-replicate (lastView (g .size)) 0)) (zeros g (lastView (g .size)));
           };
       fewStatements = omega arith;

@@ -9,9 +9,9 @@ use Rattle.rules.specs.Lists.{all, distinct}
 use Rattle.rules.specs.Sizes.{Settings, goodSettings}
 use Rattle.rules.specs.Messages.{viewAllowed}
 use Rattle.rules.specs.Words.{Statement, sameStatement, Tally, State}
-use Rattle.rules.specs.WellFormed.{clocksInOrder, lockGood, statementGood, tallyGood, sameTally, talliesThere, blamesGood, linked}
+use Rattle.rules.specs.WellFormed.{clocksInOrder, lockGood, statementGood, tallyGood, sameTally, talliesThere, blamesGood, linked, fewOpened}
 
--- (6) to (9) and (11): the two tables, and the log that rests on them; when a statement is good, the clock and the settings say
+-- (6) to (9), (11) and (12): the two tables, and the log that rests on them; when a statement is good, the clock and the settings say
 pub record Tables (good : Statement → Bool) (g : Settings) (xs : List Statement) (ts : List Tally) (l : List ℕ) : Type 0 where
   -- (6)
   pub statements : all good xs ≡ true
@@ -24,6 +24,8 @@ pub record Tables (good : Statement → Bool) (g : Settings) (xs : List Statemen
   pub opened : all (talliesThere ts) xs ≡ true
   -- (11)
   pub log : linked xs 0 0 l ≡ true
+  -- (12)
+  pub fewOpened : fewOpened (g .n) ts ≡ true
 
 -- all parts but (5): what every rule keeps on unbounded tables
 pub record Formed (s : State) : Type 0 where

@@ -5,7 +5,7 @@ use mathlib.Core.Bool.{Bool, true, false, _&&_}
 use mathlib.Core.List.{List}
 use borrow.Author.Tests.{le-leb}
 use Rattle.rules.specs.Limits.{mostStatements, mostTallies}
-use Rattle.rules.specs.Words.{State, full, Certificate}
+use Rattle.rules.specs.Words.{State, full, Certificate, Opener}
 use Rattle.rules.specs.Inputs.{saying, withPhase, withBlames, isIn, quit, blamed, blameFull, blaming, tallied}
 use Rattle.rules.specs.Refusals.{stopping, hasRoom, ifRoom}
 use Rattle.rules.proofs.Tests.{by-bool}
@@ -17,20 +17,20 @@ use Rattle.refusals.specs.Answers.{Answers, Mutely}
 use Rattle.refusals.proofs.Stops.{room-answers, full-answers}
 
 -- a vote or a status found room, or the station stops
-module _ (t : Certificate) (s : State) {b′ : List ℕ} {f : Bool} (k : Tried (tallied t s .now) s b′ f) where
-  pub tallied-answers : f ≡ true → Mutely (ifRoom s (tallied t s)) b′ 0
+module _ (j : Opener) (t : Certificate) (s : State) {b′ : List ℕ} {f : Bool} (k : Tried (tallied j t s .now) s b′ f) where
+  pub tallied-answers : f ≡ true → Mutely (ifRoom s (tallied j t s)) b′ 0
   unfolding fitting tallied saying
   tallied-answers q o =
-      let h : hasRoom (tallied t s .now) ≡ true = sym (k .room) ∙ q in
-      let l : Left b′ (tallied t s .now) = rw (h, fitting) at (k .left) in
-      room-answers s (tallied t s) h (works-none o 0 l)
+      let h : hasRoom (tallied j t s .now) ≡ true = sym (k .room) ∙ q in
+      let l : Left b′ (tallied j t s .now) = rw (h, fitting) at (k .left) in
+      room-answers s (tallied j t s) h (works-none o 0 l)
 
-  pub tallied-stops : f ≡ false → {b″ : List ℕ} {r : ℕ} → Mutely (stopping 6 full (stateOf b′)) b″ r → Mutely (ifRoom s (tallied t s)) b″ r
+  pub tallied-stops : f ≡ false → {b″ : List ℕ} {r : ℕ} → Mutely (stopping 6 full (stateOf b′)) b″ r → Mutely (ifRoom s (tallied j t s)) b″ r
   unfolding fitting
   tallied-stops q {b″} {r} a =
-      let h : hasRoom (tallied t s .now) ≡ false = sym (k .room) ∙ q in
+      let h : hasRoom (tallied j t s .now) ≡ false = sym (k .room) ∙ q in
       let l : Left b′ s = rw (h, fitting) at (k .left) in
-      full-answers s (tallied t s) h (subst (λ (z : State). Mutely (stopping 6 full z) b″ r) (l .is) a)
+      full-answers s (tallied j t s) h (subst (λ (z : State). Mutely (stopping 6 full z) b″ r) (l .is) a)
 
 -- a blame needs no record
 blaming-room : (v m : ℕ) (s : State) → hasRoom s ≡ true → hasRoom (blaming v m s .now) ≡ true

@@ -5,21 +5,24 @@ ghost use mathlib.Core.Option.{none};
 ghost use Prim.Native.Nat.{_+_, _^_, _≤_, _<_};
 ghost use lib.ListN.{length};
 ghost use lib.Dec.{ltb};
-ghost use Rattle.rules.specs.Limits.{mostStations};
+ghost use Rattle.rules.specs.Limits.{mostStations, maskBits};
 ghost use Rattle.rules.specs.Sizes.{only};
 ghost use Rattle.rules.specs.Messages.{viewOf, viewAllowed};
 ghost use Rattle.rules.specs.Words.{message as said};
 ghost use Rattle.rules.specs.Inputs as inputs;
-ghost use Rattle.rules.specs.Refusals.{ifRoom};
+ghost use Rattle.rules.specs.Refusals.{ifRoom, heard};
 ghost use Rattle.wire.specs.Meaning.{statementOf, messageOf};
-ghost use Rattle.store.specs.Decode.{stateOf, Form};
+ghost use Rattle.store.specs.Decode.{tallies, stateOf, Form};
 ghost use Rattle.store.specs.Changes.{withVoters};
-ghost use Rattle.store.specs.Meaning.{votersOf, Numbered};
+ghost use Rattle.store.specs.Meaning.{votersOf, authorOf, Numbered};
 ghost use Rattle.kept.specs.Said.{Sendable};
 ghost use Rattle.words.specs.Meaning.{blockOf};
 ghost use Rattle.acts.specs.Works.{Formed};
+ghost use Rattle.acts.specs.Plans.{certifiedAt};
 ghost use Rattle.refusals.specs.Answers.{Answers, Mutely};
+ghost use Rattle.messages.specs.Votes.{voteFor};
 use store::Cause;
+use store::Found;
 use store::Voters;
 use wire::Message;
 use wire::Statement;
@@ -65,15 +68,27 @@ pub fn stated(store: &mut [u8], out: &mut [u8], x: Statement) -> u64
     acts::statement(store, out, 0, x, plan) as u64
 }
 
-// A vote or a status: whoever joins the tally of a block.
-fn counted(store: &mut [u8], block: Certificate, voters: Voters) -> u64
-    requires { ⌜ (Form (now store)) × (Numbered voters) ⌝ }
-    ensures { λ r. ⌜ Mutely (ifRoom (stateOf (now (store .entry))) (inputs.tallied (withVoters (votersOf voters) (blockOf block)) (stateOf (now (store .entry))))) (now (store .exit)) r ⌝ }
+// A vote or a status: whoever joins the tally of a block, as it was found.
+fn counted(store: &mut [u8], block: Certificate, place: Found, voters: Voters) -> u64
+    requires { ⌜ (Form (now store)) × (place ≡ certifiedAt (blockOf block) (tallies (now store))) × (Numbered voters) ⌝ }
+    ensures { λ r. ⌜ Mutely (ifRoom (stateOf (now (store .entry))) (inputs.tallied (authorOf voters) (withVoters (votersOf voters) (blockOf block)) (stateOf (now (store .entry))))) (now (store .exit)) r ⌝ }
 {
-    if !acts::tallied(store, block, voters) {
+    if !acts::tallied(store, block, place, voters) {
         return refusals::stop(store, 6, Cause::Full);
     }
     0
+}
+
+// A vote for a block: refused where its author would open one tally too many.
+fn voted(store: &mut [u8], block: Certificate, author: u64) -> u64
+    requires { ⌜ (Form (now store)) × (blockOf block .view ≡ 0 → ⊥) × (author < maskBits) ⌝ }
+    ensures { λ r. ⌜ Mutely (heard (voteFor (blockOf block) author) (stateOf (now (store .entry)))) (now (store .exit)) r ⌝ }
+{
+    let place = acts::find_certificate(store, block);
+    if acts::used_up(store, place, author) {
+        return refusals::refuse(12);
+    }
+    counted(store, block, place, Voters::One(author))
 }
 
 // A blame or a blame set.
@@ -87,7 +102,7 @@ fn blamed(store: &mut [u8], out: &mut [u8], view: u32, mask: u16) -> u64
 // A message that is allowed, by its kind.
 pub fn handled(store: &mut [u8], out: &mut [u8], message: Message) -> u64
     requires { ⌜ (Formed (now store)) × (Sendable (stateOf (now store) .settings) (messageOf message)) × (200 ≤ length (now out)) ⌝ }
-    ensures { λ r. ⌜ Answers (ifRoom (stateOf (now (store .entry))) (inputs.handled (messageOf message) (stateOf (now (store .entry))))) (now (out .entry)) (now (store .exit)) (now (out .exit)) r ⌝ }
+    ensures { λ r. ⌜ Answers (heard (messageOf message) (stateOf (now (store .entry)))) (now (out .entry)) (now (store .exit)) (now (out .exit)) r ⌝ }
 {
     match message {
         Message::Stated(x) => stated(store, out, x),
@@ -103,7 +118,7 @@ pub fn handled(store: &mut [u8], out: &mut [u8], message: Message) -> u64
                 name,
                 mask: 0,
             };
-            counted(store, block, Voters::One(author as u64))
+            voted(store, block, author as u64)
         }
         Message::Blame { view, author } => {
             let mask = voter(author);
@@ -122,7 +137,8 @@ pub fn handled(store: &mut [u8], out: &mut [u8], message: Message) -> u64
                 name,
                 mask,
             };
-            counted(store, block, Voters::Mask(mask))
+            let place = acts::find_certificate(store, block);
+            counted(store, block, place, Voters::Mask(mask))
         }
     }
 }

@@ -11,7 +11,7 @@ use borrow.Author.Tests.{eqb-true}
 use Rattle.rules.specs.Limits.{lastView}
 use Rattle.rules.specs.Lists.{all}
 use Rattle.rules.specs.Sizes.{Settings}
-use Rattle.rules.specs.Words.{Statement, Tally, Phase, inView, waiting, stopped, full, split, clock, State}
+use Rattle.rules.specs.Words.{Statement, Opener, Tally, Phase, inView, waiting, stopped, full, split, clock, State}
 use Rattle.rules.specs.Inputs.{isBlock}
 use Rattle.rules.specs.WellFormed.{isMask, blamesGood, linked, wellFormed}
 use Rattle.rules.proofs.Bounds.{statements-most, tallies-most}
@@ -24,9 +24,9 @@ use Rattle.kept.proofs.WellFormed.{parts}
 use Rattle.kept.proofs.Tables.{isAbove}
 use Rattle.kept.proofs.Lists.{all-mem, any-find}
 use Rattle.kept.proofs.Logs.{block-parts, linked-cons}
-use Rattle.kept.proofs.Facts.{sizes-of, clocks-of, view-of, lock-of, statement-of, statement-limits, vote-clock, tally-of, tally-limits, lock-limits, log-length}
+use Rattle.kept.proofs.Facts.{sizes-of, clocks-of, view-of, lock-of, statement-of, statement-limits, vote-clock, tally-of, tally-limits, opener-below, lock-limits, log-length}
 use Rattle.store.specs.Layout.{headerFormat, statementFormat, tallyFormat, maskFormat, nameFormat}
-use Rattle.store.specs.Decode.{phaseNumber, voteNumber, kindNumber, statementValues, tallyValues, headerValues}
+use Rattle.store.specs.Decode.{phaseNumber, voteNumber, openerNumber, kindNumber, statementValues, tallyValues, headerValues}
 use Rattle.store.proofs.ReadBack.{Each}
 use Rattle.store.proofs.Decoded.{Fitted}
 
@@ -74,10 +74,14 @@ module _ {s : State} (w : WellFormed s) where
       let g = sizes-of f in
       (omega arith, (omega arith, (d .name, (kind-fits (x .isNewView), (omega arith, (omega arith, (d .link, (vote-fits x m (x .voted) refl, tt))))))))
 
+  opener-fits : (t : Tally) → Mem t (s .tallies) → (k : Opener) → t .opener ≡ k → openerNumber k < 256
+  opener-fits t m none e = omega arith
+  opener-fits t m (some a) e = let g = sizes-of f in omega (arith, opener-below f t m a e)
+
   tally-fits : (t : Tally) → Mem t (s .tallies) → Fit tallyFormat (tallyValues t)
   tally-fits t m =
       let l = tally-limits f t m in
-      (omega arith, (omega arith, (tally-of f t m .name, (omega arith, tt))))
+      (omega arith, (omega arith, (tally-of f t m .name, (omega arith, (opener-fits t m (t .opener) refl, tt)))))
 
   name-fits : (b h parent : ℕ) (l : List ℕ) → linked (s .statements) h parent (b ∷ l) ≡ true → Fit nameFormat (b ∷ [])
   name-fits b h parent l e =

@@ -11,11 +11,12 @@ use lib.Dec.{leb, eqb, lit<}
 use borrow.Author.Tests.{eq-eqb, ne-eqb}
 use Rattle.rules.specs.Limits.{Size, small, large, leastOut, lastClock}
 use Rattle.rules.specs.Lists.{be}
-use Rattle.rules.specs.Messages.{read, allowed, outgoing}
+use Rattle.rules.specs.Messages.{outgoing}
 use Rattle.rules.specs.Words.{State, Cause, full, split, clock}
 use Rattle.rules.specs.Inputs.{Work, handled, offered, ticked}
-use Rattle.rules.specs.Refusals.{Outcome, done, refused, stopping, hasRoom, ifRoom, running, ahead, step, offer, tick, result}
+use Rattle.rules.specs.Refusals.{Outcome, done, refused, stopping, hasRoom, ifRoom, running, step, offer, tick, result}
 use Rattle.rules.specs.WellFormed.{wellFormed}
+use Rattle.rules.proofs.Answers.{by-step}
 use Rattle.rules.proofs.Tests.{by-bool, by-option, no-bool}
 use Rattle.fields.specs.Places.{Bytes}
 use Rattle.kept.proofs.Outs.{step-room, offer-room, tick-room}
@@ -63,16 +64,7 @@ unfolding ifRoom
 room-settled s w = by-bool (hasRoom (w .now)) (λ q. rw (q, ifRoom) (doing w)) (λ q. rw (q, ifRoom) (halting 6 full (stopped-taken .0)))
 
 step-settled : (bs : List ℕ) (s : State) → Settled s (step bs s)
-unfolding step
-step-settled bs s =
-    by-bool (running s)
-    (λ r.
-    by-option (read bs) (λ q. rw (r, q, step) (refusing 4))
-    (λ m q.
-    by-bool (allowed (s .settings) m)
-    (λ a. by-bool (ahead m s) (λ h. rw (r, q, a, h, step) (refusing 11)) (λ h. rw (r, q, a, h, step) (room-settled s (handled m s))))
-    (λ a. rw (r, q, a, step) (refusing 5))))
-    (λ r. rw (r, step) (refusing 3))
+step-settled bs s = by-step (Settled s) s refusing bs (λ m q a u. room-settled s (handled m s))
 
 offer-settled : (b : ℕ) (s : State) → Settled s (offer b s)
 unfolding offer

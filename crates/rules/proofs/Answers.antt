@@ -10,18 +10,20 @@ use Rattle.rules.specs.Limits.{lastClock}
 use Rattle.rules.specs.Messages.{Message, read, allowed}
 use Rattle.rules.specs.Words.{split, clock, State}
 use Rattle.rules.specs.Inputs.{Work, handled, offered, ticked}
-use Rattle.rules.specs.Refusals.{Outcome, refused, stopping, ifRoom, running, ahead, step, offer, tick}
+use Rattle.rules.specs.Refusals.{Outcome, refused, stopping, ifRoom, running, ahead, usedUp, heard, step, offer, tick}
 use Rattle.rules.proofs.Tests.{by-bool, by-option}
 
 module _ {ℓ} (P : Outcome → Type ℓ) (s : State) (unchanged : (k : ℕ) → P (refused k s)) where
-  pub by-step : (bs : List ℕ) → ((m : Message) → read bs ≡ some m → allowed (s .settings) m ≡ true → P (ifRoom s (handled m s))) → P (step bs s)
-  unfolding step
+  pub by-step : (bs : List ℕ) → ((m : Message) → read bs ≡ some m → allowed (s .settings) m ≡ true → usedUp m s ≡ false → P (ifRoom s (handled m s))) → P (step bs s)
+  unfolding step heard
   by-step bs f =
       by-bool (running s)
       (λ r.
       by-option (read bs) (λ q. rw (r, q, step) (unchanged 4)) λ m q.
       by-bool (allowed (s .settings) m)
-      (λ a. by-bool (ahead m s) (λ w. rw (r, q, a, w, step) (unchanged 11)) (λ w. rw (r, q, a, w, step) (f m q a)))
+      (λ a.
+      by-bool (ahead m s) (λ w. rw (r, q, a, w, step) (unchanged 11)) λ w.
+      by-bool (usedUp m s) (λ u. rw (r, q, a, w, step, u, heard) (unchanged 12)) (λ u. rw (r, q, a, w, step, u, heard) (f m q a u)))
       (λ a. rw (r, q, a, step) (unchanged 5)))
       (λ r. rw (r, step) (unchanged 3))
 

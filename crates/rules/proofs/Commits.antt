@@ -178,7 +178,7 @@ module _ (P : Effect → Type 0) (all : (m : Message) → P (toAll m)) (one : (i
 
   move-messages : {R : Outside} (s t : State) (o : List Effect) → Move R s t o → All P o
   unfolding ballot
-  move-messages s t o (joins m u g c) = tt
+  move-messages s t o (joins j m u g c) = tt
   move-messages s t o (stores x g f) = tt
   move-messages s t o (passes x g f c l) = tt
   move-messages s t o (casts x g f c l) = (all _, (all _, tt))

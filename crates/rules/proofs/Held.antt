@@ -12,9 +12,9 @@ use Rattle.rules.specs.Limits.{firstView, lastView}
 use Rattle.rules.specs.Lists.{first, any, keep}
 use Rattle.rules.specs.Sizes.{Settings, leader, only, bit, quorum}
 use Rattle.rules.specs.Messages.{Message, newView, propose, vote, blame, blameSet, status, read, allowed, Effect, toAll, toOne, committed}
-use Rattle.rules.specs.Words.{Statement, message, sameStatement, conflict, Certificate, Tally, certificateOf, opened, ownBlock, joinCertificate, voters, State}
+use Rattle.rules.specs.Words.{Statement, message, sameStatement, conflict, Certificate, Opener, Tally, certificateOf, ownBlock, joinCertificate, voters, State}
 use Rattle.rules.specs.Inputs.{saying, _▸_, withPhase, withTables, withBlames, withLog, entering, isIn, quit, belowLock, votedFor, ballot, voting, certificateJoined, stored, statement, tallied, blamesOf, blamed, blameFull, blaming, handled, reports, report, current, inOrder, votingAll}
-use Rattle.rules.specs.Refusals.{done, refused, stopping, hasRoom, ifRoom, running, ahead, step}
+use Rattle.rules.specs.Refusals.{done, refused, stopping, hasRoom, ifRoom, running, ahead, usedUp, heard, step}
 use Rattle.rules.proofs.Tests.{by-bool, by-option, no-bool}
 use Rattle.rules.proofs.Truths.{and-2}
 use Rattle.rules.proofs.Searches.{All, all-append, all-map, to-all, mem-keep, first-mem}
@@ -96,12 +96,12 @@ blaming-held : (g : Settings) (v m : ℕ) (s : State) → v < length (s .blames)
 blaming-held g v m s l c = rw (blaming-masks v m s, blamed-here v m s l) (quorum-right g (blamesOf v s) m c)
 
 tallied-held : (v h b a : ℕ) (s : State) → firstView ≤ v
-    → bit (voters (block v h b) (tallied (record { view = v; height = h; name = b; mask = only a }) s .now .tallies)) a ≡ 1
+    → bit (voters (block v h b) (tallied (some a) (record { view = v; height = h; name = b; mask = only a }) s .now .tallies)) a ≡ 1
 unfolding tallied saying withTables joinCertificate
 tallied-held v h b a s l =
     let t : Certificate = record { view = v; height = h; name = b; mask = only a } in
     by-bool (eqb v 0) (λ e. let z = eqb-true v 0 e in absurd (omega arith))
-    (λ e. rw (e, joinCertificate) (voters-joined (block v h b) t (s .tallies) a (same-block (block v h b) t refl refl refl) (only-bit a)))
+    (λ e. rw (e, joinCertificate) (voters-joined (some a) (block v h b) t (s .tallies) a (same-block (block v h b) t refl refl refl) (only-bit a)))
 
 handled-held : (m : Message) (s : State) → allowed (s .settings) m ≡ true → length (s .blames) ≡ suc (lastView (s .settings .size)) → Held (s .settings) (handled m s .now) m
 unfolding handled
@@ -115,25 +115,33 @@ handled-held (blameSet v m) s w l =
     blaming-held (s .settings) v m s (omega arith) (mask-parts (s .settings) m (r .1) .1)
 handled-held (status h b c m) s w l = tt
 
--- who is left running by a message that can be read, is allowed and not too far ahead took it: the answer is 0
-pub step-taken : (bs : List ℕ) (m : Message) (s : State) → running s ≡ true → read bs ≡ some m → allowed (s .settings) m ≡ true → ahead m s ≡ false
+-- who is left running by a message that can be read, is allowed, not too far ahead and no vote of one who opened all he may took it:
+-- the answer is 0
+pub step-taken : (bs : List ℕ) (m : Message) (s : State) → running s ≡ true → read bs ≡ some m → allowed (s .settings) m ≡ true → ahead m s ≡ false → usedUp m s ≡ false
     → running (step bs s .next) ≡ true → step bs s .number ≡ 0
-unfolding step ifRoom running done
-step-taken bs m s r q a w =
-    rw (r, q, a, w, step) (by-bool (hasRoom (handled m s .now)) (λ k. rw (k, ifRoom) (λ _. refl)) (λ k. rw (k, ifRoom) (λ e. no-bool (sym e))))
+unfolding step heard ifRoom running done
+step-taken bs m s r q a w u =
+    rw (r, q, a, w, step, u, heard) (by-bool (hasRoom (handled m s .now)) (λ k. rw (k, ifRoom) (λ _. refl)) (λ k. rw (k, ifRoom) (λ e. no-bool (sym e))))
+
+-- whose author is used up gets 12, where nothing else is against it
+pub step-used : (bs : List ℕ) (m : Message) (s : State) → running s ≡ true → read bs ≡ some m → allowed (s .settings) m ≡ true → ahead m s ≡ false
+    → usedUp m s ≡ true → step bs s .number ≡ 12
+unfolding step heard refused
+step-used bs m s r q a w u = rw (r, q, a, w, step, u, heard) refl
 
 -- what was taken is held
 pub step-held : (bs : List ℕ) (m : Message) (s : State) → read bs ≡ some m → length (s .blames) ≡ suc (lastView (s .settings .size))
     → step bs s .number ≡ 0 → Held (s .settings) (step bs s .next) m
-unfolding step ifRoom refused stopping done
+unfolding step heard ifRoom refused stopping done
 step-held bs m s q l =
     by-bool (running s)
     (λ r.
     by-bool (allowed (s .settings) m)
     (λ a.
     by-bool (ahead m s) (λ w. rw (r, q, a, w, step) (λ e. absurd (omega arith))) λ w.
-    by-bool (hasRoom (handled m s .now)) (λ k. rw (r, q, a, w, step, k, ifRoom) (λ _. handled-held m s a l))
-    (λ k. rw (r, q, a, w, step, k, ifRoom) (λ e. absurd (omega arith))))
+    by-bool (usedUp m s) (λ u. rw (r, q, a, w, step, u, heard) (λ e. absurd (omega arith))) λ u.
+    by-bool (hasRoom (handled m s .now)) (λ k. rw (r, q, a, w, step, u, heard, k, ifRoom) (λ _. handled-held m s a l))
+    (λ k. rw (r, q, a, w, step, u, heard, k, ifRoom) (λ e. absurd (omega arith))))
     (λ a. rw (r, q, a, step) (λ e. absurd (omega arith))))
     (λ r. rw (r, step) (λ e. absurd (omega arith)))
 
@@ -153,7 +161,7 @@ own-held : (x : Statement) (s : State) → bit (voters (block (x .view) (x .heig
 unfolding votedFor withTables ownBlock
 own-held x s =
     let t = ownBlock x (only (s .settings .own)) in
-    voters-joined (block (x .view) (x .height) (x .name)) t (s .tallies) (s .settings .own)
+    voters-joined none (block (x .view) (x .height) (x .name)) t (s .tallies) (s .settings .own)
     (same-block (block (x .view) (x .height) (x .name)) t refl refl refl) (only-bit (s .settings .own))
 
 votingAll-said : (g : Settings) (ys : List Statement) (s : State) → All (In (s .statements)) ys → All (HeldSaid g (votingAll ys s .now)) (votingAll ys s .out)
@@ -182,7 +190,7 @@ current-in v xs x m = mem-in xs x (mem-keep (λ (y : Statement). eqb (y .view) v
 
 move-said : {R : Outside} (s t : State) (o : List Effect) → Move R s t o → (length (s .blames) ≡ suc (lastView (s .settings .size))) → (s .view ≤ (lastView (s .settings .size))) → All (HeldSaid (s .settings) t) o
 unfolding withTables withPhase withBlames withLog entering stored votedFor ballot blamed blamesOf blameFull current
-move-said s t o (joins m u g c) l w = tt
+move-said s t o (joins j m u g c) l w = tt
 move-said s t o (stores x g f) l w = tt
 move-said s t o (passes x g f c k) l w = tt
 move-said s t o (casts x g f c k) l w = (stored-held (s .settings) t x (rw in-noted (in-last (s .statements) x)), (own-held x (stored x s), tt))

@@ -6,7 +6,7 @@ use native.Mathlib.Omega.{arith}
 use mathlib.Core.Bool.{true, false}
 use mathlib.Core.List.{List, [], _∷_, _++_}
 use mathlib.Core.Logic.{_⊎_, inl, inr}
-use mathlib.Core.Option.{some}
+use mathlib.Core.Option.{none, some}
 use lib.Dec.{eqb, ltb}
 use lib.Bits.{or-comm}
 use lib.ListN.{length, getD, set, length-set}
@@ -16,7 +16,7 @@ use Rattle.rules.specs.Limits.{lastView, lastClock}
 use Rattle.rules.specs.Lists.{first}
 use Rattle.rules.specs.Sizes.{Settings, only, bit, joined, quorum}
 use Rattle.rules.specs.Messages.{Effect}
-use Rattle.rules.specs.Words.{Statement, sameStatement, Certificate, Tally, certificateOf, opened, ownBlock, certificate, join, joinCertificate, voters, Phase, inView, waiting, stopped, State}
+use Rattle.rules.specs.Words.{Statement, sameStatement, Certificate, Opener, Tally, certificateOf, ownBlock, certificate, join, joinCertificate, voters, Phase, inView, waiting, stopped, State}
 use Rattle.rules.specs.Inputs.{Work, saying, _▸_, withPhase, withClock, withTables, withBlames, withLog, entering, isIn, quit, belowLock, votedFor, stored, blamesOf, blamed, blameFull, due, commits, logging, complain, lead, entersNow, entered, current, pair, inOrder, votingAll, arrive, enter, ticked}
 use Rattle.rules.specs.Refusals.{hasRoom, ifRoom, running, tick}
 use Rattle.rules.proofs.Tests.{by-bool, by-option, no-bool}
@@ -116,7 +116,7 @@ votingAll-fixed (y ∷ ys) s =
 module _ {R : Outside} where
   pub move-fixed : {s t : State} {o : List Effect} → Move R s t o → Fixed s t
   unfolding withTables withPhase withBlames withLog entering stored votedFor blamed
-  move-fixed (joins m u g c) = (refl, refl, refl)
+  move-fixed (joins j m u g c) = (refl, refl, refl)
   move-fixed (stores x g f) = (refl, refl, refl)
   move-fixed (passes x g f c l) = (refl, refl, refl)
   move-fixed (casts x g f c l) = (refl, refl, refl)
@@ -158,8 +158,8 @@ kept-trans {s} {t} {u} a b =
     }
 
 stored-bits : (x : Statement) (s : State) (q : Certificate) (i : ℕ) → bit (voters q (s .tallies)) i ≡ 1
-    → bit (voters q (join (ownBlock x 0) (joinCertificate (certificate x) (s .tallies)))) i ≡ 1
-stored-bits x s q i h = voters-join q (ownBlock x 0) _ i (voters-certificate q (certificate x) (s .tallies) i h)
+    → bit (voters q (join none (ownBlock x 0) (joinCertificate none (certificate x) (s .tallies)))) i ≡ 1
+stored-bits x s q i h = voters-join none q (ownBlock x 0) _ i (voters-certificate none q (certificate x) (s .tallies) i h)
 
 stored-kept : (x : Statement) (s : State) → Kept s (stored x s)
 unfolding stored withTables blamesOf
@@ -169,7 +169,7 @@ stored-kept x s =
 pub voted-kept : (x : Statement) (s : State) → Kept s (votedFor x s)
 unfolding votedFor withTables blamesOf
 voted-kept x s =
-    record { has = λ y h. rw in-noted h; full = λ g v h. h; length = refl; bits = λ q i. voters-join q (ownBlock x (only (s .settings .own))) (s .tallies) i; view = omega arith; waits = λ q p e. p }
+    record { has = λ y h. rw in-noted h; full = λ g v h. h; length = refl; bits = λ q i. voters-join none q (ownBlock x (only (s .settings .own))) (s .tallies) i; view = omega arith; waits = λ q p e. p }
 
 pub votingAll-kept : (ys : List Statement) (s : State) → Kept s (votingAll ys s .now)
 unfolding votingAll saying _▸_
@@ -208,8 +208,8 @@ phase-kept p k w = record { has = k .has; full = k .full; length = k .length; bi
 module _ {R : Outside} where
   pub move-kept : (s t : State) (o : List Effect) → Move R s t o → Kept s t
   unfolding withTables withLog entering isIn blamed withBlames blamesOf
-  move-kept s t o (joins m u g c) =
-      record { has = λ x h. h; full = λ g v h. h; length = refl; bits = λ q i. voters-certificate q u (s .tallies) i; view = omega arith; waits = λ q p e. p }
+  move-kept s t o (joins j m u g c) =
+      record { has = λ x h. h; full = λ g v h. h; length = refl; bits = λ q i. voters-certificate j q u (s .tallies) i; view = omega arith; waits = λ q p e. p }
   move-kept s t o (stores x g f) = stored-kept x s
   move-kept s t o (passes x g f c l) = stored-kept x s
   move-kept s t o (casts x g f c l) = kept-trans (stored-kept x s) (voted-kept x (stored x s))
@@ -235,7 +235,7 @@ VoteKept s t =
 module _ {R : Outside} where
   move-vote : (s t : State) (o : List Effect) → Move R s t o → VoteKept s t
   unfolding withTables withPhase withBlames withLog entering stored votedFor blamed
-  move-vote s t o (joins m u g k) x z c f e v = (z, f, e)
+  move-vote s t o (joins j m u g k) x z c f e v = (z, f, e)
   move-vote s t o (stores w g i) x z c f e v = (z, first-kept (sameStatement x) (s .statements) w z f, e)
   move-vote s t o (passes w g i k l) x z c f e v = (z, first-kept (sameStatement x) (s .statements) w z f, e)
   move-vote s t o (casts w (g, n, q) i k l) x z c f e v =
@@ -264,7 +264,7 @@ module _ {R : Outside} where
 
   move-late : (s t : State) (o : List Effect) → Move R s t o → (q : ℕ) → t .phase ≡ waiting q → (s .phase ≡ waiting q) ⊎ (q ≡ t .clock)
   unfolding withTables withPhase withBlames withLog entering stored votedFor blamed
-  move-late s t o (joins m u g c) q e = inl e
+  move-late s t o (joins j m u g c) q e = inl e
   move-late s t o (stores x g f) q e = inl e
   move-late s t o (passes x g f c l) q e = inl e
   move-late s t o (casts x g f c l) q e = inl e

@@ -7,7 +7,7 @@ use mathlib.Core.Logic.{_⊎_, inl, inr}
 use Rattle.rules.specs.Limits.{maskBits}
 use Rattle.rules.specs.Sizes.{Settings, bit, count}
 use Rattle.rules.specs.Messages.{Effect}
-use Rattle.rules.specs.Words.{Certificate, Tally, certificateOf, opened, voters, State}
+use Rattle.rules.specs.Words.{Certificate, Opener, Tally, certificateOf, voters, State}
 use Rattle.rules.specs.Inputs.{withPhase, withTables, withBlames, withLog, entering, votedFor, stored, blamed, nextLock, current, inOrder}
 use Rattle.rules.proofs.Tallies.{Above, sound-quorum, count-quorum, highest-above}
 use Rattle.rules.proofs.Moves.{Outside, arrived, Move, joins, stores, passes, casts, clashes, accuses, fills, complains, entersFull, entersPair, enters, Moves, here, more}
@@ -19,7 +19,7 @@ Locking s t = ((t .lock ≡ s .lock) × (t .view ≡ s .view)) ⊎ ((t .lock ≡
 
 move-lock : {R : Outside} (s t : State) (o : List Effect) → Move R s t o → Locking s t
 unfolding withTables withPhase withBlames withLog entering stored votedFor blamed
-move-lock s t o (joins m u g c) = inl (refl, refl)
+move-lock s t o (joins j m u g c) = inl (refl, refl)
 move-lock s t o (stores x g f) = inl (refl, refl)
 move-lock s t o (passes x g f c l) = inl (refl, refl)
 move-lock s t o (casts x g f c l) = inl (refl, refl)

@@ -12,7 +12,7 @@ use Rattle.rules.specs.Limits.{lastClock}
 use Rattle.rules.specs.Lists.{first, any}
 use Rattle.rules.specs.Sizes.{only}
 use Rattle.rules.specs.Messages.{Message, newView, propose, vote, blame, blameSet, status, read, allowed, Effect, toAll}
-use Rattle.rules.specs.Words.{Statement, message, sameStatement, conflict, Certificate, Tally, certificateOf, opened, certificate, joinCertificate, waiting, State}
+use Rattle.rules.specs.Words.{Statement, message, sameStatement, conflict, Certificate, Opener, Tally, certificateOf, certificate, joinCertificate, waiting, State}
 use Rattle.rules.specs.Inputs.{Work, saying, _▸_, withPhase, withClock, withTables, withLog, entering, isIn, quit, belowLock, votedFor, ballot, voting, certificateJoined, stored, statement, tallied, blamesOf, blamed, blameFull, blaming, handled, offered, due, commits, reports, logging, overdue, complain, leadsNow, ownNewView, lead, entersNow, nextLock, report, entered, current, pair, inOrder, votingAll, arrive, enter, ticked}
 use Rattle.rules.specs.Refusals.{Outcome, done, refused, hasRoom, ifRoom, running, step, offer, tick}
 use Rattle.rules.proofs.Tests.{by-bool, by-option, no-some, no-bool}
@@ -58,8 +58,8 @@ abbrev pub arrived : State → State
 arrived s = entering (s .view + 1) (nextLock s) s
 
 pub data Move (R : Outside) (s : State) : State → List Effect → Type 0 where
-  joins : (m : Message) (t : Certificate) → Origin R s m → carried m ≡ some t
-      → Move R s (withTables (s .statements) (joinCertificate t (s .tallies)) s) []
+  joins : (k : Opener) (m : Message) (t : Certificate) → Origin R s m → carried m ≡ some t
+      → Move R s (withTables (s .statements) (joinCertificate k t (s .tallies)) s) []
   stores : (x : Statement) → New R s x → isIn (x .view) s ≡ false → Move R s (stored x s) []
   passes : (x : Statement) → New R s x → isIn (x .view) s ≡ true → first (conflict x) (s .statements) ≡ none → belowLock x s ≡ true
       → Move R s (stored x s) []
@@ -178,7 +178,7 @@ module _ (R : Outside) where
   statement-moves : (x : Statement) (s : State) → Origin R s (message x) → x .voted ≡ none → Does s (statement x s)
   unfolding statement stored withTables certificateJoined saying quit belowLock ballot
   statement-moves x s g n =
-      by-bool (any (sameStatement x) (s .statements)) (λ q. rw (q, statement) (one (joins (message x) (certificate x) g (carried-certificate x)))) λ q.
+      by-bool (any (sameStatement x) (s .statements)) (λ q. rw (q, statement) (one (joins none (message x) (certificate x) g (carried-certificate x)))) λ q.
       by-bool (isIn (x .view) s)
       (λ i.
       by-option (first (conflict x) (s .statements))
@@ -193,9 +193,9 @@ module _ (R : Outside) where
   blaming-moves v m s a =
       by-bool (fillsNow v m s) (λ q. rw (q, blaming) (one (fills v m a q))) (λ q. rw (q, blaming) (one (accuses v m a q)))
 
-  tallied-moves : (m : Message) (t : Certificate) (s : State) → Origin R s m → carried m ≡ some t → Does s (tallied t s)
+  tallied-moves : (k : Opener) (m : Message) (t : Certificate) (s : State) → Origin R s m → carried m ≡ some t → Does s (tallied k t s)
   unfolding tallied saying
-  tallied-moves m t s g c = one (joins m t g c)
+  tallied-moves k m t s g c = one (joins k m t g c)
 
   pub handled-moves : (m : Message) (s : State) → Origin R s m → Does s (handled m s)
   unfolding handled carried
@@ -205,10 +205,10 @@ module _ (R : Outside) where
   handled-moves (propose v h b p m a) s g =
       let x : Statement = record { isNewView = false; view = v; height = h; name = b; link = p; mask = m; author = a; voted = none } in
       statement-moves x s (subst (Origin R s) (sym (message-propose v h b p m a)) g) refl
-  handled-moves (vote v h b a) s g = tallied-moves (vote v h b a) (record { view = v; height = h; name = b; mask = only a }) s g refl
+  handled-moves (vote v h b a) s g = tallied-moves (some a) (vote v h b a) (record { view = v; height = h; name = b; mask = only a }) s g refl
   handled-moves (blame v a) s g = blaming-moves v (only a) s (named v a g)
   handled-moves (blameSet v m) s g = blaming-moves v m s (listed v m g)
-  handled-moves (status h b c m) s g = tallied-moves (status h b c m) (record { view = c; height = h; name = b; mask = m }) s g refl
+  handled-moves (status h b c m) s g = tallied-moves none (status h b c m) (record { view = c; height = h; name = b; mask = m }) s g refl
 
   pub then-moves : {s : State} (w : Work) (f : State → Work) → Does s w → ((t : State) → Does t (f t)) → Does s (w ▸ f)
   unfolding _▸_
@@ -251,7 +251,7 @@ module _ (R : Outside) where
   refused-moves s k _ = here
 
   pub step-moves : (bs : List ℕ) (s : State) → ((m : Message) → read bs ≡ some m → R .given m) → Ran s (step bs s)
-  step-moves bs s f = by-step (Ran s) s (refused-moves s) bs (λ m q a. room-moves s s (handled m s) (handled-moves m s (handed (f m q) a)))
+  step-moves bs s f = by-step (Ran s) s (refused-moves s) bs (λ m q a _. room-moves s s (handled m s) (handled-moves m s (handed (f m q) a)))
 
   pub offer-moves : (b : ℕ) (s : State) → ((m : Message) → offered b s ≡ some m → R .offers b m) → Ran s (offer b s)
   offer-moves b s f = by-offer (Ran s) s (refused-moves s) b (λ m q. room-moves s s (handled m s) (handled-moves m s (made b (f m q) q)))

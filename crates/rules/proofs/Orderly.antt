@@ -15,7 +15,7 @@ use Rattle.rules.specs.Limits.{firstView, lastView}
 use Rattle.rules.specs.Lists.{first, any, keep, alter}
 use Rattle.rules.specs.Sizes.{Settings, joined, quorum}
 use Rattle.rules.specs.Messages.{vote, blameSet, Effect, toAll}
-use Rattle.rules.specs.Words.{Statement, message, sameStatement, conflict, Certificate, Tally, certificateOf, opened, inView, waiting, State, fresh}
+use Rattle.rules.specs.Words.{Statement, message, sameStatement, conflict, Certificate, Opener, Tally, certificateOf, inView, waiting, State, fresh}
 use Rattle.rules.specs.Inputs.{Work, saying, _▸_, withPhase, withClock, withTables, withBlames, withLog, entering, isIn, belowLock, noted, votedFor, ballot, voting, stored, blamesOf, blamed, blameFull, entersNow, report, current, pair, inOrder, votingAll}
 use Rattle.rules.proofs.Bounds.{views-some}
 use Rattle.rules.proofs.Tests.{by-bool, no-some, no-bool}
@@ -263,7 +263,7 @@ module _ (S : ℕ → Effect → Type 0) where
 
   pub move-orderly : {R : Outside} (s t : State) (o : List Effect) → Move R s t o → All (S (s .clock)) o → Orderly s → Orderly t
   unfolding withTables withPhase withBlames withLog entering stored votedFor blamed blameFull blamesOf belowLock current
-  move-orderly s t o (joins m u g c) h i = record { clean = i .clean; calm = i .calm; votes = i .votes; quits = i .quits; past = i .past; order = i .order }
+  move-orderly s t o (joins j m u g c) h i = record { clean = i .clean; calm = i .calm; votes = i .votes; quits = i .quits; past = i .past; order = i .order }
   move-orderly s t o (stores x g f) h i =
       record {
         clean = λ p. clean-append (s .view) (s .statements) x (i .clean p) (λ v. no-bool (sym (true-in (x .view) s p v) ∙ f));

@@ -8,11 +8,11 @@ use native.Mathlib.Decide.{ℕ-discrete}
 use mathlib.Core.Bool.{true}
 use mathlib.Core.List.{List, [], _∷_}
 use mathlib.Core.Logic.{inl, inr}
-use mathlib.Core.Option.{some, Option·some-injective}
+use mathlib.Core.Option.{none, some, Option·some-injective}
 use lib.Dec.{eqb}
 use Rattle.rules.specs.Sizes.{Settings, only, bit, joined}
 use Rattle.rules.specs.Messages.{Message, newView, propose, vote, blame, blameSet, status, allowed, Effect, toAll, toOne, committed}
-use Rattle.rules.specs.Words.{Statement, message, sameStatement, Certificate, Tally, certificateOf, opened, ownBlock, certificate, sameBlock, grown, join, joinCertificate, voters, highest, State, fresh}
+use Rattle.rules.specs.Words.{Statement, message, sameStatement, Certificate, Opener, Tally, certificateOf, ownBlock, certificate, sameBlock, grown, join, joinCertificate, voters, highest, State, fresh}
 use Rattle.rules.specs.Inputs.{saying, _▸_, withPhase, withTables, withBlames, entering, belowLock, noted, votedFor, ballot, stored, blamed, above, ownNewView, report, current, inOrder, votingAll}
 use Rattle.rules.proofs.Tests.{by-bool}
 use Rattle.rules.proofs.Searches.{All, all-append, all-split, all-map, all-of, all-alter}
@@ -52,22 +52,22 @@ module _ (P : ℕ → ℕ → ℕ → ℕ → Type 0) (parentOf : ℕ → ℕ) w
 
   -- ---- tallies
 
-  join-backed : (t : Certificate) (us : List Tally) → Backed t → All Holding us → All Holding (join t us)
+  join-backed : (k : Opener) (t : Certificate) (us : List Tally) → Backed t → All Holding us → All Holding (join k t us)
   unfolding join grown
-  join-backed t [] h a = (h, tt)
-  join-backed t (u ∷ us) h a =
+  join-backed k t [] h a = (h, tt)
+  join-backed k t (u ∷ us) h a =
       by-bool (sameBlock t (certificateOf u))
       (λ e.
       let (p, q, r) = block-eq t (certificateOf u) e in
       rw (e, join) (λ i k. either (u .view) (u .height) (u .name) (u .mask) (t .mask) i (a .0 i) (λ z. subst₃ (λ (x y w : ℕ). P x y w i) p q r (h i z)) k, a .1))
-      (λ e. rw (e, join) (a .0, join-backed t us h (a .1)))
+      (λ e. rw (e, join) (a .0, join-backed k t us h (a .1)))
     where
       either : (v h b m k i : ℕ) → (bit m i ≡ 1 → P v h b i) → (bit k i ≡ 1 → P v h b i) → bit (joined m k) i ≡ 1 → P v h b i
       either v h b m k i f q e = elim (ℕ-discrete (bit m i) 1) [ yes p ↦ f p | no p ↦ (let w = joined-bit m k i in q (omega arith)) ]
 
-  certificate-backed : (t : Certificate) (us : List Tally) → Backed t → All Holding us → All Holding (joinCertificate t us)
+  certificate-backed : (k : Opener) (t : Certificate) (us : List Tally) → Backed t → All Holding us → All Holding (joinCertificate k t us)
   unfolding joinCertificate
-  certificate-backed t us h a = by-bool (eqb (t .view) 0) (λ e. rw (e, joinCertificate) a) (λ e. rw (e, joinCertificate) (join-backed t us h a))
+  certificate-backed k t us h a = by-bool (eqb (t .view) 0) (λ e. rw (e, joinCertificate) a) (λ e. rw (e, joinCertificate) (join-backed k t us h a))
 
   own-backed : (x : Statement) (me : ℕ) → P (x .view) (x .height) (x .name) me → Backed (ownBlock x (only me))
   unfolding ownBlock
@@ -124,8 +124,8 @@ module _ (P : ℕ → ℕ → ℕ → ℕ → Type 0) (parentOf : ℕ → ℕ) w
     stored-proper x s r i =
         record {
           settings = i .settings;
-          tallies = join-backed (ownBlock x 0) (joinCertificate (certificate x) (s .tallies)) (λ j k. no-bit j (unfold ownBlock in k))
-              (certificate-backed (certificate x) (s .tallies) (r .backed (certificate x) (carried-certificate x)) (i .tallies));
+          tallies = join-backed none (ownBlock x 0) (joinCertificate none (certificate x) (s .tallies)) (λ j k. no-bit j (unfold ownBlock in k))
+              (certificate-backed none (certificate x) (s .tallies) (r .backed (certificate x) (carried-certificate x)) (i .tallies));
           statements = all-append Stated (s .statements) (x ∷ []) (i .statements) (r, tt);
         }
 
@@ -135,7 +135,7 @@ module _ (P : ℕ → ℕ → ℕ → ℕ → Type 0) (parentOf : ℕ → ℕ) w
         let me = s .settings .own in
         record {
           settings = i .settings;
-          tallies = join-backed (ownBlock x (only me)) (s .tallies) (own-backed x me (h (ap (λ (y : Settings). y .own) (i .settings)))) (i .tallies);
+          tallies = join-backed none (ownBlock x (only me)) (s .tallies) (own-backed x me (h (ap (λ (y : Settings). y .own) (i .settings)))) (i .tallies);
           statements = all-alter Stated (sameStatement x) (noted (s .clock)) (λ y q. subst Right (sym (message-noted (s .clock) y)) q) (s .statements) (i .statements);
         }
 
@@ -171,8 +171,8 @@ module _ (P : ℕ → ℕ → ℕ → ℕ → Type 0) (parentOf : ℕ → ℕ) w
 
       move-proper : (s t : State) (o : List Effect) → Move R s t o → All Known o → Proper s → Proper t
       unfolding ballot withTables withPhase withBlames entering blamed
-      move-proper s t o (joins m u k c) h i =
-          record { settings = i .settings; tallies = certificate-backed u (s .tallies) (origin-right s i m k .backed u c) (i .tallies); statements = i .statements }
+      move-proper s t o (joins j m u k c) h i =
+          record { settings = i .settings; tallies = certificate-backed j u (s .tallies) (origin-right s i m k .backed u c) (i .tallies); statements = i .statements }
       move-proper s t o (stores x (k, n, q) f) h i = stored-proper x s (origin-right s i (message x) k) i
       move-proper s t o (passes x (k, n, q) f c l) h i = stored-proper x s (origin-right s i (message x) k) i
       move-proper s t o (casts x (k, n, q) f c l) h i = voted-proper x (stored x s) (unfold stored in (h .1 .0)) (stored-proper x s (origin-right s i (message x) k) i)

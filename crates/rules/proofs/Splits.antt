@@ -32,7 +32,7 @@ clock-split e = let z : _≡_ {A = ℕ} 0 1 = cc in absurd (omega arith)
 module _ {R : Outside} where
   move-running : (s t : State) (o : List Effect) → Move R s t o → running s ≡ true → running t ≡ true
   unfolding withTables withPhase withBlames withLog entering stored votedFor blamed running
-  move-running s t o (joins m u g c) r = r
+  move-running s t o (joins j m u g c) r = r
   move-running s t o (stores x g f) r = r
   move-running s t o (passes x g f c l) r = r
   move-running s t o (casts x g f c l) r = r
@@ -65,7 +65,7 @@ pub step-split : (bs : List ℕ) (s : State) → running s ≡ true → Split (s
 unfolding anything
 step-split bs s r =
     by-step (λ o. Split (o .next) → ⊥) s (refused-split s r) bs
-    (λ m q a. room-split s (handled m s) (moves-running s (handled m s .now) (handled m s .out) (handled-moves anything m s (handed tt a)) r))
+    (λ m q a _. room-split s (handled m s) (moves-running s (handled m s .now) (handled m s .out) (handled-moves anything m s (handed tt a)) r))
 
 pub offer-split : (b : ℕ) (s : State) → running s ≡ true → Split (offer b s .next) → ⊥
 unfolding anything

@@ -13,7 +13,7 @@ use lib.Count.{onesIn}
 use borrow.Author.Tests.{eqb-true, eq-eqb, lt-ltb, ltb-true, not-true}
 use Rattle.rules.specs.Limits.{maskBits}
 use Rattle.rules.specs.Sizes.{Settings, faults, only, bit, joined, count, quorum}
-use Rattle.rules.specs.Words.{Certificate, Tally, certificateOf, opened, sameBlock, grown, join, joinCertificate, voters, certified, below, higher, genesis, highest}
+use Rattle.rules.specs.Words.{Certificate, Opener, Tally, certificateOf, sameBlock, grown, join, joinCertificate, voters, certified, below, higher, genesis, highest}
 use Rattle.rules.proofs.Tests.{by-bool, no-bool}
 use Rattle.rules.proofs.Truths.{and-2, both, or-2, or-right, or-not}
 use Rattle.rules.proofs.Masks.{joined-bit, joined-left, joined-right, count-joined, count-more, count-none, bit-below, quorum-count}
@@ -108,31 +108,31 @@ unfolding sameBlock
 block-cong q t u e = let (a, b, c) = block-eq q t e in rw (a, b, c)
 
 -- joining loses no voter of any block
-pub voters-join : (q t : Certificate) (us : List Tally) (i : ℕ) → bit (voters q us) i ≡ 1 → bit (voters q (join t us)) i ≡ 1
+pub voters-join : (k : Opener) (q t : Certificate) (us : List Tally) (i : ℕ) → bit (voters q us) i ≡ 1 → bit (voters q (join k t us)) i ≡ 1
 unfolding voters join grown
-voters-join q t [] i h = no-bit i h
-voters-join q t (u ∷ us) i h =
+voters-join k q t [] i h = no-bit i h
+voters-join k q t (u ∷ us) i h =
     by-bool (sameBlock t (certificateOf u))
     (λ e.
     by-bool (sameBlock q (certificateOf u)) (λ f. rw (e, join) (rw (f, voters) (joined-left (u .mask) (t .mask) i (rw (f, voters) at h))))
     (λ f. rw (e, join) (rw (f, voters) (rw (f, voters) at h))))
     (λ e.
     by-bool (sameBlock q (certificateOf u)) (λ f. rw (e, join) (rw (f, voters) (rw (f, voters) at h)))
-    (λ f. rw (e, join) (rw (f, voters) (voters-join q t us i (rw (f, voters) at h)))))
+    (λ f. rw (e, join) (rw (f, voters) (voters-join k q t us i (rw (f, voters) at h)))))
 
-pub voters-certificate : (q t : Certificate) (us : List Tally) (i : ℕ) → bit (voters q us) i ≡ 1 → bit (voters q (joinCertificate t us)) i ≡ 1
+pub voters-certificate : (k : Opener) (q t : Certificate) (us : List Tally) (i : ℕ) → bit (voters q us) i ≡ 1 → bit (voters q (joinCertificate k t us)) i ≡ 1
 unfolding joinCertificate
-voters-certificate q t us i h =
-    by-bool (eqb (t .view) 0) (λ e. rw (e, joinCertificate) h) (λ e. rw (e, joinCertificate) (voters-join q t us i h))
+voters-certificate k q t us i h =
+    by-bool (eqb (t .view) 0) (λ e. rw (e, joinCertificate) h) (λ e. rw (e, joinCertificate) (voters-join k q t us i h))
 
 -- who joins is there
-pub voters-joined : (q t : Certificate) (us : List Tally) (i : ℕ) → sameBlock q t ≡ true → bit (t .mask) i ≡ 1 → bit (voters q (join t us)) i ≡ 1
+pub voters-joined : (k : Opener) (q t : Certificate) (us : List Tally) (i : ℕ) → sameBlock q t ≡ true → bit (t .mask) i ≡ 1 → bit (voters q (join k t us)) i ≡ 1
 unfolding voters join grown
-voters-joined q t [] i e h = rw (e, voters) h
-voters-joined q t (u ∷ us) i e h =
+voters-joined k q t [] i e h = rw (e, voters) h
+voters-joined k q t (u ∷ us) i e h =
     by-bool (sameBlock t (certificateOf u))
     (λ f. rw (f, join) (rw (block-cong q t (certificateOf u) e ∙ f, voters) (joined-right (u .mask) (t .mask) i h)))
-    (λ f. rw (f, join) (rw (block-cong q t (certificateOf u) e ∙ f, voters) (voters-joined q t us i e h)))
+    (λ f. rw (f, join) (rw (block-cong q t (certificateOf u) e ∙ f, voters) (voters-joined k q t us i e h)))
 
 -- voters are those of a tally of the block, if there are any
 pub voters-tally : (q : Certificate) (us : List Tally) → (voters q us ≡ 0) ⊎ ((u : Tally) × List·Memᴰ u us × (sameBlock q (certificateOf u) ≡ true) × (voters q us ≡ u .mask))

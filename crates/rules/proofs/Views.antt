@@ -57,7 +57,7 @@ current-view v xs x m = eqb-true (x .view) v (mem-keep (λ (y : Statement). eqb 
 
 move-views : {R : Outside} (s t : State) (o : List Effect) → Move R s t o → All (ViewSaid (t .view)) o
 unfolding withTables withPhase withBlames withLog entering stored votedFor blamed viewOf current
-move-views s t o (joins m u g c) = tt
+move-views s t o (joins j m u g c) = tt
 move-views s t o (stores x g f) = tt
 move-views s t o (passes x g f c k) = tt
 move-views s t o (casts x g f c k) = ballot-views x s (s .view) (in-true (x .view) s f .1)

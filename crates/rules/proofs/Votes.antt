@@ -85,7 +85,7 @@ module _ (S : ℕ → Effect → Type 0) where
 
   move-stands : {R : Outside} (s t : State) (o : List Effect) → Move R s t o → All (S (s .clock)) o → All (StandsSaid t) o
   unfolding withTables withPhase withBlames withLog entering stored votedFor ballot blamed
-  move-stands s t o (joins m u g c) h = tt
+  move-stands s t o (joins j m u g c) h = tt
   move-stands s t o (stores x g f) h = tt
   move-stands s t o (passes x g f c k) h = tt
   move-stands s t o (casts x g f c k) h =

@@ -5,11 +5,11 @@ use mathlib.Core.List.{List, [], _∷_, _++_}
 use mathlib.Core.Option.{Option, none, some}
 use lib.ListN.{length, getD, replicate}
 use lib.Dec.{eqb}
-use Rattle.rules.specs.Limits.{lastClock, small, large, mostStatements, mostTallies, lastViewSmall, lastViewLarge, mostStatementsSmall}
+use Rattle.rules.specs.Limits.{lastClock, small, large, mostStatements, mostTallies, mostOpened, lastViewSmall, lastViewLarge, mostStatementsSmall}
 use Rattle.rules.specs.Lists.{unbe, all}
 use Rattle.rules.specs.Sizes.{Settings}
 use Rattle.rules.specs.Messages.{Message, newView, propose, vote, blame, blameSet, status, write, read, allowed, Effect, toAll, toOne, committed, effect}
-use Rattle.rules.specs.Words.{Statement, conflict, Tally, certificateOf, genesis, voters, Phase, inView, waiting, stopped, full, State, fresh}
+use Rattle.rules.specs.Words.{Statement, conflict, Tally, openedBy, certificateOf, genesis, voters, Phase, inView, waiting, stopped, full, State, fresh}
 use Rattle.rules.specs.Inputs.{withPhase, withClock, withTables, withBlames, withLog, entering}
 use Rattle.rules.specs.Refusals.{Outcome, step, tick, result}
 use Rattle.rules.specs.WellFormed.{wellFormed}
@@ -239,7 +239,7 @@ entries =
 -- tallies of k names; a chain of k blocks of view 2, the highest first, for a station in view 1
 tallied : ℕ → List Tally
 tallied zero = []
-tallied (suc k) = record { view = 1; height = 1; name = suc k; mask = 1 } ∷ tallied k
+tallied (suc k) = record { view = 1; height = 1; name = suc k; mask = 1; opener = none } ∷ tallied k
 
 many : ℕ → List Line
 many zero = []
@@ -297,6 +297,37 @@ early =
     ∷ goes (withTables [] (tallied (mostTallies small)) (fresh (group 0))) (hears (vote 3 2 9 0) ⇒ refuses 11 ∷ hears (vote 2 2 9 0) ⇒ refuses 6 ∷ [])
     ∷ []
 
+-- ---- one rude neighbour
+
+-- votes of an author in view 1 for k names, from the last one down
+rude : ℕ → ℕ → List Line
+rude a zero = []
+rude a (suc k) = hears (vote 1 1 (suc k) a) ⇒ bytes 0 ∷ rude a k
+
+-- the author a opened k tallies
+has : ℕ → ℕ → Line
+has a k = holds (λ s. eqb (openedBy a (s .tallies)) k)
+
+authors : List Bool
+unfolding goes fresh group station withTables tallied rude has openedBy
+authors =
+    -- the sixteenth is taken, the seventeenth is not, and nothing changes; others and tallies that are there are open to its author
+    station 0 (rude 1 mostOpened ++ has 1 mostOpened ∷ hears (vote 1 1 99 1) ⇒ refuses 12 ∷ hears (vote 2 1 99 1) ⇒ refuses 12 ∷ has 1 mostOpened
+    ∷ holds (λ s. eqb (length (s .tallies)) mostOpened) ∷ hears (vote 1 1 1 1) ⇒ bytes 0 ∷ hears (vote 1 1 99 2) ⇒ bytes 0 ∷ hears (vote 1 1 99 1) ⇒ bytes 0 ∷ has 1 mostOpened ∷ has 2 1 ∷ [])
+    -- who joins a tally doesn't open it, and a statement and a status open for nobody; the own number counts like any other
+    ∷ station 0 (hears (status 5 99 1 2) ⇒ refuses 5 ∷ hears (status 5 99 1 6) ⇒ bytes 0 ∷ hears (vote 1 5 99 1) ⇒ bytes 0 ∷ has 1 0 ∷ has 2 0 ∷ hears (propose 2 1 77 0 3 2) ⇒ bytes 0
+    ∷ has 0 0 ∷ has 2 0 ∷ hears (vote 2 1 77 1) ⇒ bytes 0 ∷ has 1 0 ∷ hears (vote 1 3 98 0) ⇒ bytes 0 ∷ has 0 1 ∷ [])
+    -- after 5 and 11
+    ∷ station 0 (rude 1 mostOpened ++ hears (vote 1 0 99 1) ⇒ refuses 5 ∷ hears (vote 3 1 99 1) ⇒ refuses 11 ∷ hears (vote 2 1 99 1) ⇒ refuses 12 ∷ [])
+    -- and before 6: the station goes on
+    ∷ goes (withTables [] (tallied (mostTallies small - mostOpened)) (fresh (group 0))) (rudely mostOpened ++ hears (vote 1 3 99 1) ⇒ refuses 12 ∷ hears (vote 1 3 99 2) ⇒ refuses 6 ∷ [])
+    ∷ []
+  where
+    -- votes of author 1 for k names at height 2
+    rudely : ℕ → List Line
+    rudely zero = []
+    rudely (suc k) = hears (vote 1 2 (suc k) 1) ⇒ bytes 0 ∷ rudely k
+
 -- ---- well formed
 
 -- a state of station 2 in view 2: a logged block of view 1, and a new-view above it
@@ -304,7 +335,7 @@ said : Bool → ℕ → ℕ → ℕ → ℕ → ℕ → Option ℕ → Statement
 said k v h b l a c = record { isNewView = k; view = v; height = h; name = b; link = l; mask = 3; author = a; voted = c }
 
 tally : ℕ → ℕ → ℕ → ℕ → Tally
-tally v h b m = record { view = v; height = h; name = b; mask = m }
+tally v h b m = record { view = v; height = h; name = b; mask = m; opener = none }
 
 lower : Statement
 lower = said false 1 1 77 0 1 (some 4)
@@ -357,6 +388,7 @@ formed =
     -- (8)
     ∷ not (tables [] (tally 0 1 77 3 ∷ []) []) ∷ not (tables [] (tally (suc lastViewSmall) 1 77 3 ∷ []) []) ∷ not (tables [] (tally 1 0 77 3 ∷ []) []) ∷ not (tables [] (tally 1 1 77 8 ∷ []) [])
     ∷ not (tables [] (tally 1 1 (2 ^ 256) 3 ∷ []) []) ∷ not (tables [] (tally 1 1 77 3 ∷ tally 1 1 77 0 ∷ []) [])
+    ∷ tables [] (by 1 77 2 ∷ []) [] ∷ not (tables [] (by 1 77 1 ∷ []) []) ∷ not (tables [] (by 3 77 7 ∷ []) [])
     -- (9)
     ∷ not (tables (upper ∷ []) (tally 1 1 77 3 ∷ []) []) ∷ not (tables (upper ∷ []) (tally 2 1 77 3 ∷ []) []) ∷ tables (record { isNewView = true; view = 2; height = 0; name = 0; link = 0; mask = 0; author = 2; voted = none } ∷ []) (tally 2 0 0 0 ∷ []) []
     -- (10)
@@ -364,6 +396,8 @@ formed =
     -- (11)
     ∷ not (tables (lower ∷ []) counted (78 ∷ [])) ∷ not (tables (lower ∷ []) counted (77 ∷ 77 ∷ [])) ∷ not (tables (upper ∷ []) counted (77 ∷ []))
     ∷ above 77 ∷ not (above 70)
+    -- (12)
+    ∷ tables [] (opening mostOpened) [] ∷ not (tables [] (opening (suc mostOpened)) [])
     ∷ []
   where
     rich : State
@@ -378,10 +412,18 @@ formed =
     blamed : List ℕ → Bool
     blamed ms = wellFormed (held (group 2) inView 2 (tally 1 1 77 3) [] [] ms [])
 
+    -- a tally of view 1 and height 1 that an author opened, and k of them by station 1
+    by : ℕ → ℕ → ℕ → Tally
+    by a b m = record { view = 1; height = 1; name = b; mask = m; opener = some a }
+
+    opening : ℕ → List Tally
+    opening zero = []
+    opening (suc k) = by 1 (suc k) 2 ∷ opening k
+
     -- a second block logged above the first, with this parent
     above : ℕ → Bool
     above p = tables (lower ∷ said false 1 2 79 p 1 none ∷ []) (tally 1 2 79 0 ∷ tally 1 1 70 0 ∷ counted) (77 ∷ 79 ∷ [])
 
 unfoldable pub corners : List Bool
-unfolding sizes wire unreadable judged conflicts stated offers commits leading entries refusals early formed
-corners = sizes ++ wire ++ unreadable ++ judged ++ conflicts ++ stated ++ offers ++ commits ++ leading ++ entries ++ refusals ++ early ++ formed
+unfolding sizes wire unreadable judged conflicts stated offers commits leading entries refusals early authors formed
+corners = sizes ++ wire ++ unreadable ++ judged ++ conflicts ++ stated ++ offers ++ commits ++ leading ++ entries ++ refusals ++ early ++ authors ++ formed

@@ -49,9 +49,9 @@ unfoldable pub mostStatements : Size → ℕ
 mostStatements small = mostStatementsSmall
 mostStatements large = mostStatementsLarge
 
--- "stored tallies: 256"; 02: "tallies go to 1,024"
+-- 02: "raise tallies to 512" (01 had 256); "tallies go to 1,024"
 abbrev pub mostTalliesSmall : ℕ
-mostTalliesSmall = 256
+mostTalliesSmall = 512
 
 abbrev pub mostTalliesLarge : ℕ
 mostTalliesLarge = 1_024
@@ -59,6 +59,10 @@ mostTalliesLarge = 1_024
 unfoldable pub mostTallies : Size → ℕ
 mostTallies small = mostTalliesSmall
 mostTallies large = mostTalliesLarge
+
+-- 02: "let each author open at most 16 by vote messages"
+abbrev pub mostOpened : ℕ
+mostOpened = 16
 
 -- "clock: 0 to 4,000,000,000"
 abbrev pub lastClock : ℕ

@@ -1,13 +1,14 @@
--- 01, 'When the desk says no', with the number of 02's request 9: what a call answers, in its order, and what it leaves. Assumes nothing.
+-- 01, 'When the desk says no', with the numbers of 02's requests 9 and 5: what a call answers, in its order, and what it leaves. Assumes nothing.
 use Prim.Native.Nat.{ℕ, _+_, _*_, _^_}
-use mathlib.Core.Bool.{Bool, true, false, _&&_}
+use mathlib.Core.Bool.{Bool, true, false, not, _&&_}
 use mathlib.Core.List.{List, []}
 use mathlib.Core.Option.{Option, none, some}
 use lib.ListN.{length}
 use lib.Dec.{leb, ltb, eqb}
-use Rattle.rules.specs.Limits.{mostStatements, mostTallies, lastClock}
-use Rattle.rules.specs.Messages.{Message, viewOf, read, allowed, Effect, outgoing}
-use Rattle.rules.specs.Words.{Cause, full, split, clock, inView, waiting, stopped, State}
+use Rattle.rules.specs.Limits.{mostStatements, mostTallies, mostOpened, lastClock}
+use Rattle.rules.specs.Lists.{any}
+use Rattle.rules.specs.Messages.{Message, newView, propose, vote, blame, blameSet, status, viewOf, read, allowed, Effect, outgoing}
+use Rattle.rules.specs.Words.{ofBlock, sameBlock, openedBy, Cause, full, split, clock, inView, waiting, stopped, State}
 use Rattle.rules.specs.Inputs.{Work, withPhase, handled, offered, ticked}
 
 -- the number of the answer (0 is done), what is left, and what is said
@@ -47,9 +48,24 @@ unfoldable pub ahead : Message → State → Bool
 unfolding viewOf
 ahead m s = ltb (s .view + 1) (viewOf m)
 
--- a message: 3, then 4, "unreadable message", 5, "message not allowed", "right after 5" 11, and 6
+-- 12, "the seventeenth": a vote that would open a tally, by an author who opened as many as one may
+unfoldable pub usedUp : Message → State → Bool
+unfolding any sameBlock openedBy
+usedUp (newView v h b c m a) s = false
+usedUp (propose v h b p m a) s = false
+usedUp (vote v h b a) s = not (any (ofBlock (record { view = v; height = h; name = b; mask = 0 })) (s .tallies)) && leb mostOpened (openedBy a (s .tallies))
+usedUp (blame v a) s = false
+usedUp (blameSet v m) s = false
+usedUp (status h b c m) s = false
+
+-- what is done with a message that may be heard: 12, "tested after 5 and before 6"
+unfoldable pub heard : Message → State → Outcome
+unfolding usedUp refused ifRoom handled
+heard m s = elim (usedUp m s) [ true ↦ refused 12 s | false ↦ ifRoom s (handled m s) ]
+
+-- a message: 3, then 4, "unreadable message", 5, "message not allowed", "right after 5" 11, then 12 and 6
 unfoldable pub step : List ℕ → State → Outcome
-unfolding running refused read allowed ahead ifRoom handled
+unfolding running refused read allowed ahead heard
 step bs s =
     elim (running s) [
       | false ↦ refused 3 s
@@ -59,7 +75,7 @@ step bs s =
             | some m ↦
                 elim (allowed (s .settings) m) [
                   | false ↦ refused 5 s
-                  | true ↦ elim (ahead m s) [ true ↦ refused 11 s | false ↦ ifRoom s (handled m s) ]
+                  | true ↦ elim (ahead m s) [ true ↦ refused 11 s | false ↦ heard m s ]
                 ]
           ]
     ]

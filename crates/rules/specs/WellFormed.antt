@@ -1,15 +1,15 @@
 -- 01, 'When the desk says no': which states a station can be in. The parts are numbered as docs/STORE.md lists them. Assumes nothing.
-use Prim.Native.Nat.{ℕ, suc, _+_, _^_}
+use Prim.Native.Nat.{ℕ, zero, suc, _+_, _^_}
 use mathlib.Core.Bool.{Bool, true, false, not, _&&_, _||_}
 use mathlib.Core.List.{List, [], _∷_}
 use mathlib.Core.Option.{none, some}
 use lib.ListN.{length}
 use lib.Dec.{leb, ltb, eqb}
-use Rattle.rules.specs.Limits.{lastView, mostStatements, mostTallies, lastClock}
+use Rattle.rules.specs.Limits.{lastView, mostStatements, mostTallies, mostOpened, lastClock}
 use Rattle.rules.specs.Lists.{any, all, distinct, within}
-use Rattle.rules.specs.Sizes.{Settings, goodSettings}
+use Rattle.rules.specs.Sizes.{Settings, goodSettings, holds}
 use Rattle.rules.specs.Messages.{viewAllowed, blockAllowed, certificateAllowed, allowed}
-use Rattle.rules.specs.Words.{Statement, message, sameStatement, Tally, certificateOf, ownBlock, certificate, sameBlock, Phase, inView, waiting, stopped, State}
+use Rattle.rules.specs.Words.{Statement, message, sameStatement, Opener, Tally, certificateOf, openedBy, ownBlock, certificate, sameBlock, Phase, inView, waiting, stopped, State}
 use Rattle.rules.specs.Inputs.{isBlock}
 
 -- a name is 32 bytes; a mask has no bit at n or above
@@ -41,10 +41,16 @@ statementGood s x =
     allowed (s .settings) (message x) && isName (x .name) && isName (x .link)
     && elim (x .voted) [ none ↦ true | some c ↦ leb c (s .clock) ]
 
--- (8) a tally is of a view and a block that are allowed, with a mask of these stations
+-- who opened a tally by a vote is one of these stations, and among its voters
+unfoldable pub openerGood : Settings → ℕ → Opener → Bool
+unfolding holds
+openerGood g m none = true
+openerGood g m (some a) = ltb a (g .n) && holds m a
+
+-- (8) a tally is of a view and a block that are allowed, with a mask of these stations, opened by nobody or by one of its voters
 unfoldable pub tallyGood : Settings → Tally → Bool
-unfolding viewAllowed blockAllowed isName isMask
-tallyGood g t = viewAllowed g (t .view) && blockAllowed (t .height) (t .name) && isName (t .name) && isMask g (t .mask)
+unfolding viewAllowed blockAllowed isName isMask openerGood
+tallyGood g t = viewAllowed g (t .view) && blockAllowed (t .height) (t .name) && isName (t .name) && isMask g (t .mask) && openerGood g (t .mask) (t .opener)
 
 -- two tallies of one block
 unfoldable pub sameTally : Tally → Tally → Bool
@@ -69,8 +75,14 @@ unfolding any isBlock
 linked xs h parent [] = true
 linked xs h parent (b ∷ l) = any (λ x. isBlock (suc h) b x && eqb parent (x .link)) xs && linked xs (suc h) b l
 
+-- (12) none of the stations below n opened more tallies than one may
+unfoldable pub fewOpened : ℕ → List Tally → Bool
+unfolding openedBy
+fewOpened zero ts = true
+fewOpened (suc a) ts = leb (openedBy a ts) mostOpened && fewOpened a ts
+
 unfoldable pub wellFormed : State → Bool
-unfolding goodSettings viewAllowed clocksInOrder lockGood all statementGood distinct sameStatement tallyGood sameTally talliesThere blamesGood linked mostStatements mostTallies
+unfolding goodSettings viewAllowed clocksInOrder lockGood all statementGood distinct sameStatement tallyGood sameTally talliesThere blamesGood linked fewOpened mostStatements mostTallies
 wellFormed s =
     -- (1) settings in range
     goodSettings (s .settings)
@@ -90,3 +102,4 @@ wellFormed s =
     && all (talliesThere (s .tallies)) (s .statements)
     && blamesGood (s .settings) (s .blames)
     && linked (s .statements) 0 0 (s .log)
+    && fewOpened (s .settings .n) (s .tallies)

@@ -3,10 +3,10 @@ use Prim.Native.Nat.{ℕ, suc, _+_, _-_}
 use mathlib.Core.Bool.{Bool, true, false, not, _&&_, _||_}
 use mathlib.Core.List.{List, [], _∷_}
 use mathlib.Core.Option.{Option, none, some}
-use lib.ListN.{getD, replicate}
+use lib.ListN.{length, replicate}
 use lib.Dec.{leb, ltb, eqb}
 use Rattle.rules.specs.Limits.{firstView, lastView}
-use Rattle.rules.specs.Lists.{iff}
+use Rattle.rules.specs.Lists.{iff, keep}
 use Rattle.rules.specs.Sizes.{Settings, joined, quorum}
 use Rattle.rules.specs.Messages.{Message, newView, propose}
 
@@ -61,19 +61,24 @@ pub record Certificate : Type 0 where
   pub name : ℕ
   pub mask : ℕ
 
--- "a tally is (view, height, name) with a mask": a record of the table
+-- 02: "who opened the tally": nobody, where a statement or a status did, or the author of the vote message that did
+abbrev pub Opener : Type 0
+Opener = Option ℕ
+
+-- "a tally is (view, height, name) with a mask": a record of the table, which keeps who opened it
 pub record Tally : Type 0 where
   pub view : ℕ
   pub height : ℕ
   pub name : ℕ
   pub mask : ℕ
+  pub opener : Opener
 
--- what a tally certifies, and a tally that is opened for a certificate
+-- what a tally certifies, and a tally that somebody opens for a certificate
 abbrev pub certificateOf : Tally → Certificate
 certificateOf t = record { view = t .view; height = t .height; name = t .name; mask = t .mask }
 
-abbrev pub opened : Certificate → Tally
-opened c = record { view = c .view; height = c .height; name = c .name; mask = c .mask }
+abbrev pub opened : Opener → Certificate → Tally
+opened k c = record { view = c .view; height = c .height; name = c .name; mask = c .mask; opener = k }
 
 -- the statement's "own block in its view", with a mask
 unfoldable pub ownBlock : Statement → ℕ → Certificate
@@ -97,18 +102,27 @@ ofBlock t u = sameBlock t (certificateOf u)
 -- "adding a voter to a tally gives back the grown tally"
 unfoldable pub grown : Tally → ℕ → Tally
 unfolding joined
-grown t m = record { view = t .view; height = t .height; name = t .name; mask = joined (t .mask) m }
+grown t m = record { view = t .view; height = t .height; name = t .name; mask = joined (t .mask) m; opener = t .opener }
 
--- a mask joins its tally, "opened if missing"; to open a tally is to join no voters
-unfoldable pub join : Certificate → List Tally → List Tally
+-- a mask joins its tally, "opened if missing", and who opens it then is said; to open a tally is to join no voters
+unfoldable pub join : Opener → Certificate → List Tally → List Tally
 unfolding sameBlock grown
-join t [] = opened t ∷ []
-join t (u ∷ us) = elim (sameBlock t (certificateOf u)) [ true ↦ grown u (t .mask) ∷ us | false ↦ u ∷ join t us ]
+join k t [] = opened k t ∷ []
+join k t (u ∷ us) = elim (sameBlock t (certificateOf u)) [ true ↦ grown u (t .mask) ∷ us | false ↦ u ∷ join k t us ]
 
 -- "genesis is certified in view 0 and has no tally there"
-unfoldable pub joinCertificate : Certificate → List Tally → List Tally
+unfoldable pub joinCertificate : Opener → Certificate → List Tally → List Tally
 unfolding join
-joinCertificate t us = elim (eqb (t .view) 0) [ true ↦ us | false ↦ join t us ]
+joinCertificate k t us = elim (eqb (t .view) 0) [ true ↦ us | false ↦ join k t us ]
+
+-- a tally's opener is this author; how many tallies an author opened
+unfoldable pub isAuthor : ℕ → Opener → Bool
+isAuthor a none = false
+isAuthor a (some b) = eqb a b
+
+unfoldable pub openedBy : ℕ → List Tally → ℕ
+unfolding keep isAuthor
+openedBy a ts = length (keep (λ t. isAuthor a (t .opener)) ts)
 
 -- the voters that a block's tally has
 unfoldable pub voters : Certificate → List Tally → ℕ

@@ -54,6 +54,11 @@ pub fn reason(page: &mut Page, at: usize, refusal: u64) -> usize {
             at,
             b" more than one view ahead of the view held or last quit\n",
         ),
+        12 => page::say(
+            page,
+            at,
+            b" the vote's author has opened as many tallies as one may\n",
+        ),
         _ => page::say(page, at, b"\n"),
     }
 }

@@ -1,3 +1,4 @@
+pub mod Openings
 pub mod Statements
 pub mod Counts
 pub mod Searches

@@ -2,7 +2,7 @@
 ghost use mathlib.Core.Path.{_≡_};
 ghost use Prim.Native.Nat.{_<_, _^_};
 ghost use Rattle.rules.specs.Limits.{maskBits, lastView, mostStatements, mostTallies};
-ghost use Rattle.rules.specs.Sizes.{leader, quorum, only};
+ghost use Rattle.rules.specs.Sizes.{leader, quorum, only, holds};
 ghost use Rattle.settings.specs.Made.{made, sizeFrom, settingsOf};
 
 // Which limits a group goes by.
@@ -44,9 +44,11 @@ impl Settings {
 
     pub const MOST_STATEMENTS_LARGE: usize = 512;
 
-    pub const MOST_TALLIES: usize = 256;
+    pub const MOST_TALLIES: usize = 512;
 
     pub const MOST_TALLIES_LARGE: usize = 1_024;
+
+    pub const MOST_OPENED: u16 = 16;
 
     pub const LAST_CLOCK: u64 = 4_000_000_000;
 
@@ -147,4 +149,12 @@ pub fn only(station: u64) -> u64
     ensures { λ r. ⌜ r ≡ only station ⌝ }
 {
     1 << station
+}
+
+// Whether a mask has a station's bit.
+pub fn holds(mask: u64, station: u64) -> bool
+    requires { ⌜ station < maskBits ⌝ }
+    ensures { λ r. ⌜ r ≡ holds mask station ⌝ }
+{
+    (mask >> station) % 2 == 1
 }

@@ -12,8 +12,7 @@ use Rattle.rules.specs.Sizes as sizes
 use Rattle.rules.specs.Messages as messages
 use Rattle.rules.specs.Messages.{viewOf, read, allowed}
 use Rattle.rules.specs.Words.{State}
-use Rattle.rules.specs.Inputs.{handled}
-use Rattle.rules.specs.Refusals.{refused, ifRoom, running, ahead, step}
+use Rattle.rules.specs.Refusals.{refused, running, ahead, heard, step}
 use Rattle.rules.proofs.Bytes as rules
 use Rattle.rules.proofs.Bounds.{out-least}
 use Rattle.fields.specs.Places.{Bytes}
@@ -58,9 +57,9 @@ module _ (bs : List ℕ) (s : State) where
         unfolding step
         step-ahead w = rw (r, q, step, a, w)
 
-        step-handled : ahead m s ≡ false → ifRoom s (handled m s) ≡ step bs s
+        step-heard : ahead m s ≡ false → heard m s ≡ step bs s
         unfolding step
-        step-handled w = rw (r, q, step, a, w)
+        step-heard w = rw (r, q, step, a, w)
 
 -- bytes by their places are bytes one by one
 bytes-all : (bs : List ℕ) → Bytes bs → rules.Bytes bs
@@ -122,5 +121,5 @@ module _ (bs b o : List ℕ) (h : Bytes b) {n : ℕ} (e : n ≡ barred b o) wher
             ahead-step w t =
                 step-gives (answers-is (step-ahead bs (stateOf b) (opening .runs) (messageOf m) was-read (is-allowed ∙ not-false y d) (is-ahead ∙ w)) (refused-answers 11 (step-formed .form) t o))
 
-            pub handled-step : {b′ o′ : List ℕ} {r : ℕ} → x ≡ false → Answers (ifRoom (stateOf b) (handled (messageOf m) (stateOf b))) o b′ o′ r → Gives (stepCalled bs b o) r b′ o′
-            handled-step w k = step-gives (answers-is (step-handled bs (stateOf b) (opening .runs) (messageOf m) was-read (is-allowed ∙ not-false y d) (is-ahead ∙ w)) k)
+            pub handled-step : {b′ o′ : List ℕ} {r : ℕ} → x ≡ false → Answers (heard (messageOf m) (stateOf b)) o b′ o′ r → Gives (stepCalled bs b o) r b′ o′
+            handled-step w k = step-gives (answers-is (step-heard bs (stateOf b) (opening .runs) (messageOf m) was-read (is-allowed ∙ not-false y d) (is-ahead ∙ w)) k)

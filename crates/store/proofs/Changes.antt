@@ -28,7 +28,7 @@ use Rattle.store.specs.Changes.{growing, opening, storing, noting, appen
 use Rattle.store.proofs.Values.{number-phase, number-kind}
 use Rattle.store.proofs.Rows.{rows-at, change-none}
 use Rattle.store.proofs.Kept.{SameIn, part, put-low, put-high, puts-high, fields-same, field-put}
-use Rattle.store.proofs.Decoded.{statement-back}
+use Rattle.store.proofs.Decoded.{statement-back, tally-back}
 use Rattle.store.proofs.Tables.{Holds, holds-same, rows-kept, rows-put}
 use Rattle.store.proofs.Forms.{orderedHeader, orderedStatement, orderedTally, localStatement, localKind, localTally, localBlame, localName, Parts, parts, left}
 use Rattle.store.proofs.Writes.{Placed, put-record, add-record}
@@ -217,7 +217,7 @@ module _ (b : List ℕ) (k : Form b) where
   add-tally t l fit =
       let n = countOf tallyTable b in
       let b′ = put (puts b (placeOf tallyTable (sizeIn b) n) tallyFormat (tallyValues t)) 64 2 (n + 1) in
-      let a = add-record (sizeIn b) tallyTable (tallyFor (sizeIn b)) (localTally (sizeIn b)) b (q .tallies) 12 (placedTallies (sizeIn b)) tallyFormat orderedTally (k .bytes) (q .long) (tallyValues t) t l fit (tally-row (sizeIn b) b′ n) in
+      let a = add-record (sizeIn b) tallyTable (tallyFor (sizeIn b)) (localTally (sizeIn b)) b (q .tallies) 12 (placedTallies (sizeIn b)) tallyFormat orderedTally (k .bytes) (q .long) (tallyValues t) t l fit (λ e. tally-row (sizeIn b) b′ n e ∙ tally-back t) in
       in-tallies b′ (a .bytes) (a .long) (a .header) (part (a .low) (omega arith) (omega arith)) (a .mid) (a .high) (a .holds)
 
   put-voters : (j m : ℕ) → j < countOf tallyTable b → joined (tallyFor (sizeIn b) b j .mask) m < 256 ^ 2
@@ -229,7 +229,7 @@ module _ (b : List ℕ) (k : Form b) where
       let b′ = put b (at + 40) 2 v in
       let n = q .tallies .used .within in
       let row : fields b′ at tallyFormat ≡ set (fields b at tallyFormat) 3 v =
-      field-put b at 0 42 tallyFormat orderedTally (omega (arith, q .long)) 3 v (omega arith) fit in
+      field-put b at 0 (tallyTable .size) tallyFormat orderedTally (omega (arith, q .long)) 3 v (omega arith) fit in
       let x = put-record (sizeIn b) tallyTable (tallyFor (sizeIn b)) (localTally (sizeIn b)) b (q .tallies) 12 (placedTallies (sizeIn b)) j 40 2 v (λ t. grown t m) l (omega arith) (tally-row (sizeIn b) b′ j row ∙ grown-row (sizeIn b) b j m) in
       in-tallies b′ (bytes-put b (k .bytes) (at + 40) 2 v) (length-put b (at + 40) 2 v) (header-kept b b′ k (part (x .low) (omega arith) (omega arith)))
       (part (x .low) (omega arith) (omega arith)) (part (x .low) (omega arith) (omega arith)) (x .high) (x .holds)

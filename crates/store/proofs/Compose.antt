@@ -2,6 +2,7 @@
 use Prim.Native.Nat.{ℕ}
 use mathlib.Core.Path.{_≡_, refl, sym, ap, _∙_}
 use mathlib.Core.List.{List, [], _∷_, _++_, append-assoc, append-nil}
+use mathlib.Core.Option.{none}
 use lib.ListN.{length}
 use Rattle.rules.specs.Sizes.{only}
 use Rattle.rules.specs.Words.{Statement, sameStatement, ownBlock, certificate, join, State}
@@ -46,27 +47,27 @@ module _ {b : List ℕ} {s : State} (h : Left b s) where
 -- ---- the rules that are several writes
 
 -- a repeated statement: its certificate joins
-pub repeated-is : (x : Statement) (s : State) → certifying (certificate x) s ≡ certificateJoined x s
+pub repeated-is : (x : Statement) (s : State) → certifying none (certificate x) s ≡ certificateJoined x s
 unfolding certifying certificateJoined
 repeated-is x s = refl
 
 -- a new statement: its certificate joins, it is stored, its own tally is opened
-pub stored-is : (x : Statement) (s : State) → joining (ownBlock x 0) (storing x (certifying (certificate x) s)) ≡ stored x s
+pub stored-is : (x : Statement) (s : State) → joining none (ownBlock x 0) (storing x (certifying none (certificate x) s)) ≡ stored x s
 unfolding joining storing certifying stored withTables
 stored-is x s = refl
 
 -- three writes in a row
-pub stored-left : (b : List ℕ) {b₁ b₂ b₃ : List ℕ} (x : Statement) → Left b₁ (certifying (certificate x) (stateOf b)) → Left b₂ (storing x (stateOf b₁))
-    → Left b₃ (joining (ownBlock x 0) (stateOf b₂)) → Left b₃ (stored x (stateOf b))
+pub stored-left : (b : List ℕ) {b₁ b₂ b₃ : List ℕ} (x : Statement) → Left b₁ (certifying none (certificate x) (stateOf b)) → Left b₂ (storing x (stateOf b₁))
+    → Left b₃ (joining none (ownBlock x 0) (stateOf b₂)) → Left b₃ (stored x (stateOf b))
 stored-left b x h k l =
-    rw (← stored-is x (stateOf b)) (left-then (joining (ownBlock x 0)) (left-then (storing x) h k) l)
+    rw (← stored-is x (stateOf b)) (left-then (joining none (ownBlock x 0)) (left-then (storing x) h k) l)
 
 -- a vote: the place of the statement notes the clock, the own bit joins the tally
 pub voted-is : (x : Statement) (s : State) (j : ℕ) → firstFrom (sameStatement x) 0 (s .statements) ≡ At j
-    → joining (ownBlock x (only (s .settings .own))) (noting j (s .clock) s) ≡ votedFor x s
+    → joining none (ownBlock x (only (s .settings .own))) (noting j (s .clock) s) ≡ votedFor x s
 unfolding joining noting votedFor withTables
 voted-is x s j e =
-    ap (λ (xs : List Statement). withTables xs (join (ownBlock x (only (s .settings .own))) (s .tallies)) s)
+    ap (λ (xs : List Statement). withTables xs (join none (ownBlock x (only (s .settings .own))) (s .tallies)) s)
     (sym (alter-found (sameStatement x) (noted (s .clock)) (s .statements) j e))
 
 -- names logged one after the other

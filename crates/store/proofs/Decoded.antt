@@ -40,6 +40,9 @@ pub record Fitted (s : State) : Type 0 where
 abbrev tiledStatement : Tiled 0 statementFormat
 tiledStatement = (tt, (tt, (tt, (tt, (tt, (tt, (tt, (tt, tt))))))))
 
+pub tally-back : (t : Tally) → tallyFrom (tallyValues t) ≡ t
+tally-back t = λ i. record { view = t .view; height = t .height; name = t .name; mask = t .mask; opener = number-vote (t .opener) i }
+
 pub statement-back : (x : Statement) → statementFrom (statementValues x) ≡ x
 statement-back x = λ i. record {
   isNewView = number-kind (x .isNewView) .1 i;
@@ -65,9 +68,9 @@ module _ (z : Size) (p q : List ℕ) (i : ℕ) where
   kind-reads x f e =
       ap (λ (vs : List ℕ). nth vs 3) (fields-bytes p q (placeOf statementTable small i) 0 statementFormat (statementValues x) tiledStatement f (omega arith))
 
-  tally-reads : (t : Tally) → Fit tallyFormat (tallyValues t) → tallyTable .base z + 42 * i ≡ length p → tallyFor z (p ++ (bytesOf tallyFormat (tallyValues t) ++ q)) i ≡ t
+  tally-reads : (t : Tally) → Fit tallyFormat (tallyValues t) → tallyTable .base z + tallyTable .size * i ≡ length p → tallyFor z (p ++ (bytesOf tallyFormat (tallyValues t) ++ q)) i ≡ t
   unfolding tallyFor
-  tally-reads t f e = ap tallyFrom (fields-bytes p q (placeOf tallyTable z i) 0 tallyFormat (tallyValues t) (tt, (tt, (tt, (tt, tt)))) f (omega arith))
+  tally-reads t f e = ap tallyFrom (fields-bytes p q (placeOf tallyTable z i) 0 tallyFormat (tallyValues t) (tt, (tt, (tt, (tt, (tt, tt))))) f (omega arith)) ∙ tally-back t
 
   single-reads : (at w v : ℕ) → Fit ((0, w) ∷ []) (v ∷ []) → at ≡ length p → number (p ++ (bytesOf ((0, w) ∷ []) (v ∷ []) ++ q)) at w ≡ v
   single-reads at w v f e =
@@ -134,7 +137,7 @@ module _ (s : State) (k : Fitted s) where
   long-x : length x ≡ 80 * mostStatements z
   long-x = length-table statementFormat statementValues z statementTable refl (s .statements) (k .statements) (k .fewStatements)
 
-  long-t : length t ≡ 42 * mostTallies z
+  long-t : length t ≡ tallyTable .size * mostTallies z
   long-t = length-table tallyFormat tallyValues z tallyTable refl (s .tallies) (k .tallies) (k .fewTallies)
 
   long-m : length m ≡ 2 * lastView z

@@ -42,7 +42,9 @@ module _ (b : List ℕ) (k : Form b) where
 
   tally-is : (i : ℕ) → bytesOf tallyFormat (tallyValues (tallyAt b i)) ≡ bytesAt b (placeOf tallyTable z i) (tallyTable .size)
   unfolding tallyFor
-  tally-is i = record-bytes b (k .bytes) (placeOf tallyTable z i) tallyFormat (tt, (tt, (tt, (tt, tt))))
+  tally-is i =
+      ap (bytesOf tallyFormat) (simp (vote-number (number b (placeOf tallyTable z i + 42) 1)))
+      ∙ record-bytes b (k .bytes) (placeOf tallyTable z i) tallyFormat (tt, (tt, (tt, (tt, (tt, tt)))))
 
   mask-is : (i : ℕ) → bytesOf maskFormat (blameAt b i ∷ []) ≡ bytesAt b (blameBase z + 2 * i) 2
   unfolding blameFor
@@ -65,10 +67,10 @@ module _ (b : List ℕ) (k : Form b) where
   more : (n m : ℕ) → bytesAt b 0 n ++ bytesAt b n m ≡ bytesAt b 0 (n + m)
   more n m = ap (λ (k : ℕ). bytesAt b 0 n ++ bytesAt b k m) (sym (zero-add n)) ∙ sym (rows-append (λ i. getD b i 0) 0 n m)
 
-  pieces : bytesAt b 0 68 ++ bytesAt b 68 (80 * mostStatements z) ++ bytesAt b (tallyTable .base z) (42 * mostTallies z) ++ bytesAt b (blameBase z) (2 * lastView z) ++ bytesAt b (logTable .base z) (32 * mostStatements z) ≡ b
+  pieces : bytesAt b 0 68 ++ bytesAt b 68 (80 * mostStatements z) ++ bytesAt b (tallyTable .base z) (tallyTable .size * mostTallies z) ++ bytesAt b (blameBase z) (2 * lastView z) ++ bytesAt b (logTable .base z) (32 * mostStatements z) ≡ b
   pieces =
-      ap (λ (x : List ℕ). x ++ bytesAt b (tallyTable .base z) (42 * mostTallies z) ++ bytesAt b (blameBase z) (2 * lastView z) ++ bytesAt b (logTable .base z) (32 * mostStatements z)) (more 68 (80 * mostStatements z))
-      ∙ ap (λ (x : List ℕ). x ++ bytesAt b (blameBase z) (2 * lastView z) ++ bytesAt b (logTable .base z) (32 * mostStatements z)) (more (tallyTable .base z) (42 * mostTallies z))
+      ap (λ (x : List ℕ). x ++ bytesAt b (tallyTable .base z) (tallyTable .size * mostTallies z) ++ bytesAt b (blameBase z) (2 * lastView z) ++ bytesAt b (logTable .base z) (32 * mostStatements z)) (more 68 (80 * mostStatements z))
+      ∙ ap (λ (x : List ℕ). x ++ bytesAt b (blameBase z) (2 * lastView z) ++ bytesAt b (logTable .base z) (32 * mostStatements z)) (more (tallyTable .base z) (tallyTable .size * mostTallies z))
       ∙ ap (λ (x : List ℕ). x ++ bytesAt b (logTable .base z) (32 * mostStatements z)) (more (blameBase z) (2 * lastView z)) ∙ more (logTable .base z) (32 * mostStatements z)
       ∙ ap (bytesAt b 0) (sym (p .long)) ∙ bytes-all b
 

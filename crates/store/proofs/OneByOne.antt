@@ -85,7 +85,7 @@ unfolding holds grown only
 votersAdded zero k t = t
 votersAdded (suc d) k t = elim (holds k d) [ true ↦ grown (votersAdded d k t) (only d) | false ↦ votersAdded d k t ]
 
-voters-mask : (d k : ℕ) (t : Tally) → votersAdded d k t ≡ record { view = t .view; height = t .height; name = t .name; mask = oneByOne d k (t .mask) }
+voters-mask : (d k : ℕ) (t : Tally) → votersAdded d k t ≡ record { view = t .view; height = t .height; name = t .name; mask = oneByOne d k (t .mask); opener = t .opener }
 unfolding votersAdded oneByOne grown
 voters-mask zero k t = refl
 voters-mask (suc d) k t =
@@ -95,4 +95,4 @@ voters-mask (suc d) k t =
 pub grown-one-by-one : (t : Tally) (k : ℕ) → t .mask < 2 ^ maskBits → k < 2 ^ maskBits → grown t k ≡ votersAdded maskBits k t
 unfolding grown
 grown-one-by-one t k h l =
-    ap (λ (m : ℕ). record { view = t .view; height = t .height; name = t .name; mask = m }) (joined-one-by-one (t .mask) k h l) ∙ sym (voters-mask maskBits k t)
+    ap (λ (m : ℕ). record { view = t .view; height = t .height; name = t .name; mask = m; opener = t .opener }) (joined-one-by-one (t .mask) k h l) ∙ sym (voters-mask maskBits k t)

@@ -11,7 +11,7 @@ use lib.Dec.{eqb}
 use lib.ListN.{length}
 use borrow.Author.Tests.{not-true, not-false}
 use Rattle.rules.specs.Lists.{iff, first, any, alter}
-use Rattle.rules.specs.Words.{Statement, sameStatement, Certificate, Tally, certificateOf, opened, sameBlock, ofBlock, grown, join}
+use Rattle.rules.specs.Words.{Statement, sameStatement, Certificate, Opener, Tally, certificateOf, opened, sameBlock, ofBlock, grown, join}
 use Rattle.rules.proofs.Tests.{eqb-self}
 use Rattle.fields.specs.Places.{number, Bytes}
 use Rattle.fields.proofs.Laws.{number-lt, number-split}
@@ -122,10 +122,10 @@ module _ {A : Type 0} (p : A → Bool) (g : A → A) where
   pub alter-found : (xs : List A) (j : ℕ) → firstFrom p 0 xs ≡ At j → alter p g xs ≡ changeAt g j xs
   alter-found xs j q = let z : j - 0 ≡ j = omega arith in subst (Alters 0 xs) q (alters 0 xs) .1 ∙ ap (λ (k : ℕ). changeAt g k xs) z
 
-module _ (t : Certificate) where
+module _ (k : Opener) (t : Certificate) where
   abbrev Joins : ℕ → List Tally → Found → Type 0
-  Joins i us Nothing = join t us ≡ us ++ opened t ∷ []
-  Joins i us (At j) = (i ≤ j) × (join t us ≡ changeAt (λ u. grown u (t .mask)) (j - i) us)
+  Joins i us Nothing = join k t us ≡ us ++ opened k t ∷ []
+  Joins i us (At j) = (i ≤ j) × (join k t us ≡ changeAt (λ u. grown u (t .mask)) (j - i) us)
 
   joins : (i : ℕ) (us : List Tally) → Joins i us (firstFrom (ofBlock t) i us)
   unfolding firstFrom join changeAt
@@ -137,16 +137,16 @@ module _ (t : Certificate) where
       go false Nothing e h = rw (e, join) (ap (u ∷_) h)
       go false (At j) e h = (omega (arith, h .0), let z : j - i ≡ suc (j - suc i) = omega (arith, h .0) in rw (e, join, z) (ap (u ∷_) (h .1)))
 
-  pub join-found : (us : List Tally) (j : ℕ) → firstFrom (ofBlock t) 0 us ≡ At j → join t us ≡ changeAt (λ u. grown u (t .mask)) j us
-  join-found us j q = let z : j - 0 ≡ j = omega arith in subst (Joins 0 us) q (joins 0 us) .1 ∙ ap (λ (k : ℕ). changeAt (λ u. grown u (t .mask)) k us) z
+  pub join-found : (us : List Tally) (j : ℕ) → firstFrom (ofBlock t) 0 us ≡ At j → join k t us ≡ changeAt (λ u. grown u (t .mask)) j us
+  join-found us j q = let z : j - 0 ≡ j = omega arith in subst (Joins 0 us) q (joins 0 us) .1 ∙ ap (λ (n : ℕ). changeAt (λ u. grown u (t .mask)) n us) z
 
-  pub join-missing : (us : List Tally) → firstFrom (ofBlock t) 0 us ≡ Nothing → join t us ≡ us ++ opened t ∷ []
+  pub join-missing : (us : List Tally) → firstFrom (ofBlock t) 0 us ≡ Nothing → join k t us ≡ us ++ opened k t ∷ []
   join-missing us q = subst (Joins 0 us) q (joins 0 us)
 
   -- where a block's tally stands once it is joined: where it was found, or behind the others
   abbrev Stays : ℕ → List Tally → Found → Type 0
-  Stays i us Nothing = firstFrom (ofBlock t) i (join t us) ≡ At (i + length us)
-  Stays i us (At j) = firstFrom (ofBlock t) i (join t us) ≡ At j
+  Stays i us Nothing = firstFrom (ofBlock t) i (join k t us) ≡ At (i + length us)
+  Stays i us (At j) = firstFrom (ofBlock t) i (join k t us) ≡ At j
 
   stays : (i : ℕ) (us : List Tally) → Stays i us (firstFrom (ofBlock t) i us)
   unfolding firstFrom join sameBlock grown
@@ -158,10 +158,10 @@ module _ (t : Certificate) where
       go false Nothing e h = rw (e, join, e) (h ∙ ap At (omega arith))
       go false (At j) e h = rw (e, join, e) h
 
-  pub joined-found : (us : List Tally) (j : ℕ) → firstFrom (ofBlock t) 0 us ≡ At j → firstFrom (ofBlock t) 0 (join t us) ≡ At j
+  pub joined-found : (us : List Tally) (j : ℕ) → firstFrom (ofBlock t) 0 us ≡ At j → firstFrom (ofBlock t) 0 (join k t us) ≡ At j
   joined-found us j q = subst (Stays 0 us) q (stays 0 us)
 
-  pub joined-missing : (us : List Tally) → firstFrom (ofBlock t) 0 us ≡ Nothing → firstFrom (ofBlock t) 0 (join t us) ≡ At (length us)
+  pub joined-missing : (us : List Tally) → firstFrom (ofBlock t) 0 us ≡ Nothing → firstFrom (ofBlock t) 0 (join k t us) ≡ At (length us)
   joined-missing us q = subst (Stays 0 us) q (stays 0 us) ∙ ap At (zero-add (length us))
 
 -- ---- view and height as one number

@@ -1,16 +1,19 @@
 -- Each number of the store is one value's, and each value one number's. Assumes nothing.
-use Prim.Native.Nat.{ℕ, zero, suc, _-_, _≤_}
-use mathlib.Core.Path.{_≡_, refl, sym, ap}
+use Prim.Native.Nat.{ℕ, zero, suc, _+_, _-_, _≤_}
+use mathlib.Core.Path.{_≡_, refl, sym, ap, _∙_}
 use mathlib.Core.Bool.{Bool, true, false}
 use mathlib.Core.List.{List}
 use mathlib.Core.Option.{Option, none, some}
 use native.Mathlib.Omega.{arith}
 use lib.Dec.{leb, eqb}
-use borrow.Author.Tests.{leb-true}
+use borrow.Author.Tests.{leb-true, eqb-true, eqb-false, eq-eqb, ne-eqb}
 use Rattle.rules.specs.Lists.{within}
-use Rattle.rules.proofs.Tests.{no-bool, and-right}
-use Rattle.rules.specs.Words.{Phase, inView, waiting, stopped, full, split, clock}
-use Rattle.store.specs.Decode.{phaseOf, phaseNumber, voteOf, voteNumber, kindNumber, statementAt, voteAt}
+use Rattle.rules.proofs.Tests.{by-bool, no-bool, and-right}
+use Rattle.rules.specs.Limits.{Size}
+use Rattle.fields.specs.Places.{number}
+use Rattle.store.specs.Layout.{tallyTable, placeOf}
+use Rattle.rules.specs.Words.{isAuthor, Phase, inView, waiting, stopped, full, split, clock}
+use Rattle.store.specs.Decode.{phaseOf, phaseNumber, voteOf, voteNumber, openerOf, kindNumber, statementAt, tallyFor, openerFor, voteAt}
 
 pub phase-waiting : (k : ℕ) → 4 ≤ k → waiting (k - 4) ≡ phaseOf k
 phase-waiting zero h = absurd (omega arith)
@@ -40,6 +43,17 @@ vote-number (suc c) = refl
 pub number-vote : (v : Option ℕ) → voteOf (voteNumber v) ≡ v
 number-vote none = refl
 number-vote (some c) = refl
+
+-- a tally's opener is an author where the record's number is one more
+pub author-is : (a m : ℕ) → isAuthor a (openerOf m) ≡ eqb (suc a) m
+unfolding isAuthor
+author-is a zero = sym (ne-eqb (suc a) 0 (λ e. omega arith))
+author-is a (suc c) =
+    by-bool (eqb a c) (λ q. q ∙ sym (eq-eqb (suc a) (suc c) (ap suc (eqb-true a c q)))) (λ q. q ∙ sym (ne-eqb (suc a) (suc c) (λ e. eqb-false a c q (omega arith))))
+
+pub opener-is : (z : Size) (b : List ℕ) (a i : ℕ) → isAuthor a (tallyFor z b i .opener) ≡ eqb (suc a) (openerFor z b i)
+unfolding tallyFor openerFor
+opener-is z b a i = author-is a (number b (placeOf tallyTable z i + 42) 1)
 
 pub kind-number : (k : ℕ) → within 1 2 k ≡ true → kindNumber (eqb k 1) ≡ k
 unfolding within

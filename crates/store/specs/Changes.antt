@@ -3,7 +3,7 @@ use Prim.Native.Nat.{ℕ, zero, suc}
 use mathlib.Core.Path.{_≡_}
 use mathlib.Core.Bool.{Bool, true, false}
 use mathlib.Core.List.{List, [], _∷_, _++_}
-use Rattle.rules.specs.Words.{Statement, Certificate, Tally, sameBlock, ofBlock, grown, join, joinCertificate, State}
+use Rattle.rules.specs.Words.{Statement, Certificate, Opener, Tally, sameBlock, ofBlock, grown, join, joinCertificate, State}
 use Rattle.rules.specs.Inputs.{withTables, withLog, noted}
 use Rattle.store.specs.Decode.{tallies, Left}
 use Rattle.store.specs.declared.Found.{Found}
@@ -42,20 +42,20 @@ opening t s = withTables (s .statements) (s .tallies ++ t ∷ []) s
 abbrev pub withVoters : ℕ → Certificate → Certificate
 withVoters m t = record { view = t .view; height = t .height; name = t .name; mask = m }
 
--- a mask joins its tally, "opened if missing"
-unfoldable pub joining : Certificate → State → State
+-- a mask joins its tally, "opened if missing", by whom is said
+unfoldable pub joining : Opener → Certificate → State → State
 unfolding withTables join
-joining t s = withTables (s .statements) (join t (s .tallies)) s
+joining k t s = withTables (s .statements) (join k t (s .tallies)) s
 
 -- that is done, and the tally stands at place i now
-pub record Joined (t : Certificate) (s : State) (b′ : List ℕ) (i : ℕ) : Type 0 where
-  pub left : Left b′ (joining t s)
+pub record Joined (k : Opener) (t : Certificate) (s : State) (b′ : List ℕ) (i : ℕ) : Type 0 where
+  pub left : Left b′ (joining k t s)
   pub place : At i ≡ blockAt t (tallies b′)
 
 -- the same, but that genesis "has no tally" in view 0
-unfoldable pub certifying : Certificate → State → State
+unfoldable pub certifying : Opener → Certificate → State → State
 unfolding withTables joinCertificate
-certifying t s = withTables (s .statements) (joinCertificate t (s .tallies)) s
+certifying k t s = withTables (s .statements) (joinCertificate k t (s .tallies)) s
 
 -- a statement is stored
 unfoldable pub storing : Statement → State → State

@@ -8,7 +8,7 @@ use lib.ListN.{length, getD, replicate, drop}
 use lib.Dec.{leb, eqb}
 use Rattle.rules.specs.Limits.{Size, small, lastView}
 use Rattle.rules.specs.Lists.{unbe, all, within}
-use Rattle.rules.specs.Words.{Statement, Certificate, Tally, Phase, inView, waiting, stopped, full, split, clock, State}
+use Rattle.rules.specs.Words.{Statement, Certificate, Opener, Tally, Phase, inView, waiting, stopped, full, split, clock, State}
 use Rattle.rules.specs.WellFormed.{wellFormed}
 use Rattle.fields.specs.Places.{number, Bytes}
 use Rattle.fields.specs.Records.{Format, fields}
@@ -43,6 +43,13 @@ abbrev pub voteNumber : Option ℕ → ℕ
 voteNumber none = 0
 voteNumber (some c) = suc c
 
+-- 0 nobody opened the tally by a vote; else one more than the author who did
+abbrev pub openerOf : ℕ → Opener
+openerOf k = voteOf k
+
+abbrev pub openerNumber : Opener → ℕ
+openerNumber k = voteNumber k
+
 -- the kind as on the wire: 1 new-view, 2 propose
 abbrev pub kindNumber : Bool → ℕ
 kindNumber true = 1
@@ -74,10 +81,10 @@ abbrev pub certificateValues : Certificate → List ℕ
 certificateValues t = t .view ∷ t .height ∷ t .name ∷ t .mask ∷ []
 
 abbrev pub tallyFrom : List ℕ → Tally
-tallyFrom vs = record { view = nth vs 0; height = nth vs 1; name = nth vs 2; mask = nth vs 3 }
+tallyFrom vs = record { view = nth vs 0; height = nth vs 1; name = nth vs 2; mask = nth vs 3; opener = openerOf (nth vs 4) }
 
 abbrev pub tallyValues : Tally → List ℕ
-tallyValues t = t .view ∷ t .height ∷ t .name ∷ t .mask ∷ []
+tallyValues t = t .view ∷ t .height ∷ t .name ∷ t .mask ∷ openerNumber (t .opener) ∷ []
 
 -- record i of each table
 unfoldable pub statementAt : List ℕ → ℕ → Statement
@@ -106,6 +113,13 @@ kindAt b i = number b (placeOf statementTable small i + 40) 1
 
 unfoldable pub voteAt : List ℕ → ℕ → ℕ
 voteAt b i = number b (placeOf statementTable small i + 76) 4
+
+-- the number of who opened tally i
+unfoldable pub openerFor : Size → List ℕ → ℕ → ℕ
+openerFor z b i = number b (placeOf tallyTable z i + 42) 1
+
+abbrev pub openerAt : List ℕ → ℕ → ℕ
+openerAt b i = openerFor (sizeIn b) b i
 
 -- n records from record i on
 unfoldable pub rows : {A : Type 0} → (ℕ → A) → ℕ → ℕ → List A

@@ -21,9 +21,9 @@ statementFormat = (0, 4) ∷ (4, 4) ∷ (8, 32) ∷ (40, 1) ∷ (41, 1) ∷ (42,
 abbrev pub certificateFormat : Format
 certificateFormat = (0, 4) ∷ (4, 4) ∷ (8, 32) ∷ (40, 2) ∷ []
 
--- a tally's record has no more than a certificate has
+-- a certificate's numbers, then who opened the tally
 abbrev pub tallyFormat : Format
-tallyFormat = certificateFormat
+tallyFormat = (0, 4) ∷ (4, 4) ∷ (8, 32) ∷ (40, 2) ∷ (42, 1) ∷ []
 
 abbrev pub maskFormat : Format
 maskFormat = (0, 2) ∷ []

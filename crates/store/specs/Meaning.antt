@@ -2,6 +2,7 @@
 use mathlib.Core.Path.{_≡_}
 use Prim.Native.Nat.{ℕ, _<_}
 use mathlib.Core.List.{List, [], _∷_}
+use mathlib.Core.Option.{none, some}
 use Rattle.fields.specs.Names.{nameOf}
 use Rattle.rules.specs.Limits.{maskBits}
 use Rattle.rules.specs.Sizes.{only}
@@ -9,7 +10,7 @@ use Rattle.rules.specs.Words as words
 use Rattle.fields.specs.Records.{fields}
 use Rattle.settings.specs.Made.{sizeFrom}
 use Rattle.store.specs.Layout.{headerFormat, sizeIn}
-use Rattle.store.specs.Decode.{phaseNumber}
+use Rattle.store.specs.Decode.{phaseNumber, openerOf}
 use Rattle.store.specs.declared.Cause.{Cause}
 use Rattle.store.specs.declared.Cause.the-variants.{Full, Split, Clock}
 use Rattle.store.specs.declared.Phase.{Phase}
@@ -34,12 +35,17 @@ courseOf (Stopped c) = words.stopped (causeOf c)
 -- a record of the table
 unfoldable pub tallyOf : Tally → words.Tally
 unfolding nameOf
-tallyOf t = record { view = t .view; height = t .height; name = nameOf (t .name); mask = t .mask }
+tallyOf t = record { view = t .view; height = t .height; name = nameOf (t .name); mask = t .mask; opener = openerOf (t .opener) }
 
 -- who joins a tally, as a mask; one voter is a station that a mask has a bit for
 abbrev pub votersOf : Voters → ℕ
 votersOf (One i) = only i
 votersOf (Mask m) = m
+
+-- who opens the tally that they join, if it is missing: the author of a vote; a mask says nobody
+abbrev pub authorOf : Voters → words.Opener
+authorOf (One i) = some i
+authorOf (Mask m) = none
 
 abbrev pub Numbered : Voters → Type 0
 Numbered (One i) = i < maskBits

@@ -15,9 +15,9 @@ ghost use Rattle.fields.specs.Records.{fields, puts};
 ghost use Rattle.settings.specs.Made.{sizeFrom, settingsOf};
 ghost use Rattle.wire.specs.Meaning.{statementOf};
 ghost use Rattle.words.specs.Meaning.{blockOf};
-ghost use Rattle.store.specs.Layout.{headerFormat, statementFormat, certificateFormat, headerSize, statementSize, certificateSize, tallySize, statementTable, tallyTable, logTable, blameBase, storeLength, sizeIn, countOf, placeOf};
-ghost use Rattle.store.specs.Decode.{phaseOf, phaseNumber, kindNumber, statementValues, certificateFrom, certificateValues, statementAt, tallyAt, blameAt, nameAt, kindAt, voteAt, rows, statements, tallies, stateOf, headerValues, Form, Left};
-ghost use Rattle.store.specs.Meaning.{courseOf, tallyOf, votersOf, Numbered, headerOf, Loads};
+ghost use Rattle.store.specs.Layout.{headerFormat, statementFormat, certificateFormat, tallyFormat, headerSize, statementSize, certificateSize, tallySize, statementTable, tallyTable, logTable, blameBase, storeLength, sizeIn, countOf, placeOf};
+ghost use Rattle.store.specs.Decode.{phaseOf, phaseNumber, kindNumber, openerOf, statementValues, certificateFrom, certificateValues, statementAt, tallyAt, openerAt, tallyValues, blameAt, nameAt, kindAt, voteAt, rows, statements, tallies, stateOf, headerValues, Form, Left};
+ghost use Rattle.store.specs.Meaning.{courseOf, tallyOf, votersOf, authorOf, Numbered, headerOf, Loads};
 ghost use Rattle.store.specs.Fresh.{answer, freshly};
 ghost use Rattle.store.specs.Changes.{firstFrom, blockAt, withVoters, growing, opening, joining, Joined, certifying, storing, noting, appending};
 use fields::Name;
@@ -64,7 +64,7 @@ const TALLIES: usize = STATEMENTS + STATEMENT_SIZE * Settings::MOST_STATEMENTS;
 
 const TALLIES_LARGE: usize = STATEMENTS + STATEMENT_SIZE * Settings::MOST_STATEMENTS_LARGE;
 
-pub const TALLY_SIZE: usize = VOTERS + 2;
+pub const TALLY_SIZE: usize = OPENER + 1;
 
 const BLAMES: usize = TALLIES + TALLY_SIZE * Settings::MOST_TALLIES;
 
@@ -86,6 +86,8 @@ const HEIGHT: usize = 4;
 const NAME: usize = 8;
 
 const VOTERS: usize = 40;
+
+const OPENER: usize = 42;
 
 const KIND: usize = 40;
 
@@ -111,15 +113,17 @@ pub enum Phase {
     Stopped(Cause),
 }
 
-// A record of the table of tallies: a block of a view, with the mask of its voters.
+// A record of the table of tallies: a block of a view, with the mask of its voters, and who opened it: 0 nobody, else one more than
+// the author of the vote that did.
 pub struct Tally {
     pub view: u32,
     pub height: u32,
     pub name: Name,
     pub mask: u16,
+    pub opener: u8,
 }
 
-// Who joins a tally: one voter, or the mask of several.
+// Who joins a tally: the author of a vote, who opens it if it is missing, or a mask of several, which nobody does it for.
 pub enum Voters {
     One(u64),
     Mask(u16),
@@ -311,13 +315,23 @@ pub fn tally_at(store: &[u8], i: usize) -> Tally
     ensures { λ r. ⌜ tallyOf r ≡ tallyAt (now (store .entry)) i ⌝ }
 {
     let block = get_certificate(store, tally_place(store, i));
+    let opener = opener_at(store, i);
     let name = block.name;
     Tally {
         view: block.view,
         height: block.height,
         name,
         mask: block.mask,
+        opener,
     }
+}
+
+// Who opened tally i: 0 nobody, else one more than the author of the vote that did.
+pub fn opener_at(store: &[u8], i: usize) -> u8
+    requires { ⌜ (length (now store) ≡ storeLength (sizeIn (now store))) × (i < mostTallies (sizeIn (now store))) ⌝ }
+    ensures { λ r. ⌜ r ≡ openerAt (now (store .entry)) i ⌝ }
+{
+    fields::get(store, tally_place(store, i) + OPENER, 1) as u8
 }
 
 // The kind of statement i, as on the wire: 1 new-view, 2 propose.
@@ -400,9 +414,9 @@ fn phase_number(phase: Phase) -> u64
 }
 
 impl Tally {
-    // A block's tally before anybody joins it.
-    pub fn empty(block: Certificate) -> Tally
-        ensures { λ r. ⌜ tallyOf r ≡ opened (withVoters 0 (blockOf block)) ⌝ }
+    // A block's tally before anybody joins it, with who opens it.
+    pub fn empty(block: Certificate, opener: u8) -> Tally
+        ensures { λ r. ⌜ tallyOf r ≡ opened (openerOf opener) (withVoters 0 (blockOf block)) ⌝ }
     {
         let name = block.name;
         Tally {
@@ -410,6 +424,7 @@ impl Tally {
             height: block.height,
             name,
             mask: 0,
+            opener,
         }
     }
 
@@ -451,6 +466,19 @@ impl Tally {
         match voters {
             Voters::One(station) => self.with_voter(station),
             Voters::Mask(mask) => self.grown(mask),
+        }
+    }
+}
+
+impl Voters {
+    // Who opens a tally by joining it: 0 nobody, else one more than the author of a vote.
+    pub fn opener(self) -> u8
+        requires { ⌜ Numbered self ⌝ }
+        ensures { λ r. ⌜ openerOf r ≡ authorOf self ⌝ }
+    {
+        match self {
+            Voters::One(author) => author as u8 + 1,
+            Voters::Mask(_) => 0,
         }
     }
 }
@@ -587,13 +615,22 @@ pub fn note_vote(store: &mut [u8], i: usize, clock: u32)
     );
 }
 
+// Writes a tally's record.
+fn put_tally(store: &mut [u8], at: usize, tally: Tally)
+    requires { ⌜ at + tallySize ≤ length (now store) ⌝ }
+    ensures { λ _. ⌜ now (store .exit) ≡ puts (now (store .entry)) at tallyFormat (tallyValues (tallyOf tally)) ⌝ }
+{
+    put_certificate(store, at, tally.certificate());
+    fields::put(store, at + OPENER, 1, tally.opener as u64);
+}
+
 // A tally is opened behind the others, at the place given back.
 pub fn open_tally(store: &mut [u8], tally: Tally) -> usize
     requires { ⌜ (Form (now store)) × (countOf tallyTable (now store) < mostTallies (sizeIn (now store))) ⌝ }
     ensures { λ r. ⌜ (r ≡ countOf tallyTable (now (store .entry))) × (Left (now (store .exit)) (opening (tallyOf tally) (stateOf (now (store .entry))))) ⌝ }
 {
     let count = get_count(store, TALLY_COUNT);
-    put_certificate(store, tally_place(store, count), tally.certificate());
+    put_tally(store, tally_place(store, count), tally);
     fields::put(store, TALLY_COUNT, 2, (count + 1) as u64);
     count
 }
@@ -617,22 +654,22 @@ fn join_at(store: &mut [u8], i: usize, voters: Voters)
 
 // Whoever joins the tally of a block, opened if missing, as a search found it; gives back where it now stands.
 pub fn join_found(store: &mut [u8], block: Certificate, place: Found, voters: Voters) -> usize
-    requires { ⌜ (Form (now store)) × (length (join (withVoters (votersOf voters) (blockOf block)) (tallies (now store))) ≤ mostTallies (sizeIn (now store))) × (place ≡ blockAt (blockOf block) (tallies (now store))) × (Numbered voters) ⌝ }
-    ensures { λ r. ⌜ Joined (withVoters (votersOf voters) (blockOf block)) (stateOf (now (store .entry))) (now (store .exit)) r ⌝ }
+    requires { ⌜ (Form (now store)) × (length (join (authorOf voters) (withVoters (votersOf voters) (blockOf block)) (tallies (now store))) ≤ mostTallies (sizeIn (now store))) × (place ≡ blockAt (blockOf block) (tallies (now store))) × (Numbered voters) ⌝ }
+    ensures { λ r. ⌜ Joined (authorOf voters) (withVoters (votersOf voters) (blockOf block)) (stateOf (now (store .entry))) (now (store .exit)) r ⌝ }
 {
     match place {
         Found::At(i) => {
             join_at(store, i, voters);
             i
         }
-        Found::Nothing => open_tally(store, Tally::empty(block).joined(voters)),
+        Found::Nothing => open_tally(store, Tally::empty(block, voters.opener()).joined(voters)),
     }
 }
 
 // A certificate's mask joins the tally of its block, with the search.
 fn join_tally(store: &mut [u8], certificate: Certificate)
-    requires { ⌜ (Form (now store)) × (length (join (blockOf certificate) (tallies (now store))) ≤ mostTallies (sizeIn (now store))) ⌝ }
-    ensures { λ _. ⌜ Left (now (store .exit)) (joining (blockOf certificate) (stateOf (now (store .entry)))) ⌝ }
+    requires { ⌜ (Form (now store)) × (length (join none (blockOf certificate) (tallies (now store))) ≤ mostTallies (sizeIn (now store))) ⌝ }
+    ensures { λ _. ⌜ Left (now (store .exit)) (joining none (blockOf certificate) (stateOf (now (store .entry)))) ⌝ }
 {
     let place = find_tally(store, certificate);
     join_found(store, certificate, place, Voters::Mask(certificate.mask));
@@ -640,8 +677,8 @@ fn join_tally(store: &mut [u8], certificate: Certificate)
 
 // The same, but that genesis has no tally in view 0.
 pub fn join_certificate(store: &mut [u8], certificate: Certificate)
-    requires { ⌜ (Form (now store)) × (length (joinCertificate (blockOf certificate) (tallies (now store))) ≤ mostTallies (sizeIn (now store))) ⌝ }
-    ensures { λ _. ⌜ Left (now (store .exit)) (certifying (blockOf certificate) (stateOf (now (store .entry)))) ⌝ }
+    requires { ⌜ (Form (now store)) × (length (joinCertificate none (blockOf certificate) (tallies (now store))) ≤ mostTallies (sizeIn (now store))) ⌝ }
+    ensures { λ _. ⌜ Left (now (store .exit)) (certifying none (blockOf certificate) (stateOf (now (store .entry)))) ⌝ }
 {
     if certificate.view != 0 {
         join_tally(store, certificate);

@@ -51,7 +51,7 @@ voting-opened : (x y : Statement) (s : State) → Opened s y → Opened (voting 
 unfolding voting saying votedFor withTables
 voting-opened x y s h =
     by-bool (belowLock x s) (λ q. rw (q, voting) h)
-    (λ q. rw (q, voting) (join-any (ownBlock x (only (s .settings .own))) (ownBlock y 0) (s .tallies) h))
+    (λ q. rw (q, voting) (join-any none (ownBlock x (only (s .settings .own))) (ownBlock y 0) (s .tallies) h))
 
 still-opened : (x : Statement) (xs : List Statement) (s : State) → Each (Opened s) xs → Each (Opened (voting x s .now)) xs
 still-opened x [] s h = tt

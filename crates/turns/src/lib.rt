@@ -5,8 +5,7 @@ ghost use mathlib.Core.Option.{none};
 ghost use Prim.Native.Nat.{_+_, _*_, _^_, _≤_, _<_};
 ghost use lib.Dec.{eqb};
 ghost use lib.ListN.{length};
-ghost use Rattle.rules.specs.Limits.{mostStatements, maskBits, mostStatementsLarge};
-ghost use Rattle.rules.specs.Sizes as sizes;
+ghost use Rattle.rules.specs.Limits.{mostStatements, mostStatementsLarge};
 ghost use Rattle.rules.specs.Words.{message as said};
 ghost use Rattle.rules.specs.Inputs as inputs;
 ghost use Rattle.rules.specs.Refusals.{hasRoom};
@@ -25,14 +24,6 @@ use store::Station;
 use wire::Message;
 use wire::Statement;
 
-// Whether a mask has a station's bit.
-fn holds(mask: u64, station: u64) -> bool
-    requires { ⌜ station < maskBits ⌝ }
-    ensures { λ r. ⌜ r ≡ sizes.holds mask station ⌝ }
-{
-    (mask >> station) % 2 == 1
-}
-
 // Whether the station's own blame is due.
 pub fn overdue(store: &[u8]) -> bool
     requires { ⌜ Formed (now store) ⌝ }
@@ -44,7 +35,7 @@ pub fn overdue(store: &[u8]) -> bool
         return false;
     }
     let blames = store::blame_at(store, station.view as usize - 1);
-    if holds(blames as u64, settings.own) {
+    if settings::holds(blames as u64, settings.own) {
         return false;
     }
     let votes = commit::votes(store, station);

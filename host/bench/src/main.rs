@@ -11,13 +11,14 @@ const D: u32 = 2;
 /// What the tables are of.
 fn method() -> String {
     let (statements, tallies) = (SIZE.statements(), SIZE.tallies());
+    let others = tallies / statements - 1;
     let (views, blocks) = (script::VIEWS, script::blocks(SIZE));
     let logged = views * blocks;
     format!(
         "\
 The proved station and the second program (plain Rust, host/second) take the same script in one run, each input through
 the call that a host makes: four views, {blocks} blocks in each, every statement handed on and voted for by every other
-station, a vote for a made-up name with each, until all {statements} statements and {tallies} tallies are in use and {logged} blocks are
+station, {others} statuses of made-up names with each, until all {statements} statements and {tallies} tallies are in use and {logged} blocks are
 logged. Both are compiled at the highest level, without optimisation across the two. The times are the least of five
 runs for each 24 inputs, since others who use the machine can only make them longer; a round is five runs of each
 program in turn. Given are the middle of the rounds and, with ratios, the quarters around it.

@@ -127,7 +127,8 @@ impl Writer {
         self.ticks(2 * self.d);
     }
 
-    /// Every other station hands the statement on and votes for it; one votes for something else.
+    /// Every other station hands the statement on and votes for it; then come statuses of made-up names, so
+    /// many that statements and tallies are all in use together.
     fn spread(&mut self, statement: Message, top: Top) {
         self.top = top;
         let Top { view, height, name } = top;
@@ -137,8 +138,10 @@ impl Writer {
             }
             self.step(Kind::Vote, Message::Vote { view, height, name, author });
         }
-        let (author, name) = (self.others()[0], self.name());
-        self.step(Kind::Vote, Message::Vote { view, height: 1, name, author });
+        for _ in 1..self.size.tallies() / self.size.statements() {
+            let (name, mask) = (self.name(), self.everyone());
+            self.step(Kind::Other, Message::Status { height: 1, name, certificate_view: view, mask });
+        }
     }
 
     /// What the others send to the leader of the view, if that is this station.

@@ -138,7 +138,7 @@ pub fn limits(size: Size) -> Runs {
     let offer = || vec![Input::Offer(name(0).to_vec())];
     // Station 1 leads view 1: its new-view is made at clock 5.
     let led = || [ticks(5), step(vote(1, 0, GENESIS, 0))].concat();
-    let open = |more| [votes(1..tallies + more), step(vote(1, 1, name(1), 1))].concat();
+    let open = |more| [statuses(1..tallies + more), step(vote(1, 1, name(1), 1))].concat();
     vec![
         ("a full log in one tick", of(2, [chain(room), ticks(6)])),
         ("the longest entry", of(0, [downwards(room), step(blame_set(0b110)), ticks(12)])),
@@ -147,9 +147,10 @@ pub fn limits(size: Size) -> Runs {
         ("a leader without a tally", of(1, [open(1), ticks(6)])),
         ("an offer without a statement", of(1, [led(), ahead(room - 1), offer(), ticks(1)])),
         ("an offer without a tally", of(1, [led(), open(0), offer(), ticks(1)])),
-        ("an offer whose tally is there", of(1, [led(), votes(0..tallies - 1), offer(), ticks(6)])),
+        ("an offer whose tally is there", of(1, [led(), statuses(0..tallies - 1), offer(), ticks(6)])),
         ("every view", of(0, [views(size), ticks(30), past(size)])),
         ("too early", of(2, [too_early()])),
+        ("rude neighbours", of(2, [rude(), statuses(100..tallies + 100), rude(), ticks(1)])),
     ]
 }
 
@@ -237,9 +238,24 @@ fn vote(view: u32, height: u32, name: Name, author: u8) -> Message {
     Message::Vote { view, height, name, author }
 }
 
-/// Votes for these names at height 1, each of which opens a tally.
-fn votes(names: std::ops::Range<u32>) -> Vec<Input> {
-    names.flat_map(|number| step(vote(1, 1, name(number), 0))).collect()
+/// Statuses of these names at height 1, each of which opens a tally that is nobody's.
+fn statuses(names: std::ops::Range<u32>) -> Vec<Input> {
+    let status = |name| Message::Status { height: 1, name, certificate_view: 1, mask: 0b011 };
+    names.flat_map(|number| step(status(name(number)))).collect()
+}
+
+/// Every author votes for seventeen names and once more for the first, and in the next view for one that
+/// a statement opens; then what is refused before a vote is one too many.
+fn rude() -> Vec<Input> {
+    let votes = |author: u8| {
+        let first = 20 * u32::from(author);
+        let names = (first..first + 17).chain([first]);
+        names.flat_map(move |number| step(vote(1, 1, name(number), author))).collect::<Vec<_>>()
+    };
+    let later = [vote(3, 1, name(19), 0), vote(1, 1, name(19), 3), vote(1, 1, name(19), 0)];
+    let opened = [of_view(2, link(1)), vote(2, 1, name(1), 0)];
+    let rest = later.into_iter().chain(opened);
+    (0..3).flat_map(votes).chain(rest.flat_map(step)).collect()
 }
 
 /// From view to view by blame sets, with D = 2, and one too many.

@@ -23,9 +23,10 @@ pub fn store_of(size: Size, station: &Station) -> Vec<u8> {
     header(station, &mut store);
     statements(station, &mut store);
     store.resize(size.tallies_at(), 0);
-    for tally in station.tallies() {
+    for (tally, opener) in station.tallies().iter().zip(station.openers()) {
         block(&tally.block, &mut store);
         store.extend(tally.mask.to_be_bytes());
+        store.push(opener.map_or(0, |author| author + 1));
     }
     store.resize(size.blames_at(), 0);
     for view in 1..=size.views() {

@@ -2,8 +2,8 @@
 
 use station::{Cause, Effect, Effects, GENESIS, Message, Name, Phase};
 
-/// The reasons of 01's "When the desk says no", and of 02's number.
-const REASONS: [&str; 11] = [
+/// The reasons of 01's "When the desk says no", and of 02's numbers.
+const REASONS: [&str; 12] = [
     "store not of its exact length, offered name not 32 bytes, or out buffer too short",
     "store not well formed",
     "already stopped",
@@ -15,6 +15,7 @@ const REASONS: [&str; 11] = [
     "offer not to be taken",
     "bad settings for a fresh store",
     "more than one view ahead of the view held or last quit",
+    "the vote's author has opened as many tallies as one may",
 ];
 
 /// What a refusal of a station says.

@@ -15,6 +15,7 @@ pub enum Refusal {
     NotTaken = 9,
     Settings = 10,
     Ahead = 11,
+    UsedUp = 12,
 }
 
 /// What stopped a station for good.

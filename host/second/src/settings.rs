@@ -15,9 +15,9 @@ pub struct Limits {
 }
 
 impl Limits {
-    /// 01: "views 1 to 32", "stored statements 128", "stored tallies 256", "out buffer at least
-    /// 32,768 bytes".
-    pub const SMALL: Limits = Limits { views: 32, statements: 128, tallies: 256, out: 32_768 };
+    /// 01: "views 1 to 32", "stored statements 128", "out buffer at least 32,768 bytes"; 02, request 5:
+    /// "raise tallies to 512".
+    pub const SMALL: Limits = Limits { views: 32, statements: 128, tallies: 512, out: 32_768 };
     /// 02, request 14: "raise views to 256 and statements to 512; tallies go to 1,024 and the out
     /// buffer to at least 131,072 bytes".
     pub const LARGE: Limits = Limits { views: 256, statements: 512, tallies: 1_024, out: 131_072 };
@@ -41,6 +41,8 @@ impl Settings {
     pub const HEIGHTS: u32 = 65_535;
     /// "clock 0 to 4,000,000,000".
     pub const CLOCK: u32 = 4_000_000_000;
+    /// 02, request 5: "let each author open at most 16 by vote messages".
+    pub const OPENED: usize = 16;
 
     /// The settings, or refusal 10.
     pub fn new(limits: Limits, n: u64, d: u64, own: u64) -> Result<Settings, Refusal> {

@@ -44,6 +44,8 @@ pub struct Station {
     /// The proposes of this view voted for, by height, then by place: the order of commits.
     pub(crate) voted: Vec<Voted>,
     pub(crate) tallies: Vec<Tally>,
+    /// Who opened each tally: nobody, or the author of a vote.
+    openers: Vec<Option<u8>>,
     /// The blame mask of each view, and one for view 0 that nobody joins.
     pub(crate) blames: Vec<u16>,
     /// The block of height h is entry h-1.
@@ -66,6 +68,7 @@ impl Station {
             statements: Vec::with_capacity(limits.statements),
             voted: Vec::with_capacity(limits.statements),
             tallies: Vec::with_capacity(limits.tallies),
+            openers: Vec::with_capacity(limits.tallies),
             blames: vec![0; limits.views as usize + 1],
             log: Vec::with_capacity(limits.statements),
         })
@@ -121,6 +124,11 @@ impl Station {
         &self.tallies
     }
 
+    /// Who opened each tally: nobody, or the author of a vote.
+    pub fn openers(&self) -> &[Option<u8>] {
+        &self.openers
+    }
+
     /// The blame mask of a view; none outside the limits.
     pub fn blames(&self, view: u32) -> u16 {
         self.blames.get(view as usize).copied().unwrap_or(0)
@@ -142,7 +150,8 @@ impl Station {
 
 /// Messages and offers.
 impl Station {
-    /// "Order: 1, 2, 3, then 4, 5, 6 for messages"; 11 "comes right after 5, before 12 and 6".
+    /// "Order: 1, 2, 3, then 4, 5, 6 for messages"; 11 "comes right after 5, before 12 and 6"; 12 "is
+    /// tested after 5 and before 6".
     fn receive(&mut self, message: &[u8], out: &mut Vec<u8>) -> Outcome {
         self.running()?;
         let Some(message) = Message::read(message) else {
@@ -157,8 +166,13 @@ impl Station {
         }
         match message {
             Message::Statement { statement, .. } => self.state(statement, out),
-            Message::Vote { block, author } => self.join(Tally { block, mask: bit(author) }),
-            Message::Status { certificate } => self.join(certificate),
+            Message::Vote { block, author } => {
+                if self.tally(&block).is_none() && self.opened(author) >= Settings::OPENED {
+                    return Err(Refusal::UsedUp);
+                }
+                self.join(Tally { block, mask: bit(author) }, Some(author))
+            }
+            Message::Status { certificate } => self.join(certificate, None),
             Message::Blame { view, author } => {
                 self.join_blame(view, bit(author), out);
                 Ok(())
@@ -225,7 +239,7 @@ impl Station {
     /// stored"; "if it is new, of the current view, and the station is in that view" it is acted on.
     pub(crate) fn state(&mut self, new: Statement, out: &mut Vec<u8>) -> Outcome {
         if self.statements.iter().any(|old| old.is_same(&new)) {
-            return self.join(new.certificate());
+            return self.join(new.certificate(), None);
         }
         self.store(new)?;
         if self.phase != Phase::InView || new.block.view != self.view {
@@ -259,17 +273,17 @@ impl Station {
         if let Some(place) = certified {
             self.grow(place, certificate.mask);
         } else if opens_certified {
-            self.tallies.push(certificate);
+            self.open(certificate, None);
         }
         if own.is_none() {
-            self.tallies.push(Tally { block: new.block, mask: 0 });
+            self.open(Tally { block: new.block, mask: 0 }, None);
         }
         Ok(())
     }
 
     /// "Vote, status join their tally, opened if missing (a status for genesis in view 0 changes
-    /// nothing)."
-    fn join(&mut self, joining: Tally) -> Outcome {
+    /// nothing)." Of a vote the author opens it, of anything else nobody does.
+    fn join(&mut self, joining: Tally, opener: Option<u8>) -> Outcome {
         if joining.block == Block::GENESIS {
             return Ok(());
         }
@@ -278,7 +292,7 @@ impl Station {
         } else if self.tallies.len() == self.settings.limits().tallies {
             return Err(self.stop(Cause::Full));
         } else {
-            self.tallies.push(joining);
+            self.open(joining, opener);
         }
         Ok(())
     }
@@ -357,6 +371,17 @@ impl Station {
     /// The place of a block's tally: "the first record that matches decides the search".
     fn tally(&self, block: &Block) -> Option<usize> {
         self.tallies.iter().position(|tally| tally.block == *block)
+    }
+
+    /// A tally is put behind the others, with who opened it.
+    fn open(&mut self, tally: Tally, opener: Option<u8>) {
+        self.tallies.push(tally);
+        self.openers.push(opener);
+    }
+
+    /// How many tallies an author has opened by vote messages.
+    fn opened(&self, author: u8) -> usize {
+        self.openers.iter().filter(|opener| **opener == Some(author)).count()
     }
 
     fn grow(&mut self, place: usize, mask: u16) {

@@ -23,17 +23,20 @@ pub enum Fault {
     /// It splits the group, and shows all of them a child of either block as soon as that has the
     /// votes: for half of them a child with the wrong parent, before they know the other block.
     Planting,
+    /// It votes for invented names, three with every tick, without end.
+    Rude,
     /// It sends anything that the premises allow, whenever it likes.
     Wild,
 }
 
 impl Fault {
-    pub const ALL: [Fault; 6] = [
+    pub const ALL: [Fault; 7] = [
         Fault::Silent,
         Fault::Equivocating,
         Fault::Late,
         Fault::Splitting,
         Fault::Planting,
+        Fault::Rude,
         Fault::Wild,
     ];
 
@@ -45,6 +48,7 @@ impl Fault {
             Fault::Late => "late",
             Fault::Splitting => "splitting",
             Fault::Planting => "planting",
+            Fault::Rude => "rude",
             Fault::Wild => "wild",
         }
     }
@@ -57,6 +61,7 @@ impl Fault {
             Fault::Late => "a second block, late",
             Fault::Splitting => "splits the group",
             Fault::Planting => "a wrong parent's child",
+            Fault::Rude => "votes for anything",
             Fault::Wild => "says anything",
         }
     }
@@ -144,6 +149,12 @@ impl Faulty<'_> {
     pub fn child(&self, (view, height, parent): Block, mask: u16) -> Vec<Letter> {
         let (height, name, author) = (height + 1, self.spare, self.own);
         self.to(self.others(), Message::Propose { view, height, name, parent, mask, author }, 0)
+    }
+
+    /// A vote for a name that nobody has used, to all and at once.
+    pub fn invented(&self, view: u32) -> Vec<Letter> {
+        let (height, name, author) = (1, self.spare, self.own);
+        self.to(self.others(), Message::Vote { view, height, name, author }, 0)
     }
 
     /// Its votes go with its blocks.

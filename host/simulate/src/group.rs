@@ -160,6 +160,7 @@ impl<P: Program> Group<P> {
         }
         self.deliver()?;
         self.plant()?;
+        self.post_rude()?;
         self.post_wild()?;
         self.deliver()
     }
@@ -278,6 +279,19 @@ impl<P: Program> Group<P> {
         Ok(())
     }
 
+    /// Rude stations vote for names of their own.
+    fn post_rude(&mut self) -> Result<(), Breach> {
+        for own in self.plan.with(Fault::Rude).repeat(3) {
+            let (fault, clock, spare) = (Fault::Rude, self.clock, self.spare_name());
+            let view = self.stations[usize::from(own)].view();
+            let faulty = Faulty { fault, own, clock, plan: &self.plan, proposes: false, spare };
+            let letters = faulty.invented(view);
+            self.trace.sent(&letters);
+            self.send(letters)?;
+        }
+        Ok(())
+    }
+
     /// Wild stations send something, some times.
     fn post_wild(&mut self) -> Result<(), Breach> {
         let view = self.stations.iter().map(Program::view).max().unwrap_or(1);
@@ -302,8 +316,9 @@ impl<P: Program> Group<P> {
     }
 }
 
-/// Whether a sound station may answer so: an offer may come at the wrong time, and a faulty station's
-/// message is too far ahead exactly when it is more than one view ahead of the receiver's.
+/// Whether a sound station may answer so: an offer may come at the wrong time, a faulty station's message is
+/// too far ahead exactly when it is more than one view ahead of the receiver's, and its votes may open no more
+/// tallies.
 pub fn is_expected(plan: &Plan, deed: &Deed) -> bool {
     let refused = |refusal: Refusal| deed.number == refusal.number();
     match deed.call {
@@ -313,10 +328,16 @@ pub fn is_expected(plan: &Plan, deed: &Deed) -> bool {
             let is_ahead = letter.message.view().is_some_and(|view| view > deed.before.0 + 1);
             match is_ahead {
                 true => !plan.is_sound(letter.from) && refused(Refusal::Ahead),
-                false => refused_nothing(deed),
+                false => refused_nothing(deed) || is_used_up(deed) && !plan.is_sound(letter.from),
             }
         }
     }
+}
+
+/// Whether a vote was refused since its author has opened as many tallies as one may.
+pub fn is_used_up(deed: &Deed) -> bool {
+    let is_vote = matches!(deed.call, Call::Given(Letter { message: Message::Vote { .. }, .. }));
+    is_vote && deed.number == Refusal::UsedUp.number()
 }
 
 fn refused_nothing(deed: &Deed) -> bool {

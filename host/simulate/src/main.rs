@@ -3,7 +3,7 @@
 //!     simulate [--large] [--n N] [--d D] [--leaders KIND,KIND..] [--ticks T] [--seed SEED] [--program NAME] [--svg FILE]
 //!     simulate [--large] --many RUNS [--seed SEED] [--program NAME]
 //!
-//! The kinds are those of stations 1, 2, ..: sound, silent, equivocating, late, splitting, planting,
+//! The kinds are those of stations 1, 2, ..: sound, silent, equivocating, late, splitting, planting, rude,
 //! wild. The program is `proved` or `second`. With `--large` every station has the large limits. The exit is 0
 //! exactly when demand 3 held.
 
@@ -117,7 +117,8 @@ fn one<P: Program>(asked: &Asked) -> Result<(), String> {
 fn many<P: Program>(size: Size, runs: u64, seed: u64) -> Result<(), String> {
     println!("seed {seed}");
     let mut random = Random::new(seed);
-    let (mut commits, mut quits, mut ahead, mut calls, mut full) = (0, 0, 0, 0, 0);
+    let (mut commits, mut quits, mut ahead, mut used_up) = (0, 0, 0, 0);
+    let (mut calls, mut full, mut overtaken) = (0, 0, 0);
     for run in 1..=runs {
         let (plan, ticks) = random_plan(size, &mut random);
         let shown = format!("{plan:?}");
@@ -125,15 +126,17 @@ fn many<P: Program>(size: Size, runs: u64, seed: u64) -> Result<(), String> {
         match group.run_to(ticks) {
             Ok(()) => {}
             Err(Breach::Full) => full += 1,
+            Err(Breach::UsedUp) => overtaken += 1,
             Err(breach) => return Err(format!("run {run} of seed {seed}, {shown}: {breach}")),
         }
         commits += group.watch.commits;
         quits += group.watch.quits;
         ahead += group.watch.ahead;
+        used_up += group.watch.used_up;
         calls += group.watch.calls;
     }
     println!(
-        "{} program, {runs} groups of size {size:?} ({full} until a store was full): {calls} calls, {quits} quits, {commits} commits and {ahead} refusals of messages too far ahead by sound stations, demand 3 held",
+        "{} program, {runs} groups of size {size:?} ({full} until a store was full, {overtaken} until a sound vote got 12): {calls} calls, {quits} quits, {commits} commits, {ahead} refusals of messages too far ahead and {used_up} of votes with 12 by sound stations, demand 3 held",
         P::TITLE
     );
     Ok(())

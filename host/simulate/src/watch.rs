@@ -2,7 +2,7 @@
 //! that votes for a propose at clock t and is in that view when the tick to t+2D+1 begins has the
 //! block in its log after it. And the premises, which hold the faulty stations.
 
-use crate::group::{Deed, Letter, Plan, is_expected};
+use crate::group::{Deed, Letter, Plan, is_expected, is_used_up};
 use programs::Program;
 use station::{Effect, Message, Name, Phase, Refusal};
 use std::collections::{HashMap, HashSet};
@@ -17,6 +17,8 @@ pub enum Breach {
     Premise(String),
     /// A sound station has no record free: it would count among the f from here on.
     Full,
+    /// A sound station answers 12 to a sound station's vote: it would count among the f from here on.
+    UsedUp,
 }
 
 impl fmt::Display for Breach {
@@ -25,6 +27,7 @@ impl fmt::Display for Breach {
             Breach::Demand(how) => write!(f, "demand 3 is broken: {how}"),
             Breach::Premise(how) => write!(f, "the schedule is none of 01's: {how}"),
             Breach::Full => f.write_str("a station has no record free"),
+            Breach::UsedUp => f.write_str("a sound station's vote was refused with 12"),
         }
     }
 }
@@ -61,6 +64,8 @@ pub struct Watch {
     pub quits: u64,
     /// Messages of faulty stations that were refused as too far ahead.
     pub ahead: u64,
+    /// Votes of faulty stations that were refused with 12.
+    pub used_up: u64,
     pub calls: u64,
 }
 
@@ -77,6 +82,7 @@ impl Watch {
             commits: 0,
             quits: 0,
             ahead: 0,
+            used_up: 0,
             calls: 0,
         }
     }
@@ -116,6 +122,7 @@ impl Watch {
         self.quits += u64::from(deed.before.1 == Phase::InView && deed.after.1 != Phase::InView);
         self.answered(deed)?;
         self.ahead += u64::from(deed.number == Refusal::Ahead.number());
+        self.used_up += u64::from(deed.number == Refusal::UsedUp.number());
         self.note_said(deed);
         let commits = deed.effects.iter().filter(|e| matches!(e, Effect::Committed { .. })).count();
         if commits > 0 {
@@ -126,10 +133,11 @@ impl Watch {
     }
 
     /// A sound station refuses nothing that a sound one sent; of the faulty ones' messages, those that
-    /// are too far ahead.
+    /// are too far ahead, and votes of one who has opened as many tallies as one may.
     fn answered(&self, deed: &Deed) -> Result<(), Breach> {
         match deed.number {
             number if number == Refusal::Full.number() => Err(Breach::Full),
+            _ if is_used_up(deed) && !is_expected(&self.plan, deed) => Err(Breach::UsedUp),
             _ if is_expected(&self.plan, deed) => Ok(()),
             number => Err(Breach::Demand(format!(
                 "station {} answers {number} at {} to {:?}",

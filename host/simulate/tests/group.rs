@@ -38,6 +38,19 @@ fn only_faulty_messages_are_too_far_ahead() {
     assert!(runs.sum::<u64>() > 0);
 }
 
+/// Two rude neighbours of five vote for invented names without end, far more than a store has tallies: from the
+/// seventeenth on each is refused with 12, and the group goes on.
+#[test]
+fn rude_neighbours_stop_nobody() {
+    let plan = plan(5, 2, &[Fault::Rude, Fault::Rude], Delays::Longest, 1);
+    let (size, ticks) = (plan.size, 200);
+    let mut group = Group::<Proved>::new(plan);
+    assert_eq!(group.run_to(ticks), Ok(()));
+    assert!(3 * 2 * ticks as usize > size.tallies());
+    assert!(group.watch.used_up > 3 * (3 * 2 * u64::from(ticks) - 3 * 2 * 16 - 60));
+    assert!(group.watch.log().len() >= 20);
+}
+
 /// The late leader's block is committed by one station alone in view 1, and by all after that.
 #[test]
 fn a_block_that_one_station_committed_stays() {

@@ -38,13 +38,15 @@ pub enum Refusal {
     Settings = 10,
     /// Message more than one view ahead of the view held or last quit.
     Ahead = 11,
+    /// A vote that would open a tally, by an author who has opened as many as one may.
+    UsedUp = 12,
     /// No blank slot left in the journal, or a slot that replay can't read past.
     Journal = 13,
 }
 
 impl Refusal {
     /// Every refusal, in the order of the numbers.
-    pub const ALL: [Refusal; 12] = [
+    pub const ALL: [Refusal; 13] = [
         Refusal::Length,
         Refusal::Store,
         Refusal::Stopped,
@@ -56,6 +58,7 @@ impl Refusal {
         Refusal::NotTaken,
         Refusal::Settings,
         Refusal::Ahead,
+        Refusal::UsedUp,
         Refusal::Journal,
     ];
 
@@ -88,6 +91,7 @@ impl Refusal {
             Refusal::NotTaken => "the offer is not to be taken now",
             Refusal::Settings => "the settings are bad",
             Refusal::Ahead => "the message is more than one view ahead",
+            Refusal::UsedUp => "the vote's author has opened as many tallies as one may",
             Refusal::Journal => "the journal has no blank slot, or one that can't be read",
         }
     }
@@ -113,6 +117,9 @@ impl Refusal {
             Refusal::Settings => "take an odd n of 3 to 15, D of 1 to 10,000, and own below n",
             Refusal::Ahead => {
                 "keep it and hand it over again after the next view begins, or drop it; no sound station's message comes so early"
+            }
+            Refusal::UsedUp => {
+                "drop it; its author is faulty, or its votes overtook their statements: keep each sender's order"
             }
             Refusal::Journal => {
                 "make a full one longer; with a damaged one the station counts among the f faulty"

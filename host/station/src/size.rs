@@ -23,16 +23,19 @@ pub enum Size {
 /// Bytes of a store's header, and of one record of each of its tables: docs/STORE.md.
 pub const HEADER: usize = 68;
 pub const STATEMENT: usize = 80;
-pub const TALLY: usize = 42;
+pub const TALLY: usize = 43;
 pub const BLAME: usize = 2;
 pub const NAME: usize = 32;
+
+/// How many tallies an author opens at most by vote messages.
+pub const OPENED: u16 = 16;
 
 impl Size {
     pub const ALL: [Size; 2] = [Size::Small, Size::Large];
 
     const fn row(self) -> (u32, usize, usize, usize) {
         match self {
-            Size::Small => (32, 128, 256, 32_768),
+            Size::Small => (32, 128, 512, 32_768),
             Size::Large => (256, 512, 1_024, 131_072),
         }
     }

@@ -37,6 +37,11 @@ fn vote(height: u32, name: Name) -> Vec<u8> {
     Message::Vote { view: 1, height, name, author: 0 }.encode()
 }
 
+/// A status opens a tally that is nobody's.
+fn status(name: Name) -> Vec<u8> {
+    Message::Status { height: 1, name, certificate_view: 1, mask: 0b011 }.encode()
+}
+
 fn propose() -> Vec<u8> {
     let (view, height, parent, mask, author) = (2, 1, GENESIS, 0b011, 2);
     Message::Propose { view, height, name: [9; 32], parent, mask, author }.encode()
@@ -202,13 +207,13 @@ fn refused_inputs_leave_no_record() {
     let name = |number: u32| std::array::from_fn(|place| number.to_be_bytes()[place % 4] ^ 0x33);
     let room = Size::Small.tallies() as u32;
     for number in 0..room {
-        let place = ffi::journal_write(&mut bytes, 3, &vote(1, name(number)));
+        let place = ffi::journal_write(&mut bytes, 3, &status(name(number)));
         assert_eq!(place, u64::from(number));
     }
     lay(&path, &bytes).unwrap();
     let (mut kept, report) = Kept::resume(&path, Size::Small, 3, 2, 2).unwrap();
     assert_eq!(report.records, room);
-    let refused = kept.step(&vote(1, name(room))).err();
+    let refused = kept.step(&status(name(room))).err();
     assert_eq!(refused.and_then(|failure| failure.number()), Some(6));
     assert_eq!(kept.journal().records(), room + 1);
     drop(kept);

@@ -6,7 +6,7 @@ use Rattle.store.specs.Decode.{tallies, stateOf}
 use mathlib.Core.Path.{_∙_}
 use borrow.Author.Needs.{needs}
 use Rattle.store.specs.Changes.{withVoters}
-use Rattle.store.specs.Meaning.{votersOf}
+use Rattle.store.specs.Meaning.{votersOf, authorOf}
 use Rattle.acts.proofs.join_certified.Statement.{statement}
 use Rattle.acts.proofs.join_certified.Tie as tie
 
@@ -18,7 +18,7 @@ join-found-requires c κs =
     let t = blockOf (a .block) in
     let ts = tallies (a .store .now) in
     let d = c .before .if1 .taken in
-    (start .pre .0, rw (← certificate-joins (withVoters (votersOf (a .voters)) t) ts d) (start .pre .1), start .pre .2 ∙ certified-block t ts d, start .pre .3)
+    (start .pre .0, rw (← certificate-joins (authorOf (a .voters)) (withVoters (votersOf (a .voters)) t) ts d) (start .pre .1), start .pre .2 ∙ certified-block t ts d, start .pre .3)
 
 same-length : tie.Need-same-length
 same-length c = search needs
@@ -27,13 +27,13 @@ returns : tie.Need-returns
 unfolding blockOf
 returns c =
     let start = c .before .before .before .before .before .before .before in
-    rw (certified-some (withVoters (votersOf (start .args .voters)) (blockOf (start .args .block))) (stateOf (start .args .store .now)) (c .before .before .before .before .if1 .taken)) (c .before .before .join-found .ensures .left)
+    rw (certified-some (authorOf (start .args .voters)) (withVoters (votersOf (start .args .voters)) (blockOf (start .args .block))) (stateOf (start .args .store .now)) (c .before .before .before .before .if1 .taken)) (c .before .before .join-found .ensures .left)
 
 returns-2 : tie.Need-returns-2
 unfolding blockOf
 returns-2 c =
     let start = c .before .before .before in
-    record { form = start .pre .0; is = certified-none (withVoters (votersOf (start .args .voters)) (blockOf (start .args .block))) (stateOf (start .args .store .now)) (c .if1 .left) }
+    record { form = start .pre .0; is = certified-none (authorOf (start .args .voters)) (withVoters (votersOf (start .args .voters)) (blockOf (start .args .block))) (stateOf (start .args .store .now)) (c .if1 .left) }
 
 pub join-certified-spec : {M : Type 1} → statement M
 join-certified-spec = tie.close (tie.spec join-found-requires same-length returns returns-2)

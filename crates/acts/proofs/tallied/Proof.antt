@@ -8,16 +8,13 @@ use native.Mathlib.Omega.{arith}
 use Prim.Native.Nat.{_+_}
 use mathlib.Core.Path.{ap₂}
 use borrow.Author.Needs.{needs}
-use Rattle.store.specs.Meaning.{votersOf}
+use Rattle.store.specs.Meaning.{votersOf, authorOf}
 use Rattle.acts.proofs.tallied.Statement.{statement}
 use Rattle.acts.proofs.tallied.Tie as tie
 
-find-certificate-requires : tie.Need-find-certificate-requires
-find-certificate-requires c κs = search needs
-
 load-requires : tie.Need-load-requires
 load-requires c κs =
-    omega (arith, form-long _ (c .before .before .before .before .pre .0))
+    omega (arith, form-long _ (c .before .before .pre .0))
 
 most-tallies-in-requires : tie.Need-most-tallies-in-requires
 most-tallies-in-requires c κs = search needs
@@ -27,42 +24,38 @@ needed-requires c κs = search needs
 
 add-if1 : tie.Need-add-if1
 add-if1 c =
-    let start = c .before .before .before .before .before .before .before .before .before in
+    let start = c .before .before .before .before .before .before .before in
     let load = c .before .before .before .before .load in
-    omega (arith, loaded-tallies (load .result) (start .args .store .now) (load .ensures), form-tallies _ (start .pre .0), c .before .needed .ensures, needed-few (blockOf (start .args .block)) (c .before .before .before .before .before .before .find-certificate .result))
+    omega (arith, loaded-tallies (load .result) (start .args .store .now) (load .ensures), form-tallies _ (start .pre .0), c .before .needed .ensures, needed-few (blockOf (start .args .block)) (start .args .place))
 
 same-length : tie.Need-same-length
 same-length c = search needs
 
 returns : tie.Need-returns
 returns c =
-    let start = c .before .before .before .before .before .before .before .before .before .before in
-    let found = c .before .before .before .before .before .before .before .find-certificate in
+    let start = c .before .before .before .before .before .before .before .before in
     let load = c .before .before .before .before .before .load in
-    tallied-full (start .pre .0) (blockOf (start .args .block)) (votersOf (start .args .voters)) (found .result) (found .ensures) _ (ap₂ _+_ (loaded-tallies (load .result) (start .args .store .now) (load .ensures)) (c .before .before .needed .ensures)) (omega (arith, c .if1 .taken, c .before .before .before .most-tallies-in .ensures))
+    tallied-full (start .pre .0) (authorOf (start .args .voters)) (blockOf (start .args .block)) (votersOf (start .args .voters)) (start .args .place) (start .pre .1) _ (ap₂ _+_ (loaded-tallies (load .result) (start .args .store .now) (load .ensures)) (c .before .before .needed .ensures)) (omega (arith, c .if1 .taken, c .before .before .before .most-tallies-in .ensures))
 
 join-certified-requires : tie.Need-join-certified-requires
 join-certified-requires c κs =
-    let start = c .before .before .before .before .before .before .before .before .before .before .before in
-    let found = c .before .before .before .before .before .before .before .before .find-certificate in
+    let start = c .before .before .before .before .before .before .before .before .before in
     let load = c .before .before .before .before .before .before .load in
-    (start .pre .0, tallied-fits (start .pre .0) (blockOf (start .args .block)) (votersOf (start .args .voters)) (found .result) (found .ensures) _ (ap₂ _+_ (loaded-tallies (load .result) (start .args .store .now) (load .ensures)) (c .before .before .before .needed .ensures)) (omega (arith, c .before .if1 .left, c .before .before .before .before .most-tallies-in .ensures)), found .ensures, start .pre .1)
+    (start .pre .0, tallied-fits (start .pre .0) (authorOf (start .args .voters)) (blockOf (start .args .block)) (votersOf (start .args .voters)) (start .args .place) (start .pre .1) _ (ap₂ _+_ (loaded-tallies (load .result) (start .args .store .now) (load .ensures)) (c .before .before .before .needed .ensures)) (omega (arith, c .before .if1 .left, c .before .before .before .before .most-tallies-in .ensures)), start .pre .1, start .pre .2)
 
 same-length-2 : tie.Need-same-length-2
 same-length-2 c = search needs
 
 returns-2 : tie.Need-returns-2
 returns-2 c =
-    let start = c .before .before .before .before .before .before .before .before .before .before .before .before .before .before in
-    let found = c .before .before .before .before .before .before .before .before .before .before .before .find-certificate in
+    let start = c .before .before .before .before .before .before .before .before .before .before .before .before in
     let load = c .before .before .before .before .before .before .before .before .before .load in
-    tallied-done (start .pre .0) (blockOf (start .args .block)) (votersOf (start .args .voters)) (found .result) (found .ensures) _ (ap₂ _+_ (loaded-tallies (load .result) (start .args .store .now) (load .ensures)) (c .before .before .before .before .before .before .needed .ensures)) (omega (arith, c .before .before .before .before .if1 .left, c .before .before .before .before .before .before .before .most-tallies-in .ensures)) (c .before .before .join-certified .ensures)
+    tallied-done (start .pre .0) (authorOf (start .args .voters)) (blockOf (start .args .block)) (votersOf (start .args .voters)) (start .args .place) (start .pre .1) _ (ap₂ _+_ (loaded-tallies (load .result) (start .args .store .now) (load .ensures)) (c .before .before .before .before .before .before .needed .ensures)) (omega (arith, c .before .before .before .before .if1 .left, c .before .before .before .before .before .before .before .most-tallies-in .ensures)) (c .before .before .join-certified .ensures)
 
 pub tallied-spec : {M : Type 1} → statement M
 tallied-spec =
     tie.close
     (tie.spec
-    find-certificate-requires
     load-requires
     most-tallies-in-requires
     needed-requires

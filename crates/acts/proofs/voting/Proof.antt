@@ -13,7 +13,7 @@ use Rattle.rules.specs.Inputs.{ballot}
 use Rattle.rules.specs.Words.{ownBlock}
 use Rattle.rules.specs.Sizes.{only}
 use Rattle.words.specs.Meaning.{blockOf}
-use mathlib.Core.Option.{none}
+use mathlib.Core.Option.{none, some}
 use native.Mathlib.Omega.{arith}
 use Prim.Native.Nat.{ℕ}
 use mathlib.Core.Path.{refl, sym, ap, _∙_}
@@ -56,7 +56,7 @@ join-found-requires c κs =
     let block = c .own-block in
     let m = only (load .result .settings .own) in
     let own = own-small (p .0) (load .result) (load .ensures) in
-    (vote .ensures .form, place-room (p .0) (p .1) _ m (withVoters m (blockOf (block .result))) (voter-block x m (block .ensures)) (vote .ensures), place-found (p .0) (p .1) _ _ (blockOf (block .result)) _ (block .ensures) (p .2) (vote .ensures), own)
+    (vote .ensures .form, place-room (p .0) (p .1) (some (load .result .settings .own)) _ m (withVoters m (blockOf (block .result))) (voter-block x m (block .ensures)) (vote .ensures), place-found (p .0) (p .1) _ _ (blockOf (block .result)) _ (block .ensures) (p .2) (vote .ensures), own)
 
 cast-t24 : tie.Need-cast-t24
 cast-t24 c =
@@ -90,7 +90,7 @@ returns-2 c =
     let vote = c .before .before .before .before .before .before .before .before .before .before .before .before .note-vote in
     works-is (voting-cast x s (sym (loaded-below k (load .result) (load .ensures) x) ∙ sym (c .before .before .before .before .before .before .before .before .before .before .before .before .before .before .before .before .below-lock .ensures) ∙ c .before .before .before .before .before .before .before .before .before .before .before .before .before .before .before .if1 .left))
     (works-saying (ballot x s)
-    (place-voted k (start .pre .1) (load .result .clock) (withVoters m (blockOf (block .result))) (loaded-clock (load .result) (a .store .now) (load .ensures)) (voter-block x m (block .ensures) ∙ ap (λ (i : ℕ). ownBlock x (only i)) own) (vote .ensures) (c .before .before .before .before .before .before .before .join-found .ensures .left))
+    (place-voted k (start .pre .1) (some (load .result .settings .own)) (load .result .clock) (withVoters m (blockOf (block .result))) (loaded-clock (load .result) (a .store .now) (load .ensures)) (voter-block x m (block .ensures) ∙ ap (λ (i : ℕ). ownBlock x (only i)) own) (vote .ensures) (c .before .before .before .before .before .before .before .join-found .ensures .left))
     (rw (← ballot-is (a .x) s (load .result .settings .own) own) (c .before .before .send-both .ensures)))
 
 pub voting-spec : {M : Type 1} → statement M

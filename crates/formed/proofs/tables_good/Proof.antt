@@ -19,10 +19,13 @@ all-good-requires-2 c κs = search needs
 is-linked-requires : tie.Need-is-linked-requires
 is-linked-requires c κs = search needs
 
+few-opened-requires : tie.Need-few-opened-requires
+few-opened-requires c κs = search needs
+
 returns : tie.Need-returns
 unfolding tablesGood
 returns c =
-    rw (c .before .before .before .before .all-good .ensures, c .before .before .before .distinct .ensures, c .before .before .all-there .ensures, c .before .all-good2 .ensures, c .is-linked .ensures)
+    rw (c .before .before .before .before .before .all-good .ensures, c .before .before .before .before .distinct .ensures, c .before .before .before .all-there .ensures, c .before .before .all-good2 .ensures, c .before .is-linked .ensures, c .few-opened .ensures)
 
 pub tables-good-spec : {M : Type 1} → statement M
 tables-good-spec =
@@ -33,4 +36,5 @@ tables-good-spec =
     all-there-requires
     all-good-requires-2
     is-linked-requires
+    few-opened-requires
     returns)

@@ -3,7 +3,7 @@ use borrow.Author.Tests.{not-true, not-false}
 use Rattle.store.specs.Decode.{stateOf}
 use Rattle.words.specs.Meaning.{blockOf}
 use Rattle.store.specs.Changes.{withVoters}
-use Rattle.store.specs.Meaning.{votersOf}
+use Rattle.store.specs.Meaning.{votersOf, authorOf}
 use Rattle.messages.proofs.Rooms.{tallied-answers, tallied-stops}
 use borrow.Author.Needs.{needs}
 use Rattle.messages.proofs.counted.Statement.{statement}
@@ -21,7 +21,7 @@ same-length c = search needs
 returns : tie.Need-returns
 returns c =
     let a = c .before .before .before .before .before .before .before .before .before .before .args in
-    tallied-stops (withVoters (votersOf (a .voters)) (blockOf (a .block))) (stateOf (a .store .now)) (c .before .before .before .before .before .before .before .tallied .ensures) (not-true _ (c .before .before .before .before .if1 .taken)) (c .before .before .stop .ensures)
+    tallied-stops (authorOf (a .voters)) (withVoters (votersOf (a .voters)) (blockOf (a .block))) (stateOf (a .store .now)) (c .before .before .before .before .before .before .before .tallied .ensures) (not-true _ (c .before .before .before .before .if1 .taken)) (c .before .before .stop .ensures)
 
 same-length-2 : tie.Need-same-length-2
 same-length-2 c = search needs
@@ -29,7 +29,7 @@ same-length-2 c = search needs
 returns-2 : tie.Need-returns-2
 returns-2 c =
     let a = c .before .before .before .before .before .before .args in
-    tallied-answers (withVoters (votersOf (a .voters)) (blockOf (a .block))) (stateOf (a .store .now)) (c .before .before .before .tallied .ensures) (not-false _ (c .if1 .left))
+    tallied-answers (authorOf (a .voters)) (withVoters (votersOf (a .voters)) (blockOf (a .block))) (stateOf (a .store .now)) (c .before .before .before .tallied .ensures) (not-false _ (c .if1 .left))
 
 pub counted-spec : {M : Type 1} → statement M
 counted-spec =

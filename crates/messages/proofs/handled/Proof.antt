@@ -1,6 +1,7 @@
 -- `messages::handled` meets its contract: by the kind of the message. Assumes nothing.
 use native.Mathlib.Omega.{arith}
 use Rattle.wire.specs.Meaning.{messageOf}
+use Rattle.words.specs.Meaning.{blockOf}
 use Rattle.store.specs.Decode.{stateOf}
 use Rattle.refusals.proofs.Answers.{answers-is}
 use Rattle.messages.proofs.Handling.{stated-handled, vote-handled, status-handled, blame-handled, set-handled, stated-sendable, vote-author, blame-author, set-mask}
@@ -19,14 +20,15 @@ stated-requires c κs =
 enum-known-message-2 : tie.Need-enum-known-message-2
 enum-known-message-2 c = search needs
 
-cast-t27 : tie.Need-cast-t27
-cast-t27 c = search needs
+cast-voted : tie.Need-cast-voted
+cast-voted c = search needs
 
-counted-requires : tie.Need-counted-requires
-counted-requires c κs =
+voted-requires : tie.Need-voted-requires
+unfolding blockOf
+voted-requires c κs =
     let p = c .before .before .before .before .before .before .pre in
-    let author = vote-author (p .0) (p .1) (c .before .before .message2 .given .1) in
-    (p .0 .form, omega (arith, author))
+    let t = vote-author (p .0) (p .1) (c .before .before .message2 .given .1) in
+    (p .0 .form, t .0, omega (arith, t .1))
 
 enum-known-message-3 : tie.Need-enum-known-message-3
 enum-known-message-3 c = search needs
@@ -53,10 +55,13 @@ blamed-requires-2 c κs =
 enum-known-message-5 : tie.Need-enum-known-message-5
 enum-known-message-5 c = search needs
 
-counted-requires-2 : tie.Need-counted-requires-2
-counted-requires-2 c κs =
-    let p = c .before .before .before .before .before .before .pre in
-    (p .0 .form, tt)
+find-certificate-requires : tie.Need-find-certificate-requires
+find-certificate-requires c κs = search needs
+
+counted-requires : tie.Need-counted-requires
+counted-requires c κs =
+    let p = c .before .before .before .before .before .before .before .before .pre in
+    (p .0 .form, c .before .find-certificate .ensures, tt)
 
 same-length : tie.Need-same-length
 same-length c = search needs
@@ -74,7 +79,7 @@ same-length-3 c = search needs
 returns-2 : tie.Need-returns-2
 returns-2 c =
     let a = c .before .before .before .before .before .before .before .before .before .args in
-    answers-is (vote-handled (stateOf (a .store .now)) (c .before .before .before .before .before .message2 .given .1)) (c .before .before .counted .ensures (a .out .now))
+    answers-is (vote-handled (stateOf (a .store .now)) (c .before .before .before .before .before .message2 .given .1)) (c .before .before .voted .ensures (a .out .now))
 
 same-length-4 : tie.Need-same-length-4
 same-length-4 c = search needs
@@ -101,7 +106,8 @@ same-length-8 c = search needs
 
 returns-5 : tie.Need-returns-5
 returns-5 c =
-    let a = c .before .before .before .before .before .before .before .before .before .args in answers-is (status-handled (stateOf (a .store .now)) (c .before .before .before .before .before .message5 .given .1)) (c .before .before .counted2 .ensures (a .out .now))
+    let a = c .before .before .before .before .before .before .before .before .before .before .before .args in
+    answers-is (status-handled (stateOf (a .store .now)) (c .before .before .before .before .before .before .before .message5 .given .1)) (c .before .before .counted .ensures (a .out .now))
 
 pub handled-spec : {M : Type 1} → statement M
 handled-spec =
@@ -110,15 +116,16 @@ handled-spec =
     enum-known-message
     stated-requires
     enum-known-message-2
-    cast-t27
-    counted-requires
+    cast-voted
+    voted-requires
     enum-known-message-3
     voter-requires
     blamed-requires
     enum-known-message-4
     blamed-requires-2
     enum-known-message-5
-    counted-requires-2
+    find-certificate-requires
+    counted-requires
     same-length
     same-length-2
     returns

@@ -18,18 +18,15 @@ tally-place-requires c κs =
     let start = c .before .before .before .before .before in
     (form-long _ (start .pre .0), omega (arith, start .pre .1, c .before .before .get-count .ensures .0))
 
-certificate-requires : tie.Need-certificate-requires
-certificate-requires c κs = search needs
-
-put-certificate-requires : tie.Need-put-certificate-requires
-put-certificate-requires c κs = search needs
+put-tally-requires : tie.Need-put-tally-requires
+put-tally-requires c κs = search needs
 
 add-put : tie.Need-add-put
 add-put c = search needs
 
 put-requires : tie.Need-put-requires
 put-requires c κs =
-    let start = c .before .before .before .before .before .before .before .before .before .before .before in
+    let start = c .before .before .before .before .before .before .before .before .before .before in
     omega (arith, form-long _ (start .pre .0))
 
 same-length : tie.Need-same-length
@@ -38,9 +35,8 @@ same-length c = search needs
 returns : tie.Need-returns
 returns c =
     let after-put = c .before .before in
-    let after-put-certificate = after-put .before .before .before .before in
-    let after-certificate = after-put-certificate .before in
-    let after-tally-place = after-certificate .before in
+    let after-put-tally = after-put .before .before .before .before in
+    let after-tally-place = after-put-tally .before in
     let after-get-count = after-tally-place .before .before .before in
     let start = after-get-count .before .before .before in
     let a = start .args in
@@ -48,8 +44,8 @@ returns c =
     let n = g .1 .1 .0 .1 .1 in
     let name = name-lt (a .tally .name) (n .0 .1) (n .1 .0 .1) (n .1 .1 .0 .1) (n .1 .1 .1 .0 .1) in (
       after-get-count .get-count .ensures .0,
-      rw (after-put .put .ensures, after-put-certificate .put-certificate .ensures, after-certificate .certificate .ensures, after-tally-place .tally-place .ensures .0, after-get-count .get-count .ensures .0)
-          (add-tally (a .store .now) (start .pre .0) (tallyOf (a .tally)) (start .pre .1) (tally-fits (a .tally) (g .0 .1) (g .1 .0 .1) name (g .1 .1 .1 .0 .1))),
+      rw (after-put .put .ensures, after-put-tally .put-tally .ensures, after-tally-place .tally-place .ensures .0, after-get-count .get-count .ensures .0)
+          (add-tally (a .store .now) (start .pre .0) (tallyOf (a .tally)) (start .pre .1) (tally-fits (a .tally) (g .0 .1) (g .1 .0 .1) name (g .1 .1 .1 .0 .1) (g .1 .1 .1 .1 .0 .1))),
     )
 
 pub open-tally-spec : {M : Type 1} → statement M
@@ -58,8 +54,7 @@ open-tally-spec =
     (tie.spec
     get-count-requires
     tally-place-requires
-    certificate-requires
-    put-certificate-requires
+    put-tally-requires
     add-put
     put-requires
     same-length

@@ -3,7 +3,7 @@
 //! An empty message is refused with 4 right after the check, so the call's time is the check's. Both checks are then
 //! held against each other on stores with one byte changed.
 
-use station::size::{HEADER as STATEMENTS, STATEMENT, TALLY};
+use station::size::{HEADER as STATEMENTS, OPENED, STATEMENT, TALLY};
 use station::{Refusal, Size, Station};
 use std::hint::black_box;
 use std::time::Instant;
@@ -94,6 +94,21 @@ impl Look<'_> {
         (1..=self.size.views()).contains(&four(s, at))
             && Self::block(four(s, at + 4), name(s, at + 8))
             && u64::from(two(s, at + 40)) < 1 << self.n
+            && self.opener(two(s, at + 40), s[at + 42])
+    }
+
+    /// Whether who opened a tally by a vote is one of these stations, and among its voters.
+    fn opener(&self, mask: u16, opener: u8) -> bool {
+        opener == 0 || u64::from(opener) <= self.n && mask >> (opener - 1) & 1 == 1
+    }
+
+    /// Whether no author opened more than sixteen, all counted in one pass.
+    fn few_opened(&self) -> bool {
+        let mut counts = [0u16; 256];
+        for i in 0..self.tallies {
+            counts[usize::from(self.s[self.size.tallies_at() + TALLY * i + 42])] += 1;
+        }
+        counts[1..=self.n as usize].iter().all(|&count| count <= OPENED)
     }
 
     /// The place of a tally of this block, looked for from a place on, then before it.
@@ -209,6 +224,7 @@ fn well_formed(size: Size, s: &[u8]) -> bool {
         && look.all_tallied()
         && (0..size.views() as usize).all(|i| u64::from(two(s, blames + 2 * i)) < 1 << look.n)
         && look.linked()
+        && look.few_opened()
 }
 
 fn put(s: &mut [u8], at: usize, width: usize, value: usize) {

@@ -22,7 +22,7 @@ abbrev μ-loop : tie.MeasureT-loop
 loop-holds : tie.Need-loop-holds Inv-loop μ-loop
 unfolding tallies
 loop-holds c =
-    ap (all _) (rows-whole (tallyAt _) _ _ (c .before .pre .is))
+    ap (all _) (rows-whole (tallyAt _) _ _ (c .before .pre .0 .is))
 
 tally-at-requires : tie.Need-tally-at-requires Inv-loop μ-loop
 tally-at-requires c κs = search needs

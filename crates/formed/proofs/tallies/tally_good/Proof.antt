@@ -19,9 +19,14 @@ view-allowed-requires c κs = search needs
 mask-within-requires : tie.Need-mask-within-requires
 mask-within-requires c κs = search needs
 
+opener-good-requires : tie.Need-opener-good-requires
+opener-good-requires c κs = search needs
+
 returns : tie.Need-returns
 returns c =
-    rw (c .before .before .before .block-allowed .ensures, c .before .view-allowed .ensures, c .mask-within .ensures) (tally-is (c .before .before .before .before .before .before .args .settings) (c .before .before .before .before .before .before .args .tally) (c .before .before .before .before .struct-known .given .1 .1 .0))
+    let start = c .before .before .before .before .before .before .before in
+    rw (c .before .before .before .before .block-allowed .ensures, c .before .before .view-allowed .ensures, c .before .mask-within .ensures, c .opener-good .ensures)
+    (tally-is (start .args .settings) (start .args .tally) (c .before .before .before .before .before .struct-known .given .1 .1 .0))
 
 pub tally-good-spec : {M : Type 1} → statement M
 tally-good-spec =
@@ -32,4 +37,5 @@ tally-good-spec =
     cast-view-allowed
     view-allowed-requires
     mask-within-requires
+    opener-good-requires
     returns)

@@ -1,9 +1,9 @@
--- `turns::holds` meets its contract. Assumes nothing.
+-- `holds` meets its contract. Assumes nothing.
 use Rattle.rules.specs.Sizes.{holds}
 use mathlib.Core.Path.{refl}
 use borrow.Author.Needs.{needs}
-use Rattle.turns.proofs.holds.Statement.{statement}
-use Rattle.turns.proofs.holds.Tie as tie
+use Rattle.settings.proofs.holds.Statement.{statement}
+use Rattle.settings.proofs.holds.Tie as tie
 
 shr-result : tie.Need-shr-result
 shr-result c = search needs
