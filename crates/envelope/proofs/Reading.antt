@@ -25,18 +25,18 @@ use Rattle.envelope.specs.declared.Count.the-variants.{All, Broken}
 
 module _ (inner : List ℕ → Option Items) (bs : List ℕ) where
   -- an item by the test of its length
-  abbrev tested : Bool → Option Items
+  abbrev pub tested : Bool → Option Items
   tested b = elim b [ true ↦ itemOf inner (getD bs 0 0) (valueIn bs) | false ↦ none ]
 
   -- a whole item by its tests: tag 31, readable, tag 30
-  abbrev sorted : Bool → Bool → Bool → Option Items
+  abbrev pub sorted : Bool → Bool → Bool → Option Items
   sorted m r e =
       elim m [
         | true ↦ elim r [ true ↦ some (message (valueIn bs) end) | false ↦ none ]
         | false ↦ elim e [ true ↦ Option·map (λ i. envelope i end) (inner (valueIn bs)) | false ↦ none ]
       ]
 
-  item-cut : length bs < 3 + number bs 1 2 → itemIn inner bs ≡ none
+  pub item-cut : length bs < 3 + number bs 1 2 → itemIn inner bs ≡ none
   unfolding itemIn isWhole
   item-cut h = ap tested (lt-leb (3 + number bs 1 2) (length bs) h)
 
@@ -45,7 +45,7 @@ module _ (inner : List ℕ → Option Items) (bs : List ℕ) where
     unfolding itemIn isWhole
     item-whole = ap tested (le-leb (3 + number bs 1 2) (length bs) h)
 
-    item-message : getD bs 0 0 ≡ messageTag → {b : Bool} → isReadable (valueIn bs) ≡ b
+    pub item-message : getD bs 0 0 ≡ messageTag → {b : Bool} → isReadable (valueIn bs) ≡ b
         → itemIn inner bs ≡ elim b [ true ↦ some (message (valueIn bs) end) | false ↦ none ]
     unfolding itemOf
     item-message t e = item-whole ∙ ap₂ (λ (x y : Bool). sorted x y (eqb (getD bs 0 0) envelopeTag)) (eq-eqb (getD bs 0 0) messageTag t) e
@@ -54,7 +54,7 @@ module _ (inner : List ℕ → Option Items) (bs : List ℕ) where
     unfolding itemOf
     item-stray t u = item-whole ∙ ap₂ (λ (x y : Bool). sorted x (isReadable (valueIn bs)) y) (ne-eqb (getD bs 0 0) messageTag t) (ne-eqb (getD bs 0 0) envelopeTag u)
 
-    item-envelope : getD bs 0 0 ≡ envelopeTag → itemIn inner bs ≡ Option·map (λ i. envelope i end) (inner (valueIn bs))
+    pub item-envelope : getD bs 0 0 ≡ envelopeTag → itemIn inner bs ≡ Option·map (λ i. envelope i end) (inner (valueIn bs))
     unfolding itemOf
     item-envelope t =
         let not-message : getD bs 0 0 ≡ messageTag → ⊥ = λ e. omega arith in
@@ -134,7 +134,7 @@ module _ (d : ℕ) (bs : List ℕ) where
 -- ---- items, one after another
 
 -- what was read of the first, and the items behind it
-abbrev onward : Option Items → Option Items → Option Items
+abbrev pub onward : Option Items → Option Items → Option Items
 onward first o = elim first [ none ↦ none | some i ↦ Option·map (joined i) o ]
 
 rest-length : (b : ℕ) (r : List ℕ) → length (restIn (b ∷ r)) ≤ length r

@@ -62,7 +62,7 @@ unfoldable pub flat : List (List ℕ) → Items
 flat [] = end
 flat (m ∷ ms) = message m (flat ms)
 
--- what may stand in an envelope below which envelopes of d depths more may stand: every message is readable
+-- what may stand in an envelope, where envelopes of d depths more may stand below it: every message is readable
 abbrev pub Held : ℕ → Items → Type 0
 Held d end = Unit
 Held d (message m r) = (isReadable m ≡ true) × Held d r
