@@ -5,14 +5,15 @@ use mathlib.Core.Bool.{Bool, true, false, _&&_}
 use mathlib.Core.List.{List, [], _∷_, _++_, append-assoc, append-nil}
 use mathlib.Core.Option.{Option, none, some, Option·map}
 use native.Mathlib.Omega.{arith}
-use lib.ListN.{length, take, drop, getD, length-append, length-take, length-drop, take-append-drop}
-use lib.Seq.{take-append-seam, drop-append-seam, drop-drop}
+use lib.ListN.{length, take, drop, getD, length-append, length-take, length-drop, take-append-drop, drop-of-length-le}
+use lib.Seq.{take-all, take-append-seam, drop-append-seam, drop-drop}
 use lib.Dec.{leb, eqb}
 use borrow.Author.Tests.{le-leb, leb-true, eq-eqb, eqb-true, ne-eqb}
+use Rattle.fields.specs.Places as places
 use Rattle.fields.specs.Places.{number}
 use Rattle.rules.specs.Lists.{unbe}
 use Rattle.rules.specs.Messages.{field}
-use Rattle.rules.proofs.Bytes.{Bytes, one, bytes-split}
+use Rattle.rules.proofs.Bytes.{Bytes, none as no-bytes, one, bytes-split}
 use Rattle.rules.proofs.Tests.{by-bool, by-option, no-some, no-bool}
 use Rattle.rules.proofs.Truths.{and-3, both}
 use Rattle.outgoing.proofs.Writing.{length-field}
@@ -203,3 +204,53 @@ below-sound (suc d) v b i e = from-sound d (below-sound d) (suc (length v)) v b 
 
 pub read-held : (d : ℕ) (bs : List ℕ) → Bytes bs → (i : Items) → inside (suc d) bs ≡ some i → (bs ≡ bytesOf i) × Held d i
 read-held d bs b i e = below-sound (suc d) bs b i e
+
+-- ---- an envelope
+
+-- every slice's bytes, one by one
+pub bytes-all : (s : List ℕ) → places.Bytes s → Bytes s
+bytes-all [] b = no-bytes
+bytes-all (x ∷ s) b = one (b 0 .fits) (bytes-all s (λ i. b (suc i)))
+
+field-number : (t : ℕ) (v : List ℕ) → length v < 65536 → number (field t v) 1 2 ≡ length v
+field-number t v h = ap (λ (l : List ℕ). number l 1 2) (sym (append-nil (field t v))) ∙ front-number t v [] h
+
+module _ (s : List ℕ) where
+  -- an envelope by its test
+  abbrev pub held : Bool → Option Items
+  held b = elim b [ true ↦ inside mostDepth (drop 3 s) | false ↦ none ]
+
+  pub envelope-opened : isOpened s ≡ true → envelopeIn s ≡ inside mostDepth (drop 3 s)
+  unfolding envelopeIn
+  envelope-opened h = ap held h
+
+  pub envelope-not : isOpened s ≡ false → envelopeIn s ≡ none
+  unfolding envelopeIn
+  envelope-not h = ap held h
+
+  -- what reads as an envelope is the bytes of what it holds, to depth 4, in 8,192 bytes; every message is readable
+  pub envelope-sound : Bytes s → (i : Items) → envelopeIn s ≡ some i → (s ≡ field envelopeTag (bytesOf i)) × Held 3 i × (length s ≤ mostBytes)
+  unfolding isOpened valueIn restIn field
+  envelope-sound b i e =
+      by-bool (isOpened s)
+      (λ o.
+      let t = and-3 (leb (length s) mostBytes) (eqb (getD s 0 0) envelopeTag) (eqb (3 + number s 1 2) (length s)) o in
+      let n = eqb-true (3 + number s 1 2) (length s) (t .2) in
+      let front = front-is s b (omega arith) in
+      let value : valueIn s ≡ drop 3 s = take-all (number s 1 2) (drop 3 s) (simp length-drop (omega arith)) in
+      let rest : restIn s ≡ [] = drop-of-length-le s {i = 3 + number s 1 2} (omega arith) in
+      let whole : s ≡ field envelopeTag (drop 3 s) = front ∙ ap₂ _++_ (ap₂ field (eqb-true (getD s 0 0) envelopeTag (t .1)) value) rest ∙ append-nil (field envelopeTag (drop 3 s)) in
+      let held = read-held 3 (drop 3 s) (bytes-split (envelopeTag ∷ unbe 2 (length (drop 3 s))) (subst Bytes whole b) .1) i (sym (envelope-opened o) ∙ e) in
+      (whole ∙ ap (field envelopeTag) (held .0), held .1, leb-true (length s) mostBytes (t .0)))
+      (λ o. no-some (sym (envelope-not o) ∙ e))
+
+-- such bytes read as what they hold
+pub envelope-complete : (i : Items) → Held 3 i → 3 + length (bytesOf i) ≤ mostBytes → envelopeIn (field envelopeTag (bytesOf i)) ≡ some i
+unfolding isOpened field unbe
+envelope-complete i h l =
+    let s = field envelopeTag (bytesOf i) in
+    let n = length-field envelopeTag (bytesOf i) in
+    let small : length (bytesOf i) < 65536 = omega arith in
+    envelope-opened s
+    (both (both (le-leb (length s) mostBytes (omega arith)) refl) (eq-eqb (3 + number s 1 2) (length s) (omega (arith, field-number envelopeTag (bytesOf i) small))))
+    ∙ held-read 3 i h small

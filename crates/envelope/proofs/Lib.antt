@@ -1,2 +1,4 @@
 pub mod Reading
 pub mod Grammar
+pub mod Listing
+pub mod Answers

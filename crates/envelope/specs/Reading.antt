@@ -81,6 +81,15 @@ unfoldable pub listOf : Items → List ℕ
 unfolding placesOf listBytes
 listOf i = listBytes (placesOf 3 i)
 
+-- whether some bytes are an envelope, and its list
+unfoldable pub isEnvelope : List ℕ → Bool
+unfolding envelopeIn
+isEnvelope s = elim (envelopeIn s) [ none ↦ false | some i ↦ true ]
+
+unfoldable pub listIn : List ℕ → List ℕ
+unfolding envelopeIn listOf
+listIn s = elim (envelopeIn s) [ none ↦ [] | some i ↦ listOf i ]
+
 -- 1 for a list that is too short; "refused with number 14 and nothing is listed"; else the list, and the number of messages as count
 unfoldable pub reading : List ℕ → List ℕ → Written
 unfolding envelopeIn listOf messagesOf wrote written
