@@ -1,3 +1,5 @@
+-- `envelope::envelope_read` meets its contract, test by test. Assumes nothing.
+use Rattle.envelope.proofs.Answers.{list-short, not-envelope, is-envelope, listed-all}
 use borrow.Author.Needs.{needs}
 use Rattle.envelope.proofs.envelope_read.Statement.{statement}
 use Rattle.envelope.proofs.envelope_read.Tie as tie
@@ -13,7 +15,7 @@ refuse-requires c κs = search needs
 
 -- src/lib.rt:131:9
 returns : tie.Need-returns
-returns c = ?
+returns c = list-short _ _ (c .before .if1 .taken) (c .refuse .ensures)
 
 -- src/lib.rt:133:29
 read-envelope-requires : tie.Need-read-envelope-requires
@@ -33,11 +35,13 @@ refuse-requires-2 c κs = search needs
 
 -- src/lib.rt:134:9
 returns-2 : tie.Need-returns-2
-returns-2 c = ?
+returns-2 c =
+    not-envelope _ _ (c .before .before .before .before .if1 .left) (c .before .before .before .read-envelope .ensures) (c .before .enum-told .given .1) (c .refuse2 .ensures)
 
 -- src/lib.rt:136:5
 list-messages-requires : tie.Need-list-messages-requires
-list-messages-requires c κs = ?
+list-messages-requires c κs =
+    (is-envelope _ (c .before .before .before .before .before .before .before .before .args .list .now) (c .before .before .before .before .before .if1 .left) (c .before .before .before .before .read-envelope .ensures) (c .before .before .count .given .1), c .before .before .before .before .before .if1 .left)
 
 -- src/lib.rt:126:1
 same-length : tie.Need-same-length
@@ -45,7 +49,8 @@ same-length c = search needs
 
 -- src/lib.rt:126:1
 returns-3 : tie.Need-returns-3
-returns-3 c = ?
+returns-3 c =
+    listed-all _ _ (c .before .before .before .before .before .before .before .before .if1 .left) (c .before .before .before .before .before .before .before .read-envelope .ensures) (c .before .before .before .before .before .count .given .1) (c .before .before .list-messages .ensures)
 
 pub envelope-read-spec : {M : Type 1} → statement M
 envelope-read-spec =
