@@ -16,15 +16,11 @@ use Rattle.rules.proofs.Bytes.{Bytes}
 use Rattle.rules.proofs.Tests.{by-option}
 use Rattle.outgoing.proofs.Writing.{length-field}
 use Rattle.slots.specs.Slots.{isReadable}
-use Rattle.envelope.specs.Items.{Items, end, message, envelope, envelopeTag, messageTag, bytesOf, messagesOf, Place, placesOf, Held}
+use Rattle.envelope.specs.Items.{Items, end, message, envelope, envelopeTag, messageTag, bytesOf, messagesOf, Place, partAt, placesOf, Held}
 use Rattle.envelope.specs.Reading.{mostBytes, inside, envelopeIn}
 use Rattle.envelope.proofs.Grammar.{length-message, length-envelope, held-read, bytes-all, envelope-sound}
 
 -- ---- what stands at the places that are listed
-
--- the bytes at a place
-abbrev pub partAt : List ℕ → Place → List ℕ
-partAt s p = take (p .size) (drop (p .offset) s)
 
 module _ (s : List ℕ) (at t : ℕ) (v r : List ℕ) (e : drop at s ≡ field t v ++ r) where
   -- a field at a place: its value three bytes on, and what stands behind it

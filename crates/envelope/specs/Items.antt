@@ -3,8 +3,8 @@
 use Prim.Native.Nat.{ℕ, zero, suc, _+_}
 use mathlib.Core.Path.{_≡_}
 use mathlib.Core.Bool.{true}
-use mathlib.Core.List.{List, [], _∷_, _++_, map}
-use lib.ListN.{length}
+use mathlib.Core.List.{List, [], _∷_, _++_}
+use lib.ListN.{length, take, drop}
 use Rattle.rules.specs.Lists.{unbe}
 use Rattle.rules.specs.Messages.{field}
 use Rattle.slots.specs.Slots.{isReadable}
@@ -37,6 +37,9 @@ messagesOf (envelope i r) = messagesOf i ++ messagesOf r
 pub record Place : Type 0 where
   pub offset : ℕ
   pub size : ℕ
+
+abbrev pub partAt : List ℕ → Place → List ℕ
+partAt s p = take (p .size) (drop (p .offset) s)
 
 -- the places of the messages in items that begin at an offset
 unfoldable pub placesOf : ℕ → Items → List Place
