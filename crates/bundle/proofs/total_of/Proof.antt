@@ -1,3 +1,13 @@
+-- `bundle::total_of` meets its contract: the bytes so far, and those of the messages that are left. Assumes nothing.
+use Prim.Native.Nat.{_-_, _/_, _≤_}
+use mathlib.Core.Path.{_≡_, refl}
+use native.Mathlib.Omega.{arith}
+use lib.ListN.{length}
+use borrow.Author.Tests.{not-true, not-false}
+use Rattle.envelope.specs.Reading.{mostBytes}
+use Rattle.bundle.specs.Writing.{placesFrom, gathered, bundled}
+use Rattle.bundle.specs.Meaning.{totalOf}
+use Rattle.bundle.proofs.Totals.{weighed, total-starts, total-ends, total-not, total-next, total-over}
 use borrow.Author.Needs.{needs}
 use Rattle.bundle.proofs.total_of.Statement.{statement}
 use Rattle.bundle.proofs.total_of.Tie as tie
@@ -7,14 +17,15 @@ use Rattle.bundle.proofs.is_message_at.Reads as is-message-at-reads
 use Rattle.fields.proofs.get.Reads as get-reads
 
 abbrev Inv-loop : tie.InvT-loop
-Inv-loop bytes list count total₀ k₀ total k = ?
+Inv-loop bytes list count total₀ k₀ total k =
+    (k ≤ count) × (count ≡ length list / 8) × (total ≤ mostBytes) × (weighed total (gathered bytes (placesFrom list k (count - k))) ≡ totalOf (bundled bytes list))
 
 abbrev μ-loop : tie.MeasureT-loop
-μ-loop bytes list count total₀ k₀ total k = ?
+μ-loop bytes list count total₀ k₀ total k = count - k
 
 -- src/lib.rt:36:5
 loop-holds : tie.Need-loop-holds Inv-loop μ-loop
-loop-holds c = search needs
+loop-holds c = (omega arith, refl, omega arith, total-starts _ _ refl)
 
 -- src/lib.rt:37:40
 mul-get : tie.Need-mul-get Inv-loop μ-loop
@@ -50,7 +61,8 @@ is-message-at-requires c κs = search needs
 
 -- src/lib.rt:40:13
 returns : tie.Need-returns Inv-loop μ-loop
-returns c = search needs
+returns c =
+    total-not _ _ _ _ _ (c .before .before .before .before .before .loop .inv .3) (c .before .before .before .before .loop-test .taken) (c .before .before .before .get .ensures .0) (c .before .before .get2 .ensures .0) (c .before .is-message-at .ensures) (not-true _ (c .if1 .taken))
 
 -- src/lib.rt:42:17
 add-total : tie.Need-add-total Inv-loop μ-loop
@@ -66,7 +78,8 @@ add-total-2 c = search needs
 
 -- src/lib.rt:44:13
 returns-2 : tie.Need-returns-2 Inv-loop μ-loop
-returns-2 c = search needs
+returns-2 c =
+    total-over _ _ _ _ _ (c .before .before .before .before .before .before .loop .inv .3) (c .before .before .before .before .before .loop-test .taken) (c .before .before .before .before .get .ensures .0) (c .before .before .before .get2 .ensures .0) (c .before .before .is-message-at .ensures) (not-false _ (c .before .if1 .left)) (c .if2 .taken)
 
 -- src/lib.rt:46:9
 add-k : tie.Need-add-k Inv-loop μ-loop
@@ -78,11 +91,15 @@ loop-less c = search needs
 
 -- src/lib.rt:36:5
 loop-again : tie.Need-loop-again Inv-loop μ-loop
-loop-again c = search needs
+loop-again c =
+    let l = c .before .before .before .before .before .before .loop .inv in
+    (omega arith, l .1, c .if2 .left, total-next _ _ _ _ _ (c .before .before .before .before .before .before .loop .inv .3) (c .before .before .before .before .before .loop-test .taken) (c .before .before .before .before .get .ensures .0) (c .before .before .before .get2 .ensures .0) (c .before .before .is-message-at .ensures) (not-false _ (c .before .if1 .left)))
 
 -- src/lib.rt:30:1
 returns-3 : tie.Need-returns-3 Inv-loop μ-loop
-returns-3 c = search needs
+returns-3 c =
+    let l = c .before .loop .inv in
+    total-ends _ _ _ _ _ (l .3) (c .loop-test .left) (l .2)
 
 pub total-of-spec : {M : Type 1} → statement M
 total-of-spec =
