@@ -1,2 +1,4 @@
 pub mod Totals
 pub mod Written
+pub mod Answers
+pub mod Laws

@@ -145,8 +145,8 @@ module _ {s list out₀ : List ℕ} {count at k : ℕ} {out : List ℕ} (l : Lef
           messages = f .others;
           is = f .is;
           rest = ap₂ (λ (x : List ℕ) (y : ℕ). wrote x y (bytesOf (flat (f .others)))) (says .out) i
-          ∙ sym (wrote-append out at (field messageTag part) (bytesOf (flat (f .others))))
-          ∙ ap (λ (ms : List (List ℕ)). wrote out at (bytesOf (flat ms))) (sym (f .first)) ∙ l .rest;
+              ∙ sym (wrote-append out at (field messageTag part) (bytesOf (flat (f .others))))
+              ∙ ap (λ (ms : List (List ℕ)). wrote out at (bytesOf (flat ms))) (sym (f .first)) ∙ l .rest;
           room = omega (arith, item-length, l .room);
           same = says-length says ∙ l .same;
         }

@@ -150,12 +150,11 @@ module _ (d : ℕ) (below : (v : List ℕ) → Bytes v → (i : Items) → insid
     unfolding isWhole bytesOf
     whole-sound w true true z p q s u =
         let g = some-one u in
-        let t = eqb-true (getD bs 0 0) messageTag p in
-        (
+        let t = eqb-true (getD bs 0 0) messageTag p in (
           front-is bs b (leb-true (3 + number bs 1 2) (length bs) w)
-          ∙ ap (λ (k : ℕ). field k (valueIn bs) ++ restIn bs) t
-          ∙ ap (_++ restIn bs) (sym (append-nil (field messageTag (valueIn bs))))
-          ∙ ap (λ (x : Items). bytesOf x ++ restIn bs) g,
+              ∙ ap (λ (k : ℕ). field k (valueIn bs) ++ restIn bs) t
+              ∙ ap (_++ restIn bs) (sym (append-nil (field messageTag (valueIn bs))))
+              ∙ ap (λ (x : Items). bytesOf x ++ restIn bs) g,
           subst (Held d) g (q, tt),
         )
     whole-sound w true false z p q s u = no-some u
@@ -164,12 +163,11 @@ module _ (d : ℕ) (below : (v : List ℕ) → Bytes v → (i : Items) → insid
         (λ i n.
         let g = some-one (sym (ap (Option·map (λ i. envelope i end)) n) ∙ u) in
         let is = front-is bs b (leb-true (3 + number bs 1 2) (length bs) w) in
-        let h = held-envelope d (valueIn bs) i (below (valueIn bs) (value-bytes w) i n) in
-        (
+        let h = held-envelope d (valueIn bs) i (below (valueIn bs) (value-bytes w) i n) in (
           is
-          ∙ ap₂ (λ (k : ℕ) (v : List ℕ). field k v ++ restIn bs) (eqb-true (getD bs 0 0) envelopeTag s) (h .0)
-          ∙ ap (_++ restIn bs) (sym (append-nil (field envelopeTag (bytesOf i))))
-          ∙ ap (λ (x : Items). bytesOf x ++ restIn bs) g,
+              ∙ ap₂ (λ (k : ℕ) (v : List ℕ). field k v ++ restIn bs) (eqb-true (getD bs 0 0) envelopeTag s) (h .0)
+              ∙ ap (_++ restIn bs) (sym (append-nil (field envelopeTag (bytesOf i))))
+              ∙ ap (λ (x : Items). bytesOf x ++ restIn bs) g,
           subst (Held d) g (h .1),
         ))
     whole-sound w false y false p q s u = no-some u

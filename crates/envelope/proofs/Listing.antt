@@ -201,7 +201,7 @@ module _ {s list₀ : List ℕ} {at to : ℕ} {list : List ℕ} (l : Left s list
           record {
             items = f .behind;
             is = ap (λ (k : ℕ). drop (at + 3 + k) s) e ∙ ap (λ (k : ℕ). drop k s) (add-assoc at 3 m) ∙ sym (drop-drop (3 + m) at s) ∙ ap (drop (3 + m)) (f .is)
-            ∙ sym (drop-drop m 3 (field messageTag (f .bytes) ++ bytesOf (f .behind))) ∙ drop-append-seam (f .bytes) (bytesOf (f .behind));
+                ∙ sym (drop-drop m 3 (field messageTag (f .bytes) ++ bytesOf (f .behind))) ∙ drop-append-seam (f .bytes) (bytesOf (f .behind));
             sized = f .sized;
             rest = all ∙ ap (λ (k : ℕ). wrote list to (a ++ (unbe 4 k ++ listBytes (placesOf (at + 3 + k) (f .behind))))) e ∙ f .rest;
             room = omega (arith, l .room, f .least);
