@@ -115,7 +115,7 @@ static struct bytes deep(int depth)
 static void good_ones(void)
 {
     struct bytes none = { { 0x30, 0, 0 }, 3 }, two = { { 0 }, 0 };
-    uint8_t places[8 * 3];
+    uint8_t places[8 * 3] = { 0 };
     READS(&none, 0, places);
     for (int depth = 1; depth <= 4; depth++) {
         struct bytes made = deep(depth);
