@@ -40,11 +40,13 @@ pub enum Refusal {
     Ahead = 11,
     /// No blank slot left in the journal, or a slot that replay can't read past.
     Journal = 13,
+    /// No good relay envelope, or one that can't be made.
+    Envelope = 14,
 }
 
 impl Refusal {
     /// Every refusal, in the order of the numbers.
-    pub const ALL: [Refusal; 12] = [
+    pub const ALL: [Refusal; 13] = [
         Refusal::Length,
         Refusal::Store,
         Refusal::Stopped,
@@ -57,6 +59,7 @@ impl Refusal {
         Refusal::Settings,
         Refusal::Ahead,
         Refusal::Journal,
+        Refusal::Envelope,
     ];
 
     /// The number that 01 or 02 gives it.
@@ -89,6 +92,7 @@ impl Refusal {
             Refusal::Settings => "the settings are bad",
             Refusal::Ahead => "the message is more than one view ahead",
             Refusal::Journal => "the journal has no blank slot, or one that can't be read",
+            Refusal::Envelope => "it is no good envelope, or none can be made of these messages",
         }
     }
 
@@ -116,6 +120,9 @@ impl Refusal {
             }
             Refusal::Journal => {
                 "make a full one longer; with a damaged one the station counts among the f faulty"
+            }
+            Refusal::Envelope => {
+                "drop a bad one: its relay is faulty, or the link damages bytes; make one of fewer messages"
             }
         }
     }
@@ -147,12 +154,12 @@ mod tests {
 
     #[test]
     fn numbers_are_those_of_01_and_02() {
-        for (number, refusal) in (1..=11).chain([13]).zip(Refusal::ALL) {
+        for (number, refusal) in (1..=11).chain([13, 14]).zip(Refusal::ALL) {
             assert_eq!(refusal.number(), number);
             assert_eq!(Refusal::from_number(number), Some(refusal));
             assert!(refusal.to_string().starts_with(&format!("refusal {number}: ")));
         }
-        for number in [0, 12, 14] {
+        for number in [0, 12, 15] {
             assert_eq!(Refusal::from_number(number), None);
         }
     }
