@@ -2,3 +2,4 @@ pub mod Totals
 pub mod Written
 pub mod Answers
 pub mod Laws
+pub mod Again
