@@ -9,7 +9,8 @@ const FILL: u8 = 0x5a;
 
 /// A message of any kind, now and then damaged.
 fn message(random: &mut Random) -> Vec<u8> {
-    let (view, height, name) = (random.below(40) as u32, random.below(9) as u32, [random.below(4) as u8; 32]);
+    let (view, height, name) =
+        (random.below(40) as u32, random.below(9) as u32, [random.below(4) as u8; 32]);
     let (mask, author) = (random.below(8) as u16, random.below(3) as u8);
     let mut bytes = match random.below(6) {
         0 => Message::NewView { view, height, name, certificate_view: 0, mask, author },
@@ -60,7 +61,11 @@ fn items(random: &mut Random, depth: u64) -> Vec<u8> {
 
 /// The list of some places.
 fn list(places: &[Place]) -> Vec<u8> {
-    places.iter().flat_map(|&(at, size)| [at, size]).flat_map(|number| (number as u32).to_be_bytes()).collect()
+    places
+        .iter()
+        .flat_map(|&(at, size)| [at, size])
+        .flat_map(|number| (number as u32).to_be_bytes())
+        .collect()
 }
 
 #[test]

@@ -50,7 +50,8 @@ fn items(mut rest: &[u8], mut offset: usize, depth: usize, places: &mut Vec<Plac
 /// The first item: its tag, its value, and what stands behind it.
 fn item(bytes: &[u8]) -> Option<(u8, &[u8], &[u8])> {
     let (head, rest) = bytes.split_first_chunk::<3>()?;
-    let (value, behind) = rest.split_at_checked(usize::from(u16::from_be_bytes([head[1], head[2]])))?;
+    let (value, behind) =
+        rest.split_at_checked(usize::from(u16::from_be_bytes([head[1], head[2]])))?;
     Some((head[0], value, behind))
 }
 
