@@ -54,6 +54,7 @@ pub fn reason(page: &mut Page, at: usize, refusal: u64) -> usize {
             at,
             b" more than one view ahead of the view held or last quit\n",
         ),
+        14 => page::say(page, at, b" no good envelope\n"),
         _ => page::say(page, at, b"\n"),
     }
 }
