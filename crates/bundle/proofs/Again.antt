@@ -1,12 +1,11 @@
 -- The list that the reader makes, handed to the writer with the envelope: what it makes is the envelope's flattening. Assumes nothing.
-use Prim.Native.Nat.{ℕ, zero, suc, _+_, _-_, _*_, _/_, _^_, _<_, _≤_}
+use Prim.Native.Nat.{ℕ, zero, suc, _+_, _*_, _/_, _^_, _<_, _≤_}
 use mathlib.Core.Path.{_≡_, refl, sym, ap, ap₂, subst, _∙_}
-use mathlib.Core.Bool.{Bool, true, false, _&&_}
+use mathlib.Core.Bool.{Bool}
 use mathlib.Core.List.{List, [], _∷_, _++_, map, append-assoc}
-use mathlib.Core.Option.{Option, none, some, Option·map}
+use mathlib.Core.Option.{Option, some}
 use native.Mathlib.Omega.{arith}
 use lib.ListN.{length, length-append}
-use lib.Dec.{leb, lit≤}
 use borrow.Author.Tests.{le-leb}
 use Rattle.fields.specs.Places as places
 use Rattle.fields.specs.Places.{number}
@@ -15,9 +14,8 @@ use Rattle.rules.specs.Lists.{unbe}
 use Rattle.rules.proofs.Bytes.{be-unbe, length-unbe}
 use Rattle.rules.proofs.Truths.{both}
 use Rattle.wire.proofs.Reading.{be-number}
-use Rattle.slots.specs.Slots.{isReadable}
 use Rattle.envelope.specs.Items.{Items, Place, partAt, placesOf, listBytes, messagesOf, flat}
-use Rattle.envelope.specs.Reading.{mostBytes, envelopeIn, listOf}
+use Rattle.envelope.specs.Reading.{envelopeIn, listOf}
 use Rattle.envelope.proofs.Grammar.{bytes-all, envelope-sound}
 use Rattle.envelope.proofs.Laws.{Ascending, AllReadable, listed-are, listed-apart, listed-readable}
 use Rattle.bundle.specs.Writing.{placeIn, placesFrom, placesIn, isMessageAt, gathered, flatBytes, bundleOf, bundled}

@@ -1,16 +1,15 @@
 -- What the writer makes reads back the same; what reads as flat is what the writer makes of it; and every envelope lists what its
 -- flattening lists. Assumes nothing.
-use Prim.Native.Nat.{ℕ, zero, suc, _+_, _-_, _*_, _/_, _^_, _<_, _≤_}
-use mathlib.Core.Path.{_≡_, refl, sym, ap, ap₂, subst, _∙_}
-use mathlib.Core.Bool.{Bool, true, false, _&&_}
+use Prim.Native.Nat.{ℕ, _+_, _≤_}
+use mathlib.Core.Path.{_≡_, refl, sym, ap, subst, _∙_}
+use mathlib.Core.Bool.{Bool, true, false}
 use mathlib.Core.List.{List, [], _∷_, _++_, map}
 use mathlib.Core.Option.{Option, none, some, Option·map}
 use native.Mathlib.Omega.{arith}
-use lib.ListN.{length, length-append}
+use lib.ListN.{length}
 use lib.Dec.{leb}
 use borrow.Author.Tests.{le-leb, leb-true}
 use Rattle.fields.specs.Places as places
-use Rattle.rules.specs.Messages.{field}
 use Rattle.rules.proofs.Tests.{by-bool, by-option, no-some, and-right}
 use Rattle.outgoing.proofs.Writing.{length-field}
 use Rattle.slots.specs.Slots.{isReadable}

@@ -1,29 +1,27 @@
 -- Writing the envelope of listed messages, place by place. Assumes nothing.
-use Prim.Native.Nat.{ℕ, zero, suc, _+_, _-_, _*_, _/_, _%_, _^_, _<_, _≤_}
+use Prim.Native.Nat.{ℕ, _+_, _-_, _*_, _/_, _<_, _≤_}
 use mathlib.Core.Path.{_≡_, refl, sym, ap, ap₂, _∙_}
-use mathlib.Core.Bool.{Bool, true, false, _&&_}
-use mathlib.Core.List.{List, [], _∷_, _++_}
+use mathlib.Core.Bool.{Bool, true, false}
+use mathlib.Core.List.{List, [], _∷_}
 use mathlib.Core.Option.{Option, none, some, Option·map}
 use native.Mathlib.Omega.{arith}
 use lib.ListN.{length, take, drop}
-use lib.Dec.{leb, eqb, lit<}
-use borrow.Author.Tests.{le-leb, lt-leb, eq-eqb, ne-eqb, leb-true}
+use lib.Dec.{leb, lit<}
+use borrow.Author.Tests.{leb-true}
 use Rattle.fields.specs.Places.{number, put}
 use Rattle.rules.specs.Lists.{unbe}
 use Rattle.rules.specs.Messages.{field}
 use Rattle.rules.proofs.Tests.{by-bool, by-option, no-some}
 use Rattle.wire.specs.Fields.{head}
 use Rattle.outgoing.specs.Wrote.{wrote, Says}
-use Rattle.outgoing.proofs.Writing.{length-wrote, wrote-append, field-says, says-length, length-field}
-use Rattle.slots.specs.Slots.{Written, written}
+use Rattle.outgoing.proofs.Writing.{wrote-append, field-says, says-length, length-field}
 use Rattle.envelope.specs.Items.{Place, partAt, envelopeTag, messageTag, bytesOf, flat}
 use Rattle.envelope.specs.Reading.{mostBytes}
 use Rattle.envelope.proofs.Grammar.{length-message}
-use Rattle.bundle.specs.Writing.{placeIn, placesFrom, placesIn, isMessageAt, gathered, flatBytes, bundleOf, bundled, writing}
+use Rattle.bundle.specs.Writing.{placeIn, placesFrom, placesIn, isMessageAt, gathered, flatBytes, bundleOf, bundled}
 use Rattle.bundle.specs.Meaning.{totalOf, bundleIn, MayWrite}
-use Rattle.bundle.specs.declared.Total.{Total}
 use Rattle.bundle.specs.declared.Total.the-variants.{Fits, Refused}
-use Rattle.bundle.proofs.Totals.{message-within, length-part, places-end, places-start, onward, gathered-step}
+use Rattle.bundle.proofs.Totals.{message-within, length-part, places-end, places-start, gathered-step}
 
 -- ---- what may be written
 

@@ -1,17 +1,16 @@
 -- Reading an envelope, test by test, and what each answer leaves of the list. Assumes nothing.
-use Prim.Native.Nat.{ℕ, suc, _+_, _-_, _*_, _^_, _<_, _≤_}
+use Prim.Native.Nat.{ℕ, _+_, _-_, _*_, _^_, _<_, _≤_}
 use mathlib.Core.Path.{_≡_, refl, sym, ap, ap₂, _∙_}
 use mathlib.Core.Bool.{Bool, true, false, _&&_}
 use mathlib.Core.List.{List, []}
 use mathlib.Core.Option.{Option, none, some}
 use native.Mathlib.Omega.{arith}
-use lib.ListN.{length, take, drop, getD, length-take, length-drop}
+use lib.ListN.{length, take, drop, getD, length-drop}
 use lib.Seq.{take-all}
 use lib.Dec.{leb, eqb}
 use borrow.Author.Tests.{le-leb, lt-leb, eq-eqb, ne-eqb}
 use Rattle.fields.specs.Places.{number}
 use Rattle.outgoing.specs.Wrote.{wrote}
-use Rattle.rules.proofs.Tests.{no-some}
 use Rattle.slots.specs.Slots.{Written, written}
 use Rattle.envelope.specs.Items.{Items, envelopeTag, messagesOf}
 use Rattle.envelope.specs.Reading.{mostBytes, mostDepth, leastList, inside, isOpened, envelopeIn, listOf, isEnvelope, listIn, reading}

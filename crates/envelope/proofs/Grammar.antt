@@ -1,20 +1,20 @@
 -- What reads is the bytes of the items that are read, and of no others; and the bytes of items read as those items. Assumes nothing.
-use Prim.Native.Nat.{ℕ, zero, suc, _+_, _-_, _*_, _/_, _%_, _<_, _≤_}
+use Prim.Native.Nat.{ℕ, zero, suc, _+_, _*_, _/_, _%_, _<_, _≤_}
 use mathlib.Core.Path.{_≡_, refl, sym, ap, ap₂, subst, _∙_}
-use mathlib.Core.Bool.{Bool, true, false, _&&_}
+use mathlib.Core.Bool.{Bool, true, false}
 use mathlib.Core.List.{List, [], _∷_, _++_, append-assoc, append-nil}
 use mathlib.Core.Option.{Option, none, some, Option·map}
 use native.Mathlib.Omega.{arith}
 use lib.ListN.{length, take, drop, getD, length-append, length-take, length-drop, take-append-drop, drop-of-length-le}
 use lib.Seq.{take-all, take-append-seam, drop-append-seam, drop-drop}
 use lib.Dec.{leb, eqb}
-use borrow.Author.Tests.{le-leb, leb-true, eq-eqb, eqb-true, ne-eqb}
+use borrow.Author.Tests.{le-leb, leb-true, eq-eqb, eqb-true}
 use Rattle.fields.specs.Places as places
 use Rattle.fields.specs.Places.{number}
 use Rattle.rules.specs.Lists.{unbe}
 use Rattle.rules.specs.Messages.{field}
 use Rattle.rules.proofs.Bytes.{Bytes, none as no-bytes, one, bytes-split}
-use Rattle.rules.proofs.Tests.{by-bool, by-option, no-some, no-bool}
+use Rattle.rules.proofs.Tests.{by-bool, by-option, no-some}
 use Rattle.rules.proofs.Truths.{and-3, both}
 use Rattle.outgoing.proofs.Writing.{length-field}
 use Rattle.slots.specs.Slots.{isReadable}

@@ -1,15 +1,13 @@
 -- What is listed: every message inside, once, left to right, each readable; and what depth and length refuse. Assumes nothing.
-use Prim.Native.Nat.{ℕ, zero, suc, _+_, _-_, _<_, _≤_}
+use Prim.Native.Nat.{ℕ, zero, suc, _+_, _<_, _≤_}
 use mathlib.Core.Path.{_≡_, refl, sym, ap, ap₂, subst, _∙_}
 use mathlib.Core.Bool.{true}
 use mathlib.Core.List.{List, [], _∷_, _++_, map, map-append, append-assoc, append-nil}
 use mathlib.Core.Option.{Option, none, some}
 use native.Mathlib.Omega.{arith}
-use lib.ListN.{length, take, drop, length-drop}
+use lib.ListN.{length, take, drop}
 use lib.Seq.{take-append-seam, drop-append-seam, drop-drop}
-use lib.Dec.{eqb}
 use Rattle.fields.specs.Places as places
-use Rattle.fields.specs.Places.{number}
 use Rattle.rules.specs.Lists.{unbe}
 use Rattle.rules.specs.Messages.{field}
 use Rattle.rules.proofs.Bytes.{Bytes}
@@ -17,7 +15,7 @@ use Rattle.rules.proofs.Tests.{by-option}
 use Rattle.outgoing.proofs.Writing.{length-field}
 use Rattle.slots.specs.Slots.{isReadable}
 use Rattle.envelope.specs.Items.{Items, end, message, envelope, envelopeTag, messageTag, bytesOf, messagesOf, Place, partAt, placesOf, Held}
-use Rattle.envelope.specs.Reading.{mostBytes, inside, envelopeIn}
+use Rattle.envelope.specs.Reading.{inside, envelopeIn}
 use Rattle.envelope.proofs.Grammar.{length-message, length-envelope, held-read, bytes-all, envelope-sound}
 
 -- ---- what stands at the places that are listed

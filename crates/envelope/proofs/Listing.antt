@@ -1,29 +1,28 @@
 -- Listing the messages of an envelope: one walk over its bytes meets each of them, left to right. Assumes nothing.
-use Prim.Native.Nat.{ℕ, zero, suc, _+_, _-_, _^_, _<_, _≤_}
+use Prim.Native.Nat.{ℕ, zero, suc, _+_, _-_, _<_, _≤_}
 use mathlib.Core.Path.{_≡_, refl, sym, ap, ap₂, subst, _∙_}
-use mathlib.Core.Bool.{Bool, true, false}
+use mathlib.Core.Bool.{true, false}
 use mathlib.Core.List.{List, [], _∷_, _++_, append-assoc}
 use mathlib.Core.Option.{Option, none, some}
 use native.Mathlib.Omega.{arith}
 use native.Mathlib.Nat.{add-assoc}
-use lib.ListN.{length, take, drop, getD, length-append, length-drop, drop-of-length-le}
+use lib.ListN.{length, drop, getD, length-drop, drop-of-length-le}
 use lib.Seq.{drop-drop, getD-drop, drop-append-seam}
-use lib.Dec.{lit<}
 use Rattle.fields.specs.Places as places
 use Rattle.fields.specs.Places.{number, put}
 use Rattle.fields.proofs.Laws.{length-put}
 use Rattle.fields.proofs.Lists.{number-drop}
-use Rattle.outgoing.specs.Wrote.{wrote, sizeOf}
+use Rattle.outgoing.specs.Wrote.{wrote}
 use Rattle.outgoing.proofs.Writing.{wrote-append, put-wrote, length-field, length-write}
 use Rattle.rules.specs.Lists.{unbe}
 use Rattle.rules.specs.Messages as messages
 use Rattle.rules.specs.Messages.{newView, propose, vote, blame, blameSet, status, field, kind, read, write}
-use Rattle.rules.proofs.Bytes.{Bytes, bytes-split, length-unbe}
+use Rattle.rules.proofs.Bytes.{Bytes, bytes-split}
 use Rattle.rules.proofs.ReadBack.{write-read}
-use Rattle.rules.proofs.Tests.{by-option, no-some, no-bool}
+use Rattle.rules.proofs.Tests.{by-option, no-bool}
 use Rattle.slots.specs.Slots.{isReadable}
 use Rattle.envelope.specs.Items.{Items, end, message, envelope, envelopeTag, messageTag, bytesOf, joined, Place, placesOf, listBytes, Held}
-use Rattle.envelope.specs.Reading.{mostBytes, leastList, envelopeIn, listOf, isEnvelope, listIn}
+use Rattle.envelope.specs.Reading.{mostBytes, envelopeIn, listOf, isEnvelope, listIn}
 use Rattle.envelope.proofs.Grammar.{front-number, bytes-joined, length-message, length-envelope, bytes-all, envelope-sound}
 
 -- ---- how long a message is

@@ -5,11 +5,9 @@ use mathlib.Core.Bool.{Bool, _&&_}
 use mathlib.Core.List.{List, [], _∷_, _++_}
 use lib.ListN.{length, take, drop, replicate}
 use lib.Dec.{eqb}
-use Rattle.rules.specs.Messages.{field, vote, blame, blameSet, status, write, read}
+use Rattle.rules.specs.Messages.{field, vote, blame, blameSet, write, read}
 use Rattle.rules.specs.Script.{failing, sameList}
-use Rattle.slots.specs.Slots.{isReadable}
-use Rattle.envelope.specs.Items.{Items, message, envelope, end, bytesOf, messagesOf}
-use Rattle.envelope.specs.Reading.{mostBytes, leastList, envelopeIn, inside, itemsFrom, itemIn, itemOf, isWhole, valueIn, restIn, isOpened, reading}
+use Rattle.envelope.specs.Reading.{mostBytes, leastList, envelopeIn, reading}
 
 -- messages of 15, 16 and 57 bytes
 short : List ℕ

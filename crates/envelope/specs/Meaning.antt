@@ -1,13 +1,12 @@
 -- What the code's answers on an item and on a list of items mean. Assumes nothing.
 use Prim.Native.Nat.{ℕ, _+_, _≤_}
 use mathlib.Core.Path.{_≡_}
-use mathlib.Core.Bool.{Bool, true, false}
 use mathlib.Core.List.{List}
 use mathlib.Core.Option.{Option, none, some}
 use lib.ListN.{length}
 use Rattle.fields.specs.Places.{number}
 use Rattle.envelope.specs.Items.{Items, messagesOf}
-use Rattle.envelope.specs.Reading.{itemIn, inside, envelopeIn}
+use Rattle.envelope.specs.Reading.{itemIn, inside}
 use Rattle.envelope.specs.declared.Item.{Item}
 use Rattle.envelope.specs.declared.Item.the-variants.{Good, Bad}
 use Rattle.envelope.specs.declared.Count.{Count}

@@ -4,58 +4,41 @@ use Rattle.bundle.proofs.Answers.{not-eights, out-short, not-bundled, i
 use borrow.Author.Needs.{needs}
 use Rattle.bundle.proofs.envelope_write.Statement.{statement}
 use Rattle.bundle.proofs.envelope_write.Tie as tie
-use Rattle.bundle.proofs.envelope_write.Reads as reads
-use Rattle.bundle.proofs.envelope_write.Lts as lts
-use Rattle.bundle.proofs.total_of.Reads as total-of-reads
-use Rattle.bundle.proofs.write_bundle.Reads as write-bundle-reads
-use Rattle.slots.proofs.refuse.Reads as refuse-reads
 
--- src/lib.rt:77:9
 refuse-requires : tie.Need-refuse-requires
 refuse-requires c κs = search needs
 
--- src/lib.rt:77:9
 returns : tie.Need-returns
 returns c = not-eights _ _ _ (c .before .if1 .taken) (c .refuse .ensures)
 
--- src/lib.rt:80:9
 refuse-requires-2 : tie.Need-refuse-requires-2
 refuse-requires-2 c κs = search needs
 
--- src/lib.rt:80:9
 returns-2 : tie.Need-returns-2
 returns-2 c = out-short _ _ _ (c .before .if2 .taken) (c .refuse2 .ensures)
 
--- src/lib.rt:82:30
 total-of-requires : tie.Need-total-of-requires
 total-of-requires c κs = search needs
 
--- src/lib.rt:82:21
 enum-known-total : tie.Need-enum-known-total
 enum-known-total c = search needs
 
--- src/lib.rt:83:9
 enum-told : tie.Need-enum-told
 enum-told c = search needs
 
--- src/lib.rt:83:9
 refuse-requires-3 : tie.Need-refuse-requires-3
 refuse-requires-3 c κs = search needs
 
--- src/lib.rt:83:9
 returns-3 : tie.Need-returns-3
 returns-3 c =
     not-bundled _ _ _ (c .before .before .before .before .before .if1 .left) (c .before .before .before .before .if2 .left) (c .before .before .before .total-of .ensures) (c .before .enum-told .given .1) (c .refuse3 .ensures)
 
--- src/lib.rt:85:5
 write-bundle-requires : tie.Need-write-bundle-requires
 write-bundle-requires c κs = record { is = sym (c .before .before .total .given .1) ∙ c .before .before .before .before .total-of .ensures; room = c .before .before .before .before .before .if2 .left }
 
--- src/lib.rt:72:1
 same-length : tie.Need-same-length
 same-length c = search needs
 
--- src/lib.rt:72:1
 returns-4 : tie.Need-returns-4
 returns-4 c =
     is-bundled _ _ _ (c .before .before .before .before .before .before .before .before .before .if1 .left) (c .before .before .before .before .before .before .before .before .if2 .left) (c .before .before .before .before .before .before .before .total-of .ensures) (c .before .before .before .before .before .total .given .1) (c .before .before .write-bundle .ensures)

@@ -6,35 +6,25 @@ use Rattle.bundle.proofs.Totals.{outside, within}
 use borrow.Author.Needs.{needs}
 use Rattle.bundle.proofs.is_message_at.Statement.{statement}
 use Rattle.bundle.proofs.is_message_at.Tie as tie
-use Rattle.bundle.proofs.is_message_at.Reads as reads
-use Rattle.bundle.proofs.is_message_at.Lts as lts
-use Rattle.slots.proofs.is_readable.Reads as is-readable-reads
 
--- src/lib.rt:22:15
 add-end : tie.Need-add-end
 add-end c = search needs
 
--- src/lib.rt:24:9
 returns : tie.Need-returns
 returns c = outside _ _ _ (c .if1 .taken)
 
--- src/lib.rt:26:24
 sub-is-readable : tie.Need-sub-is-readable
 sub-is-readable c = search needs
 
--- src/lib.rt:26:24
 part-is-readable-start : tie.Need-part-is-readable-start
 part-is-readable-start c = search needs
 
--- src/lib.rt:26:24
 part-is-readable-end : tie.Need-part-is-readable-end
 part-is-readable-end c = search needs
 
--- src/lib.rt:26:5
 is-readable-requires : tie.Need-is-readable-requires
 is-readable-requires c κs = search needs
 
--- src/lib.rt:18:1
 returns-2 : tie.Need-returns-2
 returns-2 c =
     let a = c .before .before .before .before .args in

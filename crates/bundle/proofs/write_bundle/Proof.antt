@@ -1,6 +1,6 @@
 -- `bundle::write_bundle` meets its contract: what is left of the messages, and of their items. Assumes nothing.
 use Prim.Native.Nat.{_+_, _-_, _/_, _≤_}
-use mathlib.Core.Path.{_≡_, refl, sym, ap, _∙_}
+use mathlib.Core.Path.{_≡_, refl, ap, _∙_}
 use native.Mathlib.Omega.{arith}
 use lib.ListN.{length, take, drop, length-take, length-drop}
 use Rattle.fields.proofs.Laws.{length-put}
@@ -8,11 +8,6 @@ use Rattle.bundle.proofs.Written.{Left, total-room, walk-starts, walk-e
 use borrow.Author.Needs.{needs}
 use Rattle.bundle.proofs.write_bundle.Statement.{statement}
 use Rattle.bundle.proofs.write_bundle.Tie as tie
-use Rattle.bundle.proofs.write_bundle.Reads as reads
-use Rattle.bundle.proofs.write_bundle.Lts as lts
-use Rattle.fields.proofs.get.Reads as get-reads
-use Rattle.fields.proofs.put.Reads as put-reads
-use Rattle.slots.proofs.copy.Reads as copy-reads
 
 abbrev Inv-loop : tie.InvT-loop
 Inv-loop bytes list out₀ total count at₀ k₀ out at k =
@@ -21,90 +16,73 @@ Inv-loop bytes list out₀ total count at₀ k₀ out at k =
 abbrev μ-loop : tie.MeasureT-loop
 μ-loop bytes list out₀ total count at₀ k₀ out at k = count - k
 
--- src/lib.rt:56:28
 add-put : tie.Need-add-put Inv-loop μ-loop
 add-put c =
     let t = total-room (c .before .before .before .before .pre) in
     omega arith
 
--- src/lib.rt:56:28
 sub-put : tie.Need-sub-put Inv-loop μ-loop
 sub-put c =
     let t = total-room (c .before .before .before .before .pre) in
     omega arith
 
--- src/lib.rt:56:5
 put-requires : tie.Need-put-requires Inv-loop μ-loop
 put-requires c κs = omega (arith, c .before .before .before .before .pre .room)
 
--- src/lib.rt:60:5
 loop-holds : tie.Need-loop-holds Inv-loop μ-loop
 loop-holds c = (omega arith, refl, walk-starts (c .before .before .before .before .before .before .before .pre) refl)
 
--- src/lib.rt:61:40
 mul-get : tie.Need-mul-get Inv-loop μ-loop
 mul-get c = search needs
 
--- src/lib.rt:61:22
 get-requires : tie.Need-get-requires Inv-loop μ-loop
 get-requires c κs = search needs
 
--- src/lib.rt:62:38
 mul-get-2 : tie.Need-mul-get-2 Inv-loop μ-loop
 mul-get-2 c = search needs
 
--- src/lib.rt:62:38
 add-get : tie.Need-add-get Inv-loop μ-loop
 add-get c = search needs
 
--- src/lib.rt:62:20
 get-requires-2 : tie.Need-get-requires-2 Inv-loop μ-loop
 get-requires-2 c κs = search needs
 
--- src/lib.rt:63:19
 add-end : tie.Need-add-end Inv-loop μ-loop
 add-end c =
     let l = c .before .before .before .loop .inv in
     let z = next-sizes (l .2) (c .before .before .loop-test .taken) in
     omega (arith, c .before .get .ensures .0, c .get2 .ensures .0)
 
--- src/lib.rt:64:33
 add-put-2 : tie.Need-add-put-2 Inv-loop μ-loop
 add-put-2 c =
     let l = c .before .before .before .before .loop .inv in
     let z = next-sizes (l .2) (c .before .before .before .loop-test .taken) in
     omega (arith, c .before .get2 .ensures .0)
 
--- src/lib.rt:64:9
 put-requires-2 : tie.Need-put-requires-2 Inv-loop μ-loop
 put-requires-2 c κs =
     let l = c .before .before .before .before .loop .inv in
     let z = next-sizes (l .2) (c .before .before .before .loop-test .taken) in
     omega (arith, c .before .before .before .before .before .before .before .before .before .before .before .before .pre .room, l .2 .same, ap length (c .before .before .before .before .before .before .before .put .ensures), length-put (c .before .before .before .before .before .before .before .before .before .before .before .before .args .out .now) 0 3 (0x30_0000 + c .before .before .before .before .before .before .before .before .before .before .before .before .args .total - 3))
 
--- src/lib.rt:65:26
 add-copy : tie.Need-add-copy Inv-loop μ-loop
 add-copy c =
     let l = c .before .before .before .before .before .before .before .before .loop .inv in
     let z = next-sizes (l .2) (c .before .before .before .before .before .before .before .loop-test .taken) in
     omega arith
 
--- src/lib.rt:65:34
 sub-copy : tie.Need-sub-copy Inv-loop μ-loop
 sub-copy c = search needs
 
--- src/lib.rt:65:34
 part-copy-start : tie.Need-part-copy-start Inv-loop μ-loop
 part-copy-start c = search needs
 
--- src/lib.rt:65:34
 part-copy-end : tie.Need-part-copy-end Inv-loop μ-loop
 part-copy-end c =
     let l = c .before .before .before .before .before .before .before .before .loop .inv in
     let z = next-sizes (l .2) (c .before .before .before .before .before .before .before .loop-test .taken) in
     omega (arith, c .before .before .before .before .before .before .get .ensures .0, c .before .before .before .before .before .get2 .ensures .0)
 
--- src/lib.rt:65:9
 copy-requires : tie.Need-copy-requires Inv-loop μ-loop
 copy-requires c κs =
     let l = c .before .before .before .before .before .before .before .before .before .loop .inv in
@@ -115,29 +93,24 @@ copy-requires c κs =
     let m : length (take ((o + n) - o) (drop o (a .bytes .now))) ≤ n = simp (length-take, length-drop) (omega arith) in
     omega (arith, c .before .before .before .before .before .before .before .before .before .before .before .before .before .before .before .before .before .pre .room, l .2 .same, ap length (c .before .before .before .before .before .before .before .before .before .before .before .before .put .ensures), length-put (a .out .now) 0 3 (0x30_0000 + a .total - 3), ap length (c .before .before .before .before .put2 .ensures), length-put (c .before .before .before .before .before .before .before .before .before .loop .out) (c .before .before .before .before .before .before .before .before .before .loop .at) 3 (0x31_0000 + n), c .before .before .before .before .before .before .get2 .ensures .0)
 
--- src/lib.rt:66:14
 add-at : tie.Need-add-at Inv-loop μ-loop
 add-at c =
     let l = c .before .before .before .before .before .before .before .before .before .before .before .before .loop .inv in
     let z = next-sizes (l .2) (c .before .before .before .before .before .before .before .before .before .before .before .loop-test .taken) in
     omega arith
 
--- src/lib.rt:66:14
 add-at-2 : tie.Need-add-at-2 Inv-loop μ-loop
 add-at-2 c =
     let l = c .before .before .before .before .before .before .before .before .before .before .before .before .loop .inv in
     let z = next-sizes (l .2) (c .before .before .before .before .before .before .before .before .before .before .before .loop-test .taken) in
     omega (arith, c .before .before .before .before .before .before .before .before .before .get2 .ensures .0)
 
--- src/lib.rt:67:9
 add-k : tie.Need-add-k Inv-loop μ-loop
 add-k c = search needs
 
--- src/lib.rt:60:5
 loop-less : tie.Need-loop-less Inv-loop μ-loop
 loop-less c = search needs
 
--- src/lib.rt:60:5
 loop-again : tie.Need-loop-again Inv-loop μ-loop
 loop-again c =
     let l = c .before .before .before .before .before .before .before .before .before .before .before .before .loop .inv in
@@ -145,13 +118,11 @@ loop-again c =
     let n = c .before .before .before .before .before .before .before .before .before .get2 .result in
     (omega arith, l .1, walk-next (l .2) (c .before .before .before .before .before .before .before .before .before .before .before .loop-test .taken) (c .before .before .before .before .before .before .before .before .before .before .get .ensures .0) (c .before .before .before .before .before .before .before .before .before .get2 .ensures .0) (let e : (o + n) - o ≡ n = omega arith in e) (c .before .before .before .before .before .before .before .put2 .ensures) (c .before .before .copy .ensures))
 
--- src/lib.rt:52:1
 same-length : tie.Need-same-length Inv-loop μ-loop
 same-length c =
     let a = c .before .before .before .before .before .before .before .before .before .args in
     c .before .loop .inv .2 .same ∙ ap length (c .before .before .before .before .put .ensures) ∙ length-put (a .out .now) 0 3 (0x30_0000 + a .total - 3)
 
--- src/lib.rt:52:1
 returns : tie.Need-returns Inv-loop μ-loop
 returns c =
     whole-written (c .before .before .before .before .before .before .before .before .before .pre) (c .before .before .before .before .put .ensures) (walk-ends (c .before .loop .inv .2) (c .loop-test .left))

@@ -1,6 +1,8 @@
+-- `envelope::read_item` and `envelope::read_items`, which call each other, meet their contracts. The measures are twice the length of
+-- what is left, and one more for a list of items. The loop's invariant: the messages so far and those left are all. Assumes nothing.
 use borrow.Author.Needs.{needs}
 use Prim.Native.Nat.{ℕ, suc, _<_, _≤_, _+_, _*_, _-_}
-use mathlib.Core.Path.{_≡_, refl, sym, ap, _∙_}
+use mathlib.Core.Path.{_≡_, refl}
 use native.Mathlib.Omega.{arith}
 use lib.ListN.{length, take, drop, length-take, length-drop}
 use Rattle.envelope.specs.Reading.{inside}
@@ -40,7 +42,6 @@ abbrev read-items-below : ℕ → In 1 read-items-kinds.ps
 read-items-below t =
     and 1 read-items-kinds.ps (falls 1 read-items-kinds.ps _<_ μ-read-items t) read-items.Pre
 
--- src/lib.rt:36:9
 read-item-returns : (t : ℕ) → read-item-lts.Need-returns (
   get-reads.Asked,
   get-reads.Learnt,
@@ -51,7 +52,6 @@ read-item-returns : (t : ℕ) → read-item-lts.Need-returns (
 ) (read-item-at t) read-item.Post
 read-item-returns t c = first-cut _ _ (let h = c .if1 .taken in omega arith)
 
--- src/lib.rt:38:16
 read-item-get-requires : (t : ℕ) → read-item-lts.Need-get-requires (
   get-reads.Asked,
   get-reads.Learnt,
@@ -62,7 +62,6 @@ read-item-get-requires : (t : ℕ) → read-item-lts.Need-get-requires (
 ) (read-item-at t) read-item.Post
 read-item-get-requires t c κs = search needs
 
--- src/lib.rt:39:8
 read-item-sub-if2 : (t : ℕ) → read-item-lts.Need-sub-if2 (
   get-reads.Asked,
   get-reads.Learnt,
@@ -73,7 +72,6 @@ read-item-sub-if2 : (t : ℕ) → read-item-lts.Need-sub-if2 (
 ) (read-item-at t) read-item.Post
 read-item-sub-if2 t c = search needs
 
--- src/lib.rt:40:9
 read-item-returns-2 : (t : ℕ) → read-item-lts.Need-returns-2 (
   get-reads.Asked,
   get-reads.Learnt,
@@ -84,7 +82,6 @@ read-item-returns-2 : (t : ℕ) → read-item-lts.Need-returns-2 (
 ) (read-item-at t) read-item.Post
 read-item-returns-2 t c = first-cut _ _ (let h = c .if2 .taken in let n = c .before .get .ensures .0 in omega arith)
 
--- src/lib.rt:42:15
 read-item-add-end : (t : ℕ) → read-item-lts.Need-add-end (
   get-reads.Asked,
   get-reads.Learnt,
@@ -95,7 +92,6 @@ read-item-add-end : (t : ℕ) → read-item-lts.Need-add-end (
 ) (read-item-at t) read-item.Post
 read-item-add-end t c = search needs
 
--- src/lib.rt:43:15
 read-item-shared-slice-read-tag : (t : ℕ) → read-item-lts.Need-shared-slice-read-tag (
   get-reads.Asked,
   get-reads.Learnt,
@@ -106,7 +102,6 @@ read-item-shared-slice-read-tag : (t : ℕ) → read-item-lts.Need-shared-slice-
 ) (read-item-at t) read-item.Post
 read-item-shared-slice-read-tag t c = search needs
 
--- src/lib.rt:45:31
 read-item-sub-is-readable : (t : ℕ) → read-item-lts.Need-sub-is-readable (
   get-reads.Asked,
   get-reads.Learnt,
@@ -117,7 +112,6 @@ read-item-sub-is-readable : (t : ℕ) → read-item-lts.Need-sub-is-readable (
 ) (read-item-at t) read-item.Post
 read-item-sub-is-readable t c = search needs
 
--- src/lib.rt:45:31
 read-item-part-is-readable-start : (t : ℕ) → read-item-lts.Need-part-is-readable-start (
   get-reads.Asked,
   get-reads.Learnt,
@@ -128,7 +122,6 @@ read-item-part-is-readable-start : (t : ℕ) → read-item-lts.Need-part-is-read
 ) (read-item-at t) read-item.Post
 read-item-part-is-readable-start t c = search needs
 
--- src/lib.rt:45:31
 read-item-part-is-readable-end : (t : ℕ) → read-item-lts.Need-part-is-readable-end (
   get-reads.Asked,
   get-reads.Learnt,
@@ -139,7 +132,6 @@ read-item-part-is-readable-end : (t : ℕ) → read-item-lts.Need-part-is-readab
 ) (read-item-at t) read-item.Post
 read-item-part-is-readable-end t c = search needs
 
--- src/lib.rt:45:12
 read-item-is-readable-requires : (t : ℕ) → read-item-lts.Need-is-readable-requires (
   get-reads.Asked,
   get-reads.Learnt,
@@ -150,7 +142,6 @@ read-item-is-readable-requires : (t : ℕ) → read-item-lts.Need-is-readable-re
 ) (read-item-at t) read-item.Post
 read-item-is-readable-requires t c κs = search needs
 
--- src/lib.rt:46:13
 read-item-returns-3 : (t : ℕ) → read-item-lts.Need-returns-3 (
   get-reads.Asked,
   get-reads.Learnt,
@@ -162,7 +153,6 @@ read-item-returns-3 : (t : ℕ) → read-item-lts.Need-returns-3 (
 read-item-returns-3 t c =
     first-message _ _ (c .before .before .before .before .before .before .get .ensures .0) (let h = c .before .before .before .before .before .if2 .left in omega arith) (let e : (3 + c .before .before .before .before .before .before .get .result) - 3 ≡ c .before .before .before .before .before .before .get .result = omega arith in e) (c .before .is-readable .ensures) (c .before .before .before .if3 .taken) (c .if4 .taken)
 
--- src/lib.rt:51:9
 read-item-returns-4 : (t : ℕ) → read-item-lts.Need-returns-4 (
   get-reads.Asked,
   get-reads.Learnt,
@@ -174,7 +164,6 @@ read-item-returns-4 : (t : ℕ) → read-item-lts.Need-returns-4 (
 read-item-returns-4 t c =
     first-unreadable _ _ (c .before .before .before .before .before .before .get .ensures .0) (let h = c .before .before .before .before .before .if2 .left in omega arith) (let e : (3 + c .before .before .before .before .before .before .get .result) - 3 ≡ c .before .before .before .before .before .before .get .result = omega arith in e) (c .before .is-readable .ensures) (c .before .before .before .if3 .taken) (c .if4 .left)
 
--- src/lib.rt:54:9
 read-item-returns-5 : (t : ℕ) → read-item-lts.Need-returns-5 (
   get-reads.Asked,
   get-reads.Learnt,
@@ -186,7 +175,6 @@ read-item-returns-5 : (t : ℕ) → read-item-lts.Need-returns-5 (
 read-item-returns-5 t c =
     first-stray _ _ (c .before .before .before .before .get .ensures .0) (let h = c .before .before .before .if2 .left in omega arith) (c .before .if3 .left) (c .if5 .taken)
 
--- src/lib.rt:57:9
 read-item-returns-6 : (t : ℕ) → read-item-lts.Need-returns-6 (
   get-reads.Asked,
   get-reads.Learnt,
@@ -198,7 +186,6 @@ read-item-returns-6 : (t : ℕ) → read-item-lts.Need-returns-6 (
 read-item-returns-6 t c =
     first-deep _ _ (c .before .before .before .before .before .get .ensures .0) (let h = c .before .before .before .before .if2 .left in omega arith) (c .before .if5 .left) (c .if6 .taken)
 
--- src/lib.rt:59:40
 read-item-sub-read-items : (t : ℕ) → read-item-lts.Need-sub-read-items (
   get-reads.Asked,
   get-reads.Learnt,
@@ -209,7 +196,6 @@ read-item-sub-read-items : (t : ℕ) → read-item-lts.Need-sub-read-items (
 ) (read-item-at t) read-item.Post
 read-item-sub-read-items t c = search needs
 
--- src/lib.rt:59:40
 read-item-part-read-items-start : (t : ℕ) → read-item-lts.Need-part-read-items-start (
   get-reads.Asked,
   get-reads.Learnt,
@@ -220,7 +206,6 @@ read-item-part-read-items-start : (t : ℕ) → read-item-lts.Need-part-read-ite
 ) (read-item-at t) read-item.Post
 read-item-part-read-items-start t c = search needs
 
--- src/lib.rt:59:40
 read-item-part-read-items-end : (t : ℕ) → read-item-lts.Need-part-read-items-end (
   get-reads.Asked,
   get-reads.Learnt,
@@ -231,7 +216,6 @@ read-item-part-read-items-end : (t : ℕ) → read-item-lts.Need-part-read-items
 ) (read-item-at t) read-item.Post
 read-item-part-read-items-end t c = search needs
 
--- src/lib.rt:59:52
 read-item-sub-read-items-2 : (t : ℕ) → read-item-lts.Need-sub-read-items-2 (
   get-reads.Asked,
   get-reads.Learnt,
@@ -242,7 +226,6 @@ read-item-sub-read-items-2 : (t : ℕ) → read-item-lts.Need-sub-read-items-2 (
 ) (read-item-at t) read-item.Post
 read-item-sub-read-items-2 t c = search needs
 
--- src/lib.rt:59:29
 read-item-read-items-requires : (t : ℕ) → read-item-lts.Need-read-items-requires (
   get-reads.Asked,
   get-reads.Learnt,
@@ -256,7 +239,6 @@ read-item-read-items-requires t c κs =
     let n : length (take ((3 + c .before .before .before .before .before .before .get .result) - 3) (drop 3 s)) ≡ c .before .before .before .before .before .before .get .result = simp (length-take, length-drop) (let h = c .before .before .before .before .before .if2 .left in omega arith) in
     (let e = c .before .before .before .before .before .before .before .before .before .pre .0 in let h = c .before .before .before .before .before .if2 .left in omega arith, tt)
 
--- src/lib.rt:59:20
 read-item-enum-known-count : (t : ℕ) → read-item-lts.Need-enum-known-count (
   get-reads.Asked,
   get-reads.Learnt,
@@ -267,7 +249,6 @@ read-item-enum-known-count : (t : ℕ) → read-item-lts.Need-enum-known-count (
 ) (read-item-at t) read-item.Post
 read-item-enum-known-count t c = search needs
 
--- src/lib.rt:60:9
 read-item-enum-told : (t : ℕ) → read-item-lts.Need-enum-told (
   get-reads.Asked,
   get-reads.Learnt,
@@ -278,7 +259,6 @@ read-item-enum-told : (t : ℕ) → read-item-lts.Need-enum-told (
 ) (read-item-at t) read-item.Post
 read-item-enum-told t c = search needs
 
--- src/lib.rt:60:9
 read-item-returns-7 : (t : ℕ) → read-item-lts.Need-returns-7 (
   get-reads.Asked,
   get-reads.Learnt,
@@ -290,7 +270,6 @@ read-item-returns-7 : (t : ℕ) → read-item-lts.Need-returns-7 (
 read-item-returns-7 t c =
     first-broken _ _ (c .before .before .before .before .before .before .before .before .before .get .ensures .0) (let h = c .before .before .before .before .before .before .before .before .if2 .left in omega arith) (let e : (3 + c .before .before .before .before .before .before .before .before .before .get .result) - 3 ≡ c .before .before .before .before .before .before .before .before .before .get .result = omega arith in e) (c .before .before .before .before .before .if5 .left) (let h = c .before .before .before .before .if6 .left in omega arith) (c .before .before .read-items .ensures) (c .enum-told .given .1)
 
--- src/lib.rt:32:1
 read-item-returns-8 : (t : ℕ) → read-item-lts.Need-returns-8 (
   get-reads.Asked,
   get-reads.Learnt,
@@ -309,35 +288,30 @@ read-items-Inv-loop s depth at₀ messages₀ at messages =
 abbrev read-items-μ-loop : read-items-lts.MeasureT-loop
 read-items-μ-loop s depth at₀ messages₀ at messages = length s - at
 
--- src/lib.rt:71:5
 read-items-loop-holds : (t : ℕ) → read-items-lts.Need-loop-holds (
   read-item-below t,
   read-item.Post,
 ) (read-items-at t) read-items.Post read-items-Inv-loop read-items-μ-loop
 read-items-loop-holds t c = (omega arith, omega arith, count-starts _)
 
--- src/lib.rt:72:52
 read-items-sub-read-item : (t : ℕ) → read-items-lts.Need-sub-read-item (
   read-item-below t,
   read-item.Post,
 ) (read-items-at t) read-items.Post read-items-Inv-loop read-items-μ-loop
 read-items-sub-read-item t c = search needs
 
--- src/lib.rt:72:52
 read-items-part-read-item-start : (t : ℕ) → read-items-lts.Need-part-read-item-start (
   read-item-below t,
   read-item.Post,
 ) (read-items-at t) read-items.Post read-items-Inv-loop read-items-μ-loop
 read-items-part-read-item-start t c = search needs
 
--- src/lib.rt:72:52
 read-items-part-read-item-end : (t : ℕ) → read-items-lts.Need-part-read-item-end (
   read-item-below t,
   read-item.Post,
 ) (read-items-at t) read-items.Post read-items-Inv-loop read-items-μ-loop
 read-items-part-read-item-end t c = search needs
 
--- src/lib.rt:72:42
 read-items-read-item-requires : (t : ℕ) → read-items-lts.Need-read-item-requires (
   read-item-below t,
   read-item.Post,
@@ -346,14 +320,12 @@ read-items-read-item-requires t c κs =
     let n : length (take (length (c .before .before .before .before .args .s .now) - c .before .before .loop .at) (drop (c .before .before .loop .at) (c .before .before .before .before .args .s .now))) ≤ length (c .before .before .before .before .args .s .now) = simp (length-take, length-drop) (omega arith) in
     (let e = c .before .before .before .before .pre .0 in omega arith, tt)
 
--- src/lib.rt:72:26
 read-items-enum-known-size : (t : ℕ) → read-items-lts.Need-enum-known-size (
   read-item-below t,
   read-item.Post,
 ) (read-items-at t) read-items.Post read-items-Inv-loop read-items-μ-loop
 read-items-enum-known-size t c = search needs
 
--- src/lib.rt:73:13
 read-items-enum-told :
     (t : ℕ) →
     read-items-lts.Need-enum-told
@@ -364,7 +336,6 @@ read-items-enum-told :
     read-items-μ-loop
 read-items-enum-told t c = search needs
 
--- src/lib.rt:73:13
 read-items-returns :
     (t : ℕ) →
     read-items-lts.Need-returns
@@ -376,7 +347,6 @@ read-items-returns :
 read-items-returns t c =
     items-bad _ _ _ _ (c .before .before .before .before .before .loop .inv .2) (c .before .before .before .before .loop-test .taken) refl (c .before .before .read-item .ensures) (c .enum-told .given .1)
 
--- src/lib.rt:75:9
 read-items-add-at :
     (t : ℕ) →
     read-items-lts.Need-add-at
@@ -389,7 +359,6 @@ read-items-add-at t c =
     let w = item-within _ _ _ _ (c .before .before .before .before .before .before .loop .inv .2) (c .before .before .before .before .before .loop-test .taken) refl (c .before .before .before .read-item .ensures) (c .before .size .given .1) in
     omega arith
 
--- src/lib.rt:76:9
 read-items-add-messages : (t : ℕ) → read-items-lts.Need-add-messages (
   read-item-below t,
   read-item.Post,
@@ -398,7 +367,6 @@ read-items-add-messages t c =
     let w = item-within _ _ _ _ (c .before .before .before .before .before .before .loop .inv .2) (c .before .before .before .before .before .loop-test .taken) refl (c .before .before .before .read-item .ensures) (c .before .size .given .1) in
     omega arith
 
--- src/lib.rt:71:5
 read-items-loop-less :
     (t : ℕ) →
     read-items-lts.Need-loop-less
@@ -412,7 +380,6 @@ read-items-loop-less t c =
     let h = c .before .before .before .before .before .loop-test .taken in
     omega arith
 
--- src/lib.rt:71:5
 read-items-loop-again : (t : ℕ) → read-items-lts.Need-loop-again (
   read-item-below t,
   read-item.Post,
@@ -421,7 +388,6 @@ read-items-loop-again t c =
     let w = item-within _ _ _ _ (c .before .before .before .before .before .before .loop .inv .2) (c .before .before .before .before .before .loop-test .taken) refl (c .before .before .before .read-item .ensures) (c .before .size .given .1) in
     (omega arith, omega arith, items-next _ _ _ _ (c .before .before .before .before .before .before .loop .inv .2) (c .before .before .before .before .before .loop-test .taken) refl (c .before .before .before .read-item .ensures) (c .before .size .given .1))
 
--- src/lib.rt:66:1
 read-items-returns-2 :
     (t : ℕ) →
     read-items-lts.Need-returns-2

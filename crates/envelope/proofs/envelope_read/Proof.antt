@@ -3,51 +3,36 @@ use Rattle.envelope.proofs.Answers.{list-short, not-envelope, is-envelo
 use borrow.Author.Needs.{needs}
 use Rattle.envelope.proofs.envelope_read.Statement.{statement}
 use Rattle.envelope.proofs.envelope_read.Tie as tie
-use Rattle.envelope.proofs.envelope_read.Reads as reads
-use Rattle.envelope.proofs.envelope_read.Lts as lts
-use Rattle.envelope.proofs.list_messages.Reads as list-messages-reads
-use Rattle.envelope.proofs.read_envelope.Reads as read-envelope-reads
-use Rattle.slots.proofs.refuse.Reads as refuse-reads
 
--- src/lib.rt:131:9
 refuse-requires : tie.Need-refuse-requires
 refuse-requires c κs = search needs
 
--- src/lib.rt:131:9
 returns : tie.Need-returns
 returns c = list-short _ _ (c .before .if1 .taken) (c .refuse .ensures)
 
--- src/lib.rt:133:29
 read-envelope-requires : tie.Need-read-envelope-requires
 read-envelope-requires c κs = search needs
 
--- src/lib.rt:133:20
 enum-known-count : tie.Need-enum-known-count
 enum-known-count c = search needs
 
--- src/lib.rt:134:9
 enum-told : tie.Need-enum-told
 enum-told c = search needs
 
--- src/lib.rt:134:9
 refuse-requires-2 : tie.Need-refuse-requires-2
 refuse-requires-2 c κs = search needs
 
--- src/lib.rt:134:9
 returns-2 : tie.Need-returns-2
 returns-2 c =
     not-envelope _ _ (c .before .before .before .before .if1 .left) (c .before .before .before .read-envelope .ensures) (c .before .enum-told .given .1) (c .refuse2 .ensures)
 
--- src/lib.rt:136:5
 list-messages-requires : tie.Need-list-messages-requires
 list-messages-requires c κs =
     (is-envelope _ (c .before .before .before .before .before .before .before .before .args .list .now) (c .before .before .before .before .before .if1 .left) (c .before .before .before .before .read-envelope .ensures) (c .before .before .count .given .1), c .before .before .before .before .before .if1 .left)
 
--- src/lib.rt:126:1
 same-length : tie.Need-same-length
 same-length c = search needs
 
--- src/lib.rt:126:1
 returns-3 : tie.Need-returns-3
 returns-3 c =
     listed-all _ _ (c .before .before .before .before .before .before .before .before .if1 .left) (c .before .before .before .before .before .before .before .read-envelope .ensures) (c .before .before .before .before .before .count .given .1) (c .before .before .list-messages .ensures)

@@ -5,36 +5,25 @@ use Rattle.envelope.proofs.Answers.{read-long, read-other, read-cut, re
 use borrow.Author.Needs.{needs}
 use Rattle.envelope.proofs.read_envelope.Statement.{statement}
 use Rattle.envelope.proofs.read_envelope.Tie as tie
-use Rattle.envelope.proofs.read_envelope.Reads as reads
-use Rattle.envelope.proofs.read_envelope.Lts as lts
-use Rattle.envelope.proofs.read_items.Reads as read-items-reads
-use Rattle.fields.proofs.get.Reads as get-reads
 
--- src/lib.rt:89:9
 returns : tie.Need-returns
 returns c = read-long _ (c .if1 .taken)
 
--- src/lib.rt:92:9
 returns-2 : tie.Need-returns-2
 returns-2 c = read-cut _ (c .before .if1 .left) (let h = c .if2 .taken in λ e. omega arith)
 
--- src/lib.rt:94:8
 shared-slice-read-if3 : tie.Need-shared-slice-read-if3
 shared-slice-read-if3 c = search needs
 
--- src/lib.rt:95:9
 returns-3 : tie.Need-returns-3
 returns-3 c = read-other _ (c .before .before .before .if1 .left) (c .if3 .taken)
 
--- src/lib.rt:97:16
 get-requires : tie.Need-get-requires
 get-requires c κs = search needs
 
--- src/lib.rt:98:8
 sub-if4 : tie.Need-sub-if4
 sub-if4 c = search needs
 
--- src/lib.rt:99:9
 returns-4 : tie.Need-returns-4
 returns-4 c =
     let d = c .if4 .taken in
@@ -42,27 +31,21 @@ returns-4 c =
     let h = c .before .before .before .before .if2 .left in
     read-cut _ (c .before .before .before .before .before .if1 .left) (λ e. d (omega arith))
 
--- src/lib.rt:101:16
 sub-read-items : tie.Need-sub-read-items
 sub-read-items c = search needs
 
--- src/lib.rt:101:16
 part-read-items-start : tie.Need-part-read-items-start
 part-read-items-start c = search needs
 
--- src/lib.rt:101:16
 part-read-items-end : tie.Need-part-read-items-end
 part-read-items-end c = search needs
 
--- src/lib.rt:101:25
 sub-read-items-2 : tie.Need-sub-read-items-2
 sub-read-items-2 c = search needs
 
--- src/lib.rt:101:5
 read-items-requires : tie.Need-read-items-requires
 read-items-requires c κs = search needs
 
--- src/lib.rt:85:1
 returns-5 : tie.Need-returns-5
 returns-5 c =
     let n = c .before .before .before .get .ensures .0 in
