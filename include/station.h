@@ -20,6 +20,7 @@
  *   11  message more than one view ahead of the view held or last quit                       nothing changes
  *   12  vote that would open a tally, by an author who has opened 16                         nothing changes
  *   13  journal: no slot left, no input, or a slot that stops a replay                       see the journal's calls
+ *   14  envelope: no good one, or one that can't be made                                     nothing changes
  *
  * Order: 1, 2, 3, then 4, 5, 11, 12, 6 for messages; 9, 6 for offers; 8, 7, 6 for ticks. A fresh store: 1, then 10. The display:
  * 1, then 2.
@@ -46,6 +47,10 @@
 /* The length of a journal's slot, and the least length of a replay's report for so many slots. */
 #define JOURNAL_SLOT_LENGTH 128
 #define JOURNAL_REPORT_LENGTH(slots) (12 + 4 * (size_t)(slots))
+
+/* The most bytes of a relay envelope, which is the least length of the buffer for one, and the least length of its list. */
+#define ENVELOPE_MOST_BYTES 8192
+#define ENVELOPE_LIST_LENGTH 4096
 
 #define STATION_REFUSAL(result) ((uint32_t)((uint64_t)(result) >> 32))
 #define STATION_COUNT(result) ((uint32_t)(result))
@@ -96,6 +101,20 @@ uint64_t station_display(const uint8_t *store, size_t store_len, uint8_t *out, s
  * message, from the height field to the end. Nothing is written, and nothing is refused: with any other kind, or an n
  * that isn't good, nothing is allowed. */
 uint64_t status_choose(uint64_t kind, uint64_t n, const uint8_t *first, size_t first_len, const uint8_t *second, size_t second_len);
+
+/* Relay envelopes (docs/WIRE.md), which bundle messages on a shared link: tag 30 (hex) with items, each a message in tag 31 or
+ * another envelope, to depth 4 and 8,192 bytes in all. A list has 8 bytes for each message, its offset (4) and its length (4),
+ * big-endian. */
+
+/* Lists the messages inside an envelope, left to right, by their places in it; none is copied. Done: the count is the number of
+ * messages, and 8 bytes of the list have changed for each. Refusal 1 for a list below ENVELOPE_LIST_LENGTH; 14, with nothing
+ * listed, for bytes that are no envelope to the last one. */
+uint64_t envelope_read(const uint8_t *envelope, size_t envelope_len, uint8_t *list, size_t list_len);
+
+/* Writes the messages at the listed places of some bytes as one flat envelope; places may repeat and overlap. Done: the count is
+ * the envelope's length. Refusal 1 for a list whose length isn't a multiple of 8, or an out buffer below ENVELOPE_MOST_BYTES; 14,
+ * with nothing written, for a place outside the bytes, one without a readable message, or more than 8,192 bytes in all. */
+uint64_t envelope_write(const uint8_t *bytes, size_t bytes_len, const uint8_t *list, size_t list_len, uint8_t *out, size_t out_len);
 
 #ifdef __cplusplus
 }

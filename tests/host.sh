@@ -27,5 +27,6 @@ echo "both examples do as docs/HOST.md says"
 "$built/compare"
 "$built/simulate" --many 300
 "$built/simulate" --large --many 20
+"$built/simulate" --envelopes --many 20
 "$built/simulate" --svg "$place/group.svg"
 cmp "$place/group.svg" docs/group.svg

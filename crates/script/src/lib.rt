@@ -3,6 +3,7 @@ use crate::stored::Store;
 use libc::STDIN_FILENO;
 
 mod play;
+mod relay;
 mod sent;
 mod show;
 mod spell;

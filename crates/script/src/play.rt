@@ -63,7 +63,7 @@ fn fresh(store: &mut Store, number: u64, n: u64, delay: u64, own: u64) {
 }
 
 // A message is handed over.
-fn message(store: &mut Store, number: u64, message: &[u8]) {
+pub fn message(store: &mut Store, number: u64, message: &[u8]) {
     let mut out = show::out_buffer();
     let answer = station::station_step(store, message, &mut out);
     answered(number, b"message", answer, &out);

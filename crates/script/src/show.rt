@@ -59,6 +59,7 @@ pub fn reason(page: &mut Page, at: usize, refusal: u64) -> usize {
             at,
             b" the vote's author has opened as many tallies as one may\n",
         ),
+        14 => page::say(page, at, b" no good envelope\n"),
         _ => page::say(page, at, b"\n"),
     }
 }

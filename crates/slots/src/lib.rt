@@ -29,7 +29,7 @@ pub enum Slot {
 }
 
 // Whether some bytes are a message.
-fn is_readable(input: &[u8]) -> bool
+pub fn is_readable(input: &[u8]) -> bool
     ensures { λ r. ⌜ r ≡ isReadable (now (input .entry)) ⌝ }
 {
     let Read::Readable(_) = wire::read_message(input) else {
@@ -58,7 +58,7 @@ pub fn is_input(kind: u64, input: &[u8]) -> bool
 }
 
 // Copies bytes to a place.
-fn copy(slot: &mut [u8], at: usize, input: &[u8])
+pub fn copy(slot: &mut [u8], at: usize, input: &[u8])
     requires { ⌜ at + length (now input) ≤ length (now slot) ⌝ }
     ensures { λ _. ⌜ now (slot .exit) ≡ wrote (now (slot .entry)) at (now (input .entry)) ⌝ }
 {

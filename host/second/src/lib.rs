@@ -4,11 +4,12 @@
 //!
 //! `settings` has the limits, `words` the records, `wire` the messages, `station` what a message and
 //! an offer do, `tick` what a tick does, `display` what the wall display shows,
-//! `report` chooses between two reports, `journal` keeps inputs through power cuts. `replay` reads recorded runs, `scripts` makes new ones.
+//! `report` chooses between two reports, `journal` keeps inputs through power cuts, `envelope` bundles messages. `replay` reads recorded runs, `scripts` makes new ones.
 
 #![forbid(unsafe_code)]
 
 mod display;
+pub mod envelope;
 pub mod journal;
 pub mod random;
 pub mod refusal;

@@ -3,6 +3,7 @@
 //! which is before the tick to s+D+1.
 
 use crate::fault::{Fault, Faulty};
+use crate::link;
 use crate::trace::Trace;
 use crate::watch::{Breach, Watch};
 use crate::wild;
@@ -114,6 +115,8 @@ pub struct Group<P> {
     names: u32,
     /// The view in which each station last proposed, and how often.
     proposed: Vec<(u32, u32)>,
+    /// How many relay envelopes the letters travelled in, if they do.
+    pub envelopes: Option<u64>,
     pub watch: Watch,
     pub trace: Trace,
 }
@@ -131,10 +134,16 @@ impl<P: Program> Group<P> {
             random: Random::new(plan.seed),
             names: 0,
             proposed: vec![(0, 0); plan.n.into()],
+            envelopes: None,
             watch: Watch::new(plan.clone()),
             trace: Trace::new(plan.clone()),
             plan,
         }
+    }
+
+    /// The same group, whose letters travel in relay envelopes.
+    pub fn in_envelopes(self) -> Group<P> {
+        Group { envelopes: Some(0), ..self }
     }
 
     /// Runs to a clock; or until demand 3 is broken, or a station has no room.
@@ -260,6 +269,12 @@ impl<P: Program> Group<P> {
         for letter in &letters {
             self.watch.sent(letter)?;
         }
+        let Some(count) = &mut self.envelopes else {
+            self.post.extend(letters);
+            return Ok(());
+        };
+        let (letters, envelopes) = link::carried(letters, self.plan.n);
+        *count += envelopes;
         self.post.extend(letters);
         Ok(())
     }

@@ -2,7 +2,7 @@
 //! and faulty stations that send what the two premises allow. Demand 3 is checked as it goes, and
 //! what happened can be drawn.
 //!
-//! `group` runs the schedule, `fault` and `wild` are the faulty stations, `watch` checks, `trace` keeps
+//! `group` runs the schedule, `fault` and `wild` are the faulty stations, `link` bundles letters, `watch` checks, `trace` keeps
 //! what happened, `story` says why one commit is safe, `picture` draws.
 
 #![forbid(unsafe_code)]
@@ -10,6 +10,7 @@
 mod canvas;
 pub mod fault;
 pub mod group;
+mod link;
 pub mod picture;
 pub mod story;
 pub mod trace;

@@ -1,11 +1,12 @@
 //! Runs a group of stations and draws what happened, or runs many groups and only checks:
 //!
-//!     simulate [--large] [--n N] [--d D] [--leaders KIND,KIND..] [--ticks T] [--seed SEED] [--program NAME] [--svg FILE]
-//!     simulate [--large] --many RUNS [--seed SEED] [--program NAME]
+//!     simulate [--large] [--envelopes] [--n N] [--d D] [--leaders KIND,KIND..] [--ticks T] [--seed SEED] [--program NAME] [--svg FILE]
+//!     simulate [--large] [--envelopes] --many RUNS [--seed SEED] [--program NAME]
 //!
 //! The kinds are those of stations 1, 2, ..: sound, silent, equivocating, late, splitting, planting, rude,
-//! wild. The program is `proved` or `second`. With `--large` every station has the large limits. The exit is 0
-//! exactly when demand 3 held.
+//! wild. The program is `proved` or `second`. With `--large` every station has the large limits; with
+//! `--envelopes` the letters travel in relay envelopes, which changes nothing of a run. The exit is 0 exactly when
+//! demand 3 held.
 
 use programs::{Program, Proved, Second};
 use second::random::Random;
@@ -26,6 +27,7 @@ struct Asked {
     program: String,
     svg: Option<String>,
     many: Option<u64>,
+    envelopes: bool,
 }
 
 fn main() -> ExitCode {
@@ -46,11 +48,16 @@ fn asked() -> Result<Asked, String> {
     let seed = SystemTime::UNIX_EPOCH.elapsed().map_or(1, |time| time.as_secs());
     let (leaders, program) = ("late,planting,silent".into(), "proved".into());
     let (size, svg, many) = (Size::Small, None, None);
-    let mut asked = Asked { size, n: 7, d: 2, leaders, ticks: 88, seed, program, svg, many };
+    let (n, d, ticks, envelopes) = (7, 2, 88, false);
+    let mut asked = Asked { size, n, d, leaders, ticks, seed, program, svg, many, envelopes };
     let mut words = std::env::args().skip(1);
     while let Some(word) = words.next() {
         if word == "--large" {
             asked.size = Size::Large;
+            continue;
+        }
+        if word == "--envelopes" {
+            asked.envelopes = true;
             continue;
         }
         let value = words.next().ok_or(format!("{word} needs a value"))?;
@@ -72,8 +79,21 @@ fn asked() -> Result<Asked, String> {
 
 fn run<P: Program>(asked: &Asked) -> Result<(), String> {
     match asked.many {
-        Some(runs) => many::<P>(asked.size, runs, asked.seed),
+        Some(runs) => many::<P>(asked, runs),
         None => one::<P>(asked),
+    }
+}
+
+/// A group whose letters travel as is asked.
+fn group<P: Program>(asked: &Asked, plan: Plan) -> Group<P> {
+    let group = Group::new(plan);
+    if asked.envelopes { group.in_envelopes() } else { group }
+}
+
+/// Says how many envelopes letters travelled in, if they did.
+fn tell_envelopes(asked: &Asked, envelopes: u64) {
+    if asked.envelopes {
+        println!("letters travelled in {envelopes} envelopes");
     }
 }
 
@@ -94,7 +114,7 @@ fn one<P: Program>(asked: &Asked) -> Result<(), String> {
     let (size, n, d, seed) = (asked.size, asked.n, asked.d, asked.seed);
     let (delays, lateness, names) = (Delays::Longest, 3, u32::MAX);
     let plan = Plan { size, n, d, faults, delays, lateness, names, seed };
-    let mut group = Group::<P>::new(plan);
+    let mut group = group::<P>(asked, plan);
     let outcome = group.run_to(asked.ticks);
     if let Some(path) = &asked.svg {
         std::fs::write(path, picture::draw(&group.trace)).map_err(|e| format!("{path}: {e}"))?;
@@ -110,19 +130,22 @@ fn one<P: Program>(asked: &Asked) -> Result<(), String> {
         group.watch.log().len(),
         group.watch.commits
     );
+    tell_envelopes(asked, group.envelopes.unwrap_or(0));
     Ok(())
 }
 
 /// Many groups with settings, faults and delays of a seed.
-fn many<P: Program>(size: Size, runs: u64, seed: u64) -> Result<(), String> {
+fn many<P: Program>(asked: &Asked, runs: u64) -> Result<(), String> {
+    let (size, seed) = (asked.size, asked.seed);
     println!("seed {seed}");
     let mut random = Random::new(seed);
     let (mut commits, mut quits, mut ahead, mut used_up) = (0, 0, 0, 0);
     let (mut calls, mut full, mut overtaken) = (0, 0, 0);
+    let mut envelopes = 0;
     for run in 1..=runs {
         let (plan, ticks) = random_plan(size, &mut random);
         let shown = format!("{plan:?}");
-        let mut group = Group::<P>::new(plan);
+        let mut group = group::<P>(asked, plan);
         match group.run_to(ticks) {
             Ok(()) => {}
             Err(Breach::Full) => full += 1,
@@ -134,11 +157,13 @@ fn many<P: Program>(size: Size, runs: u64, seed: u64) -> Result<(), String> {
         ahead += group.watch.ahead;
         used_up += group.watch.used_up;
         calls += group.watch.calls;
+        envelopes += group.envelopes.unwrap_or(0);
     }
     println!(
         "{} program, {runs} groups of size {size:?} ({full} until a store was full, {overtaken} until a sound vote got 12): {calls} calls, {quits} quits, {commits} commits, {ahead} refusals of messages too far ahead and {used_up} of votes with 12 by sound stations, demand 3 held",
         P::TITLE
     );
+    tell_envelopes(asked, envelopes);
     Ok(())
 }
 

@@ -101,6 +101,22 @@ fn both_programs_run_alike() {
     }
 }
 
+/// Letters that travel in relay envelopes make the same run.
+#[test]
+fn envelopes_change_nothing() {
+    for (seed, fault) in (0..).zip(Fault::ALL) {
+        let plan = plan(5, 2, &[Fault::Wild, fault], Delays::Any, seed);
+        let mut plain = Group::<Proved>::new(plan.clone());
+        let mut bundled = Group::<Proved>::new(plan).in_envelopes();
+        assert_eq!(plain.run_to(150), bundled.run_to(150));
+        assert_eq!(plain.trace.marks, bundled.trace.marks);
+        assert_eq!(plain.watch.log(), bundled.watch.log());
+        assert_eq!(plain.watch.calls, bundled.watch.calls);
+        assert_eq!(plain.envelopes, None);
+        assert!(bundled.envelopes > Some(100));
+    }
+}
+
 /// The second program, told another D, or saying nothing of what it commits.
 struct Wrong<const HASTY: bool>(Second);
 

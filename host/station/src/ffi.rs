@@ -66,6 +66,20 @@ mod declared {
             report: *mut u8,
             report_len: usize,
         ) -> u64;
+        pub fn envelope_read(
+            envelope: *const u8,
+            envelope_len: usize,
+            list: *mut u8,
+            list_len: usize,
+        ) -> u64;
+        pub fn envelope_write(
+            bytes: *const u8,
+            bytes_len: usize,
+            list: *const u8,
+            list_len: usize,
+            out: *mut u8,
+            out_len: usize,
+        ) -> u64;
     }
 }
 
@@ -162,6 +176,27 @@ pub fn journal_replay(journal: &[u8], store: &mut [u8], out: &mut [u8], report: 
             out.len(),
             report.as_mut_ptr(),
             report.len(),
+        )
+    }
+}
+
+/// The places of an envelope's messages into a list, 8 bytes each. Count: the messages.
+pub fn envelope_read(envelope: &[u8], list: &mut [u8]) -> u64 {
+    unsafe {
+        declared::envelope_read(envelope.as_ptr(), envelope.len(), list.as_mut_ptr(), list.len())
+    }
+}
+
+/// The messages at listed places as one flat envelope. Count: its bytes.
+pub fn envelope_write(bytes: &[u8], list: &[u8], out: &mut [u8]) -> u64 {
+    unsafe {
+        declared::envelope_write(
+            bytes.as_ptr(),
+            bytes.len(),
+            list.as_ptr(),
+            list.len(),
+            out.as_mut_ptr(),
+            out.len(),
         )
     }
 }

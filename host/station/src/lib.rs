@@ -27,6 +27,7 @@
 
 mod display;
 mod effect;
+mod envelope;
 mod failure;
 pub mod ffi;
 mod journal;
@@ -41,6 +42,7 @@ mod store;
 
 pub use display::Shown;
 pub use effect::{Effect, Effects};
+pub use envelope::{ENVELOPE, Envelope, Messages, envelope};
 pub use failure::Failure;
 pub use journal::{Journal, Report};
 pub use kept::Kept;

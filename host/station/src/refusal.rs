@@ -42,6 +42,8 @@ pub enum Refusal {
     UsedUp = 12,
     /// No blank slot left in the journal, or a slot that replay can't read past.
     Journal = 13,
+    /// No good relay envelope, or one that can't be made.
+    Envelope = 14,
 }
 
 impl Refusal {
@@ -60,6 +62,7 @@ impl Refusal {
         Refusal::Ahead,
         Refusal::UsedUp,
         Refusal::Journal,
+        Refusal::Envelope,
     ];
 
     /// The number that 01 or 02 gives it.
@@ -93,6 +96,7 @@ impl Refusal {
             Refusal::Ahead => "the message is more than one view ahead",
             Refusal::UsedUp => "the vote's author has opened as many tallies as one may",
             Refusal::Journal => "the journal has no blank slot, or one that can't be read",
+            Refusal::Envelope => "it is no good envelope, or none can be made of these messages",
         }
     }
 
@@ -124,6 +128,9 @@ impl Refusal {
             Refusal::Journal => {
                 "make a full one longer; with a damaged one the station counts among the f faulty"
             }
+            Refusal::Envelope => {
+                "drop a bad one: its relay is faulty, or the link damages bytes; make one of fewer messages"
+            }
         }
     }
 }
@@ -154,12 +161,12 @@ mod tests {
 
     #[test]
     fn numbers_are_those_of_01_and_02() {
-        for (number, refusal) in (1..=11).chain([13]).zip(Refusal::ALL) {
+        for (number, refusal) in (1..=11).chain([13, 14]).zip(Refusal::ALL) {
             assert_eq!(refusal.number(), number);
             assert_eq!(Refusal::from_number(number), Some(refusal));
             assert!(refusal.to_string().starts_with(&format!("refusal {number}: ")));
         }
-        for number in [0, 12, 14] {
+        for number in [0, 12, 15] {
             assert_eq!(Refusal::from_number(number), None);
         }
     }

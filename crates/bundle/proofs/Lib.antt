@@ -1,0 +1,5 @@
+pub mod Totals
+pub mod Written
+pub mod Answers
+pub mod Laws
+pub mod Again

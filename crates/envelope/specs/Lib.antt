@@ -1,0 +1,4 @@
+pub mod Items
+pub mod Reading
+pub mod Meaning
+pub mod Examples

@@ -1,0 +1,57 @@
+// A relay envelope: every message inside is handed over, in order.
+use crate::play;
+use crate::show;
+use crate::spell;
+use crate::stored::Store;
+use page::Page;
+ghost use Prim.Native.Nat.{_+_, _≤_};
+ghost use lib.ListN.{length};
+
+// Hands over the messages of an envelope; of one that is refused none.
+pub fn hand_over(store: &mut Store, number: u64, bytes: &[u8]) {
+    let mut list = io::buffer();
+    let answer = envelope::envelope_read(bytes, &mut list);
+    tell(number, answer);
+    if show::refusal(answer) != 0 {
+        return;
+    }
+    let mut left = answer;
+    let mut at: usize = 0;
+    while at + 8 <= list.len() {
+        if left == 0 {
+            break;
+        }
+        one(store, number, bytes, &list, at);
+        left -= 1;
+        at += 8;
+    }
+}
+
+// Hands over the message that the list names at a place.
+fn one(store: &mut Store, number: u64, bytes: &[u8], list: &[u8], at: usize)
+    requires { ⌜ at + 8 ≤ length (now list) ⌝ }
+{
+    let offset = fields::get(list, at, 4) as usize;
+    let end = offset + fields::get(list, at + 4, 4) as usize;
+    if end <= bytes.len() {
+        play::message(store, number, &bytes[offset..end]);
+    }
+}
+
+// Prints how many messages there are, or the refusal.
+fn tell(number: u64, answer: u64) {
+    let mut page = io::buffer();
+    let started = show::start(&mut page, 0, number, b"envelope");
+    let end = messages(&mut page, started, answer);
+    page::finish(&page, end);
+}
+
+// The answer to an envelope, in words.
+fn messages(page: &mut Page, at: usize, answer: u64) -> usize {
+    let refusal = show::refusal(answer);
+    if refusal != 0 {
+        return show::refused(page, at, refusal);
+    }
+    let counted = spell::number(page, at, b": 0 done, ", answer);
+    page::say(page, counted, b" messages\n")
+}
