@@ -300,3 +300,6 @@ length-pairs (a ∷ b ∷ t) = omega (arith, length-pairs t)
 pub wrote-step : (o : List ℕ) (i b : ℕ) (bs : List ℕ) → wrote o i (b ∷ bs) ≡ wrote (set o i b) (i + 1) bs
 unfolding wrote
 wrote-step o i b bs = rw add-one
+
+pub wrote-further : (o : List ℕ) (at i b : ℕ) (bs : List ℕ) → wrote o (at + i) (b ∷ bs) ≡ wrote (set o (at + i) b) (at + (i + 1)) bs
+wrote-further o at i b bs = wrote-step o (at + i) b bs ∙ ap (λ (k : ℕ). wrote (set o (at + i) b) k bs) (let e : at + i + 1 ≡ at + (i + 1) = omega arith in e)

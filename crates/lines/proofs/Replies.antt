@@ -2,12 +2,13 @@
 use Prim.Native.Nat.{ℕ, zero, suc, _+_, _<_, _≤_}
 use mathlib.Core.Path.{_≡_, refl, sym, ap, _∙_}
 use mathlib.Core.Bool.{Bool, true, false}
-use mathlib.Core.List.{List, [], _∷_}
+use mathlib.Core.List.{List, [], _∷_, _++_}
 use native.Mathlib.Omega.{arith}
 use native.Mathlib.Nat.{add-zero, zero-add, add-suc, suc-add}
 use lib.ListN.{length, drop, getD, List·getD-eq-default}
 use lib.Dec.{leb}
 use borrow.Author.Tests.{le-leb, lt-leb, leb-true, leb-false}
+use Rattle.rules.specs.Lists.{unbe}
 use Rattle.rules.specs.Script.{sameList}
 use Rattle.rules.proofs.Tests.{by-bool}
 use Rattle.fields.specs.declared.Name.{Name}
@@ -16,13 +17,15 @@ use Rattle.outgoing.specs.Wrote.{wrote}
 use Rattle.outgoing.specs.Wrote as written
 use Rattle.outgoing.proofs.Writing.{length-wrote}
 use Rattle.lines.specs.Words.{bytes, word, rest, noWord, pairs, isBytes}
-use Rattle.lines.specs.Script.{Got, got, wrong, onto, reads, fieldOf, freshened, ticked, alone, hex, Meaning, blank, fresh, tick, message, offer, log, state, display, bad, meant, spoken, Order, orders, ordered, lineOf}
+use Rattle.lines.specs.Script.{Got, got, wrong, onto, reads, fieldOf, freshened, ticked, alone, hex, slipped, chosen, Meaning, blank, fresh, tick, given, message, log, state, display, bad, meant, spoken, Order, orders, ordered, lineOf}
 use Rattle.lines.specs.Places.{Lists, placed, Field, ended, readsAt}
-use Rattle.lines.specs.Answers.{answer, fill, left, filled, Reads, Says, given, HexAt, hexPlace, HexRead}
+use Rattle.lines.specs.Answers.{answer, fill, left, filled, Reads, Says, HexAt, hexPlace, HexRead}
 use Rattle.lines.specs.declared.Flaw.{Flaw}
 use Rattle.lines.specs.declared.Flaw.the-variants as flaw
+use Rattle.lines.specs.declared.What.{What}
+use Rattle.lines.specs.declared.What.the-variants.{Message, Slip, Choose}
 use Rattle.lines.specs.declared.Line.{Line}
-use Rattle.lines.specs.declared.Line.the-variants.{Blank, Fresh, Tick, Message, Offer, Log, State, Display, Bad}
+use Rattle.lines.specs.declared.Line.the-variants.{Blank, Fresh, Tick, Bytes, Log, State, Display, Bad}
 use Rattle.lines.specs.declared.parts.Place.{Place}
 use Rattle.lines.specs.declared.parts.Place.the-variants.{At, Wrong}
 use Rattle.lines.proofs.Fields.{small-is, ends-none, ends-extra}
@@ -65,24 +68,24 @@ of-picked w s k (nothing p q) = q ∙ sym (ap (λ (n : ℕ). meansOf n s) p)
 of-picked w s k (picked i p q) = q ∙ sym (ap (λ (n : ℕ). meansOf n s) (p ∙ ap suc (zero-add i)))
 
 -- the table as the code has it
-pub first-words : Lists (firsts orders) (bytes "new-view propose vote blame blame-set status fresh tick message offer log state display")
+pub first-words : Lists (firsts orders) (bytes "new-view propose vote blame blame-set status fresh tick message offer log state display envelope choose slip")
 unfolding firsts orders bytes word rest noWord
 first-words =
-    (refl, refl, (refl, refl, (refl, refl, (refl, refl, (refl, refl, (refl, refl, (refl, refl, (refl, refl, (refl, refl, (refl, refl, (refl, refl, (refl, refl, (refl, refl, refl)))))))))))))
+    (refl, refl, (refl, refl, (refl, refl, (refl, refl, (refl, refl, (refl, refl, (refl, refl, (refl, refl, (refl, refl, (refl, refl, (refl, refl, (refl, refl, (refl, refl, (refl, refl, (refl, refl, (refl, refl, refl))))))))))))))))
 
 module _ (s : List ℕ) where
   pub line-blank : noWord s ≡ true → lineOf s ≡ blank
   unfolding lineOf
   line-blank e = rw (e, lineOf)
 
-  pub line-order : (k : ℕ) → noWord s ≡ false → ((ws : List (List ℕ)) → Lists ws (bytes "new-view propose vote blame blame-set status fresh tick message offer log state display") → k ≡ placed 1 ws (word s))
+  pub line-order : (k : ℕ) → noWord s ≡ false → ((ws : List (List ℕ)) → Lists ws (bytes "new-view propose vote blame blame-set status fresh tick message offer log state display envelope choose slip") → k ≡ placed 1 ws (word s))
       → lineOf s ≡ meansOf k (rest s)
   unfolding lineOf
   line-order k e h =
       let p : k ≡ placed 1 (firsts orders) (word s) = h (firsts orders) first-words in
       rw (e, lineOf) (of-picked (word s) (rest s) k (rw (← p) at (pick orders (word s) (rest s) 0)))
 
-means-none : (k : ℕ) (s : List ℕ) → 13 < k → meansOf k s ≡ bad flaw.Word
+means-none : (k : ℕ) (s : List ℕ) → 16 < k → meansOf k s ≡ bad flaw.Word
 unfolding meansOf meanings orders
 means-none zero s h = absurd (omega arith)
 means-none (suc i) s h = List·getD-eq-default (meanings orders s) (bad flaw.Word) {n = i} (omega arith)
@@ -90,9 +93,11 @@ means-none (suc i) s h = List·getD-eq-default (meanings orders s) (bad flaw.Wor
 next : (n k : ℕ) → n < k → (k ≡ suc n → ⊥) → suc n < k
 next n k h e = omega (arith, e)
 
-pub means-other : (k : ℕ) (s : List ℕ) → 6 < k → (k ≡ 7 → ⊥) → (k ≡ 8 → ⊥) → (k ≡ 9 → ⊥) → (k ≡ 10 → ⊥) → (k ≡ 11 → ⊥) → (k ≡ 12 → ⊥) → (k ≡ 13 → ⊥) → meansOf k s ≡ bad flaw.Word
-means-other k s h a b c d e f g =
-    means-none k s (next 12 k (next 11 k (next 10 k (next 9 k (next 8 k (next 7 k (next 6 k h a) b) c) d) e) f) g)
+pub means-other : (k : ℕ) (s : List ℕ) → 6 < k → (k ≡ 7 → ⊥) → (k ≡ 8 → ⊥) → (k ≡ 9 → ⊥) → (k ≡ 10 → ⊥) → (k ≡ 11 → ⊥) → (k ≡ 12 → ⊥) → (k ≡ 13 → ⊥)
+    → (k ≡ 14 → ⊥) → (k ≡ 15 → ⊥) → (k ≡ 16 → ⊥) → meansOf k s ≡ bad flaw.Word
+means-other k s h a b c d e f g i j l =
+    means-none k s
+    (next 15 k (next 14 k (next 13 k (next 12 k (next 11 k (next 10 k (next 9 k (next 8 k (next 7 k (next 6 k h a) b) c) d) e) f) g) i) j) l)
 
 pub means-spoken : (k : ℕ) → 1 ≤ k → k ≤ 6 → (s : List ℕ) → meansOf k s ≡ spoken k s
 unfolding meansOf meanings orders
@@ -106,9 +111,7 @@ unfolding answer
 answer-fits n blank = omega arith
 answer-fits n (fresh a d o) = omega arith
 answer-fits n (tick k) = omega arith
-answer-fits n (message bs) =
-    by-bool (leb (length bs) n) (λ e. rw (e, answer) (leb-true (length bs) n e)) (λ e. rw (e, answer) (omega arith))
-answer-fits n (offer bs) =
+answer-fits n (given x bs) =
     by-bool (leb (length bs) n) (λ e. rw (e, answer) (leb-true (length bs) n e)) (λ e. rw (e, answer) (omega arith))
 answer-fits n log = omega arith
 answer-fits n state = omega arith
@@ -124,8 +127,7 @@ unfolding left
 length-left o blank = refl
 length-left o (fresh n d own) = refl
 length-left o (tick k) = refl
-length-left o (message bs) = length-fill o bs
-length-left o (offer bs) = length-fill o bs
+length-left o (given x bs) = length-fill o bs
 length-left o log = refl
 length-left o state = refl
 length-left o display = refl
@@ -142,7 +144,7 @@ reads-as m n o o′ r e h = rw e h
 pub unchanged : (m n : Meaning) (o : List ℕ) (r : Line) → Says m r → n ≡ m → Reads n o o r
 unchanged m n o r s e = rw e (answered m o o r (s .is (length o)) (sym (s .still o)))
 
--- a message or an offered name, with room for its bytes or without
+-- a line with bytes, where there is room for them and where there is none
 module _ (bs o : List ℕ) where
   pub fill-long : length o < length bs → fill o bs ≡ o
   unfolding fill
@@ -152,32 +154,27 @@ module _ (bs o : List ℕ) where
   unfolding fill
   fill-good h = rw (le-leb (length bs) (length o) h, fill)
 
-  message-long : length o < length bs → answer (length o) (message bs) ≡ Bad flaw.Long
-  unfolding answer
-  message-long h = rw (lt-leb (length bs) (length o) h, answer)
+  module _ (x : What) where
+    bytes-long : length o < length bs → answer (length o) (given x bs) ≡ Bad flaw.Long
+    unfolding answer
+    bytes-long h = rw (lt-leb (length bs) (length o) h, answer)
 
-  pub message-good : length bs ≤ length o → answer (length o) (message bs) ≡ Message (length bs)
-  unfolding answer
-  message-good h = rw (le-leb (length bs) (length o) h, answer)
+    pub bytes-good : length bs ≤ length o → answer (length o) (given x bs) ≡ Bytes x (length bs)
+    unfolding answer
+    bytes-good h = rw (le-leb (length bs) (length o) h, answer)
 
-  offer-long : length o < length bs → answer (length o) (offer bs) ≡ Bad flaw.Long
-  unfolding answer
-  offer-long h = rw (lt-leb (length bs) (length o) h, answer)
+    module _ (m : Meaning) (e : m ≡ given x bs) where
+      pub too-long : length o < length bs → Reads m o o (Bad flaw.Long)
+      unfolding left
+      too-long h = rw e (answered (given x bs) o o _ (sym (bytes-long h)) (sym (fill-long h)))
 
-  pub offer-good : length bs ≤ length o → answer (length o) (offer bs) ≡ Offer (length bs)
-  unfolding answer
-  offer-good h = rw (le-leb (length bs) (length o) h, answer)
+      pub written-good : length bs ≤ length o → (o′ : List ℕ) (n : ℕ) → n ≡ length bs → o′ ≡ wrote o 0 bs → Reads m o o′ (Bytes x n)
+      unfolding left
+      written-good h o′ n p q = rw e (answered (given x bs) o o′ _ (ap (Bytes x) p ∙ sym (bytes-good h)) (q ∙ sym (fill-good h)))
 
   -- a message in words
-  module _ (m : Meaning) (e : m ≡ message bs) where
-    pub spoken-long : length o < length bs → Reads m o o (Bad flaw.Long)
-    unfolding left
-    spoken-long h = rw e (answered (message bs) o o _ (sym (message-long h)) (sym (fill-long h)))
-
-    pub spoken-good : length bs ≤ length o → (o′ : List ℕ) (n : ℕ) → written.Says o 0 bs o′ n → Reads m o o′ (Message n)
-    unfolding left
-    spoken-good h o′ n s =
-        rw e (answered (message bs) o o′ _ (ap Message (s .ends ∙ omega arith) ∙ sym (message-good h)) (s .out ∙ sym (fill-good h)))
+  pub spoken-good : (m : Meaning) → m ≡ message bs → length bs ≤ length o → (o′ : List ℕ) (n : ℕ) → written.Says o 0 bs o′ n → Reads m o o′ (Bytes Message n)
+  spoken-good m e h o′ n s = written-good Message m e h o′ n (s .ends ∙ omega arith) (s .out)
 
 -- ---- lines that leave the buffer alone
 
@@ -292,24 +289,63 @@ module _ (g : Got) (o bs : List ℕ) (e : g ≡ got bs) where
   pub hex-good : (n : ℕ) (o′ : List ℕ) → length bs ≤ length o → n ≡ length bs → o′ ≡ wrote o 0 bs → HexRead g o o′ (At n)
   hex-good n o′ h p q = rw e (record { is = rw (le-leb (length bs) (length o) h, p, hexPlace); out = q ∙ sym (fill-good bs o h) })
 
--- an offered name or a message
-abbrev pub lineBy : Bool → Place → Line
-lineBy true (At n) = Offer n
-lineBy false (At n) = Message n
-lineBy b (Wrong f) = Bad f
+-- bytes in hex
+abbrev pub lineBy : What → Place → Line
+lineBy x (At n) = Bytes x n
+lineBy x (Wrong f) = Bad f
 
-given-reply : (b : Bool) (bs o o′ : List ℕ) (r : Place) → HexRead (got bs) o o′ r → r ≡ hexPlace (length o) (got bs) → Reads (given b bs) o o′ (lineBy b r)
-unfolding left
-given-reply true bs o o′ r h e =
-    by-bool (leb (length bs) (length o))
-    (λ q. let p : r ≡ At (length bs) = rw (q, hexPlace) at e in answered (offer bs) o o′ _ (ap (lineBy true) p ∙ sym (offer-good bs o (leb-true _ _ q))) (h .out))
-    (λ q. let p : r ≡ Wrong flaw.Long = rw (q, hexPlace) at e in answered (offer bs) o o′ _ (ap (lineBy true) p ∙ sym (offer-long bs o (leb-false _ _ q))) (h .out))
-given-reply false bs o o′ r h e =
-    by-bool (leb (length bs) (length o))
-    (λ q. let p : r ≡ At (length bs) = rw (q, hexPlace) at e in answered (message bs) o o′ _ (ap (lineBy false) p ∙ sym (message-good bs o (leb-true _ _ q))) (h .out))
-    (λ q. let p : r ≡ Wrong flaw.Long = rw (q, hexPlace) at e in answered (message bs) o o′ _ (ap (lineBy false) p ∙ sym (message-long bs o (leb-false _ _ q))) (h .out))
+given-reply : (x : What) (bs o o′ : List ℕ) (r : Place) → HexRead (got bs) o o′ r → r ≡ hexPlace (length o) (got bs) → Reads (given x bs) o o′ (lineBy x r)
+unfolding left answer
+given-reply x bs o o′ r h e =
+    by-bool (leb (length bs) (length o)) (λ q. answered (given x bs) o o′ _ (ap (lineBy x) (rw (q, hexPlace) at e) ∙ sym (rw (q, answer))) (h .out))
+    (λ q. answered (given x bs) o o′ _ (ap (lineBy x) (rw (q, hexPlace) at e) ∙ sym (rw (q, answer))) (h .out))
 
-pub hexed-reply : (b : Bool) (g : Got) (o o′ : List ℕ) (r : Place) → HexRead g o o′ r → Reads (meant (given b) g) o o′ (lineBy b r)
+pub hexed-reply : (x : What) (g : Got) (o o′ : List ℕ) (r : Place) → HexRead g o o′ r → Reads (meant (given x) g) o o′ (lineBy x r)
 unfolding meant left answer
-hexed-reply b (got bs) o o′ r h = given-reply b bs o o′ r h (h .is)
-hexed-reply b (wrong f) o o′ r h = answered (bad f) o o′ _ (ap (lineBy b) (h .is)) (h .out)
+hexed-reply x (got bs) o o′ r h = given-reply x bs o o′ r h (h .is)
+hexed-reply x (wrong f) o o′ r h = answered (bad f) o o′ _ (ap (lineBy x) (h .is)) (h .out)
+
+-- ---- two words of hex
+
+module _ (t : List ℕ) where
+  pub chosen-missing : noWord t ≡ true → chosen t ≡ bad flaw.Missing
+  unfolding chosen
+  chosen-missing e = rw (e, chosen)
+
+  pub chosen-not : noWord t ≡ false → isBytes (word t) ≡ false → chosen t ≡ bad flaw.Hex
+  unfolding chosen
+  chosen-not e f = rw (e, f, chosen)
+
+  module _ (e : noWord t ≡ false) (f : isBytes (word t) ≡ true) where
+    chosen-then : chosen t ≡ meant (λ bs. given (Choose (length (pairs (word t)))) (pairs (word t) ++ bs)) (hex (rest t))
+    unfolding chosen
+    chosen-then = rw (e, f, chosen)
+
+    pub chosen-wrong : (d : Flaw) → hex (rest t) ≡ wrong d → chosen t ≡ bad d
+    unfolding meant
+    chosen-wrong d q = chosen-then ∙ ap (meant _) q
+
+    pub chosen-both : (n : ℕ) → n ≡ length (pairs (word t)) → (bs : List ℕ) → hex (rest t) ≡ got bs → chosen t ≡ given (Choose n) (pairs (word t) ++ bs)
+    unfolding meant
+    chosen-both n p bs q = chosen-then ∙ ap (meant _) q ∙ ap (λ (k : ℕ). given (Choose k) (pairs (word t) ++ bs)) (sym p)
+
+-- ---- a name as its bytes
+
+meant-onto : (f : List ℕ → Meaning) (v : ℕ) (g : Got) → meant f (onto v g) ≡ meant (λ vs. f (v ∷ vs)) g
+unfolding meant onto
+meant-onto f v (got vs) = refl
+meant-onto f v (wrong e) = refl
+
+module _ (m : Meaning) (s : List ℕ) (p x : Place) (e : ended x ≡ readsAt [] s p) where
+  pub named-good : (i : ℕ) → x ≡ At i → meant (λ _. m) (readsAt [] s p) ≡ m
+  unfolding meant
+  named-good i f = ap (meant (λ _. m)) (sym e ∙ ap ended f)
+
+  pub named-wrong : (f : Flaw) → x ≡ Wrong f → meant (λ _. m) (readsAt [] s p) ≡ bad f
+  unfolding meant
+  named-wrong f g = ap (meant (λ _. m)) (sym e ∙ ap ended g)
+
+pub slip-is : (s : List ℕ) (at : ℕ) (n : Name) (p : Place) → Field s (At at) 4 n p → slipped (drop at s) ≡ meant (λ _. given Slip (unbe 32 (nameOf n))) (readsAt [] s p)
+unfolding slipped
+slip-is s at n p a =
+    let f : List ℕ → Meaning = λ vs. given Slip (unbe 32 (getD vs 0 0)) in ap (meant f) (a .goes []) ∙ meant-onto f (nameOf n) (readsAt [] s p)

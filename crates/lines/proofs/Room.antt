@@ -1,36 +1,39 @@
--- A line of up to 4,096 bytes says at most 2,048: no answer with a buffer of that many is Long. Assumes nothing.
+-- A line of up to 4,096 bytes says no more, two words of hex at most 2,048 each: no answer with such a buffer is Long. Assumes nothing.
 use Prim.Native.Nat.{ℕ, _≤_}
 use mathlib.Core.Path.{_≡_, sym, _∙_}
 use mathlib.Core.Bool.{true, false}
-use mathlib.Core.List.{List, [], _∷_}
+use mathlib.Core.List.{List, [], _∷_, _++_}
 use native.Mathlib.Omega.{arith}
-use lib.ListN.{length, getD}
+use lib.ListN.{length, getD, length-append}
+use Rattle.rules.specs.Lists.{unbe}
 use Rattle.rules.specs.Messages as messages
 use Rattle.rules.specs.Messages.{write, rowOf}
 use Rattle.rules.specs.Script.{sameList}
+use Rattle.rules.proofs.Bytes.{length-unbe}
 use Rattle.rules.proofs.Tests.{by-bool, by-option}
 use Rattle.outgoing.proofs.Writing.{length-write-most}
 use Rattle.lines.specs.Words.{word, rest, noWord, pairs, isBytes}
-use Rattle.lines.specs.Script.{says, flawOf, fieldOf, unlabelled, Got, got, wrong, onto, reads, Meaning, blank, fresh, tick, message, offer, log, state, display, bad, meant, spoken, freshened, ticked, alone, hexed, Order, orders, ordered, lineOf}
+use Rattle.lines.specs.Script.{says, flawOf, fieldOf, unlabelled, Got, got, wrong, onto, reads, Meaning, blank, fresh, tick, given, message, log, state, display, bad, meant, spoken, freshened, ticked, alone, hex, hexed, chosen, slipped, Order, orders, ordered, lineOf}
 use Rattle.lines.specs.Answers.{answer, Reads}
 use Rattle.lines.specs.declared.Flaw.{Flaw}
 use Rattle.lines.specs.declared.Flaw.the-variants as flaw
 use Rattle.lines.specs.declared.Line.{Line}
-use Rattle.lines.specs.declared.Line.the-variants.{Message, Offer, Bad}
+use Rattle.lines.specs.declared.What.{What}
+use Rattle.lines.specs.declared.What.the-variants.{Message, Offer, Envelope, Slip, Choose}
+use Rattle.lines.specs.declared.Line.the-variants.{Bytes, Bad}
 use Rattle.lines.specs.declared.parts.Sort.{Sort}
 use Rattle.lines.specs.declared.parts.Sort.the-variants.{Number, Name, Mask}
 use Rattle.lines.proofs.Runs.{word-shorter, rest-shorter}
 use Rattle.lines.proofs.Digits.{length-pairs}
 use Rattle.lines.proofs.Fields.{ends-none, ends-extra, reads-missing, reads-not, reads-is}
-use Rattle.lines.proofs.Replies.{message-good, offer-good, hex-missing, hex-not, hex-rest}
+use Rattle.lines.proofs.Replies.{bytes-good, hex-missing, hex-not, hex-rest}
 
--- the bytes have room in 2,048, and nothing is wrong for want of room
+-- the bytes have room in 4,096, and nothing is wrong for want of room
 abbrev Short : Meaning → Type 0
 Short blank = Unit
 Short (fresh n d own) = Unit
 Short (tick k) = Unit
-Short (message bs) = length bs ≤ 2048
-Short (offer bs) = length bs ≤ 2048
+Short (given x bs) = length bs ≤ 4096
 Short log = Unit
 Short state = Unit
 Short display = Unit
@@ -70,9 +73,10 @@ unfolding meant
 meant-short f (got vs) h p = h vs
 meant-short f (wrong e) h p = p
 
-hex-short : (f : List ℕ → Meaning) → ((bs : List ℕ) → length bs ≤ 2048 → Short (f bs)) → (t : List ℕ) → length t ≤ 4096 → Short (hexed f t)
-unfolding hexed meant
-hex-short f h t l =
+-- one word of hex
+hex-meant : (f : List ℕ → Meaning) → ((bs : List ℕ) → length bs ≤ 2048 → Short (f bs)) → (t : List ℕ) → length t ≤ 4096 → Short (meant f (hex t))
+unfolding meant
+hex-meant f h t l =
     by-bool (noWord t)
     (λ e. rw (hex-missing t e) (other (λ z. cc)))
     (λ e.
@@ -82,6 +86,29 @@ hex-short f h t l =
     (λ n. rw (hex-rest t e q true n) (h (pairs (word t)) (omega (arith, length-pairs (word t), word-shorter t))))
     (λ n. rw (hex-rest t e q false n) (other (λ z. cc))))
     (λ q. rw (hex-not t e q) (other (λ z. cc))))
+
+hex-short : (x : What) (t : List ℕ) → length t ≤ 4096 → Short (hexed x t)
+unfolding hexed
+hex-short x t l = hex-meant (given x) (λ bs h. omega arith) t l
+
+-- two words of it
+chosen-short : (t : List ℕ) → length t ≤ 4096 → Short (chosen t)
+unfolding chosen
+chosen-short t l =
+    by-bool (noWord t) (λ e. rw (e, chosen) (other (λ z. cc)))
+    (λ e.
+    by-bool (isBytes (word t))
+    (λ q.
+    rw (e, q, chosen)
+    (hex-meant (λ bs. given (Choose (length (pairs (word t)))) (pairs (word t) ++ bs))
+    (λ bs h. omega (arith, length-append (pairs (word t)) bs, length-pairs (word t), word-shorter t)) (rest t) (omega (arith, rest-shorter t))))
+    (λ q. rw (e, q, chosen) (other (λ z. cc))))
+
+-- a name is 32 bytes
+slip-short : (t : List ℕ) → length t ≤ 4096 → Short (slipped t)
+unfolding slipped
+slip-short t l =
+    meant-short (λ vs. given Slip (unbe 32 (getD vs 0 0))) (reads (4 ∷ []) t) (λ vs. omega (arith, length-unbe 32 (getD vs 0 0))) (reads-plain (4 ∷ []) t)
 
 abbrev AllShort : List Order → Type 0
 AllShort [] = Unit
@@ -93,7 +120,7 @@ ordered-short [] a w t l = other (λ z. cc)
 ordered-short (o ∷ os) a w t l =
     by-bool (sameList (o .first) w) (λ e. rw (e, ordered) (a .0 t l)) (λ e. rw (e, ordered) (ordered-short os (a .1) w t l))
 
-said : (m : messages.Message) → length (write m) ≤ 2048
+said : (m : messages.Message) → length (write m) ≤ 4096
 said m = omega (arith, length-write-most m)
 
 ticks-short : (t : List ℕ) → length t ≤ 4096 → Short (ticked t)
@@ -138,12 +165,15 @@ orders-short = (
               (
                 ticks-short,
                 (
-                  hex-short message (λ bs h. h),
+                  hex-short Message,
                   (
-                    hex-short offer (λ bs h. h),
+                    hex-short Offer,
                     (
                       alone-short log tt,
-                      (alone-short state tt, (alone-short display tt, tt)),
+                      (
+                        alone-short state tt,
+                        (alone-short display tt, (hex-short Envelope, (chosen-short, (slip-short, tt)))),
+                      ),
                     ),
                   ),
                 ),
@@ -163,18 +193,17 @@ line-short s l =
     (λ e. rw (e, lineOf) tt)
     (λ e. rw (e, lineOf) (ordered-short orders orders-short (word s) (rest s) (omega (arith, rest-shorter s))))
 
-answer-short : (m : Meaning) (o : List ℕ) → Short m → 2048 ≤ length o → answer (length o) m ≡ Bad flaw.Long → _≡_ {A = ℕ} 0 1
+answer-short : (m : Meaning) (o : List ℕ) → Short m → 4096 ≤ length o → answer (length o) m ≡ Bad flaw.Long → _≡_ {A = ℕ} 0 1
 unfolding answer
 answer-short blank o p h e = cc
 answer-short (fresh n d own) o p h e = cc
 answer-short (tick k) o p h e = cc
-answer-short (message bs) o p h e = let z : Message (length bs) ≡ Bad flaw.Long = sym (message-good bs o (omega arith)) ∙ e in cc
-answer-short (offer bs) o p h e = let z : Offer (length bs) ≡ Bad flaw.Long = sym (offer-good bs o (omega arith)) ∙ e in cc
+answer-short (given x bs) o p h e = let z : Bytes x (length bs) ≡ Bad flaw.Long = sym (bytes-good bs o x (omega arith)) ∙ e in cc
 answer-short log o p h e = cc
 answer-short state o p h e = cc
 answer-short display o p h e = cc
 answer-short (bad f) o p h e = let z : f ≡ flaw.Long = cc in absurd (p z)
 
-pub never-long : (s o o′ : List ℕ) (r : Line) → length s ≤ 4096 → 2048 ≤ length o → Reads (lineOf s) o o′ r → r ≡ Bad flaw.Long → ⊥
+pub never-long : (s o o′ : List ℕ) (r : Line) → length s ≤ 4096 → 4096 ≤ length o → Reads (lineOf s) o o′ r → r ≡ Bad flaw.Long → ⊥
 never-long s o o′ r l h d e =
     let z = answer-short (lineOf s) o (line-short s l) h (sym (d .is) ∙ e) in omega (arith, z)

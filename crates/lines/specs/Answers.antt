@@ -7,12 +7,12 @@ use lib.ListN.{length, drop}
 use lib.Dec.{leb}
 use Rattle.outgoing.specs.Wrote.{wrote}
 use Rattle.lines.specs.Words.{word, pairs}
-use Rattle.lines.specs.Script.{Got, got, wrong, hex, Meaning, blank, fresh, tick, message, offer, log, state, display, bad}
+use Rattle.lines.specs.Script.{Got, got, wrong, hex, Meaning, blank, fresh, tick, given, log, state, display, bad}
 use Rattle.lines.specs.declared.Flaw.the-variants.{Long}
 use Rattle.lines.specs.declared.parts.Place.{Place}
 use Rattle.lines.specs.declared.parts.Place.the-variants.{At, Wrong}
 use Rattle.lines.specs.declared.Line.{Line}
-use Rattle.lines.specs.declared.Line.the-variants.{Blank, Fresh, Tick, Message, Offer, Log, State, Display, Bad}
+use Rattle.lines.specs.declared.Line.the-variants.{Blank, Fresh, Tick, Bytes, Log, State, Display, Bad}
 use Rattle.lines.specs.declared.Asked.{Asked}
 use Rattle.lines.specs.declared.Asked.the-variants as asked
 
@@ -21,14 +21,13 @@ unfoldable pub answer : ℕ → Meaning → Line
 answer room blank = Blank
 answer room (fresh n d own) = Fresh n d own
 answer room (tick k) = Tick k
-answer room (message bs) = elim (leb (length bs) room) [ true ↦ Message (length bs) | false ↦ Bad Long ]
-answer room (offer bs) = elim (leb (length bs) room) [ true ↦ Offer (length bs) | false ↦ Bad Long ]
+answer room (given x bs) = elim (leb (length bs) room) [ true ↦ Bytes x (length bs) | false ↦ Bad Long ]
 answer room log = Log
 answer room state = State
 answer room display = Display
 answer room (bad f) = Bad f
 
--- the bytes of a message or an offered name stand at the buffer's start, if there is room; all else is as it was
+-- the bytes of a line stand at the buffer's start, if there is room; all else is as it was
 unfoldable pub fill : List ℕ → List ℕ → List ℕ
 unfolding wrote
 fill o bs = elim (leb (length bs) (length o)) [ true ↦ wrote o 0 bs | false ↦ o ]
@@ -38,8 +37,7 @@ unfolding fill
 left o blank = o
 left o (fresh n d own) = o
 left o (tick k) = o
-left o (message bs) = fill o bs
-left o (offer bs) = fill o bs
+left o (given x bs) = fill o bs
 left o log = o
 left o state = o
 left o display = o
@@ -50,11 +48,7 @@ pub record Says (m : Meaning) (r : Line) : Type 0 where
   pub is : (room : ℕ) → r ≡ answer room m
   pub still : (o : List ℕ) → left o m ≡ o
 
--- a message or an offered name of these bytes; the log, the state or the display
-abbrev pub given : Bool → List ℕ → Meaning
-given true bs = offer bs
-given false bs = message bs
-
+-- the log, the state or the display
 abbrev pub askedOf : Asked → Meaning
 askedOf asked.Log = log
 askedOf asked.State = state
@@ -82,8 +76,7 @@ abbrev pub filled : Line → ℕ
 filled Blank = 0
 filled (Fresh n d own) = 0
 filled (Tick k) = 0
-filled (Message k) = k
-filled (Offer k) = k
+filled (Bytes x k) = k
 filled Log = 0
 filled State = 0
 filled Display = 0

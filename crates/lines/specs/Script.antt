@@ -2,14 +2,17 @@
 use Prim.Native.Nat.{ℕ, _-_, _^_}
 use Prim.Native.String.{String}
 use mathlib.Core.Bool.{true, false}
-use mathlib.Core.List.{List, [], _∷_}
+use mathlib.Core.List.{List, [], _∷_, _++_}
 use mathlib.Core.Option.{Option, none, some}
-use lib.ListN.{getD}
+use lib.ListN.{length, getD}
+use Rattle.rules.specs.Lists.{unbe}
 use Rattle.rules.specs.Messages.{write, rowOf}
 use Rattle.rules.specs.Script.{sameList}
 use Rattle.lines.specs.Words.{bytes, word, rest, noWord, decimal, pairs, isBytes, name, mask}
 use Rattle.lines.specs.declared.Flaw.{Flaw}
 use Rattle.lines.specs.declared.Flaw.the-variants as flaw
+use Rattle.lines.specs.declared.What.{What}
+use Rattle.lines.specs.declared.What.the-variants.{Message, Offer, Envelope, Slip, Choose}
 use Rattle.lines.specs.declared.parts.Sort.{Sort}
 use Rattle.lines.specs.declared.parts.Sort.the-variants.{Number, Name, Mask}
 
@@ -100,12 +103,17 @@ pub data Meaning : Type 0 where
   blank : Meaning
   fresh : (n delay own : ℕ) → Meaning
   tick : (count : ℕ) → Meaning
-  message : List ℕ → Meaning
-  offer : List ℕ → Meaning
+  given : What → List ℕ → Meaning
   log : Meaning
   state : Meaning
   display : Meaning
   bad : Flaw → Meaning
+
+abbrev pub message : List ℕ → Meaning
+message = given Message
+
+abbrev pub offer : List ℕ → Meaning
+offer = given Offer
 
 unfoldable pub meant : (List ℕ → Meaning) → Got → Meaning
 meant f (got vs) = f vs
@@ -133,9 +141,26 @@ unfoldable pub alone : Meaning → List ℕ → Meaning
 unfolding meant reads
 alone m s = meant (λ _. m) (reads [] s)
 
-unfoldable pub hexed : (List ℕ → Meaning) → List ℕ → Meaning
+unfoldable pub hexed : What → List ℕ → Meaning
 unfolding meant hex
-hexed f s = meant f (hex s)
+hexed x s = meant (given x) (hex s)
+
+-- two words of bytes in hex, and then no word
+unfoldable pub chosen : List ℕ → Meaning
+unfolding noWord isBytes pairs word rest meant hex
+chosen s =
+    elim (noWord s) [
+      | true ↦ bad flaw.Missing
+      | false ↦ elim (isBytes (word s)) [
+        | false ↦ bad flaw.Hex
+        | true ↦ meant (λ bs. given (Choose (length (pairs (word s)))) (pairs (word s) ++ bs)) (hex (rest s))
+      ]
+    ]
+
+-- a name, as its 32 bytes
+unfoldable pub slipped : List ℕ → Meaning
+unfolding meant reads unbe
+slipped s = meant (λ vs. given Slip (unbe 32 (getD vs 0 0))) (reads (4 ∷ []) s)
 
 -- a first word, and what it makes of the words behind it
 pub record Order : Type 0 where
@@ -147,7 +172,7 @@ unfolding bytes
 order t f = record { first = bytes t; means = f }
 
 unfoldable pub orders : List Order
-unfolding order spoken freshened ticked alone hexed
+unfolding order spoken freshened ticked alone hexed chosen slipped
 orders =
     order "new-view" (spoken 1)
     ∷ order "propose" (spoken 2)
@@ -157,11 +182,14 @@ orders =
     ∷ order "status" (spoken 6)
     ∷ order "fresh" freshened
     ∷ order "tick" ticked
-    ∷ order "message" (hexed message)
-    ∷ order "offer" (hexed offer)
+    ∷ order "message" (hexed Message)
+    ∷ order "offer" (hexed Offer)
     ∷ order "log" (alone log)
     ∷ order "state" (alone state)
     ∷ order "display" (alone display)
+    ∷ order "envelope" (hexed Envelope)
+    ∷ order "choose" chosen
+    ∷ order "slip" slipped
     ∷ []
 
 -- the order of a first word, "a line that is none of these is said to be so"

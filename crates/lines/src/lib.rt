@@ -1,11 +1,16 @@
 // What a line of a script means, read from its bytes. docs/SCRIPT.md has the form, specs/Script.antt says it exactly.
+use fields::Name;
 use kinds::Heard;
 use parts::Place;
 ghost use mathlib.Core.Path.{_≡_};
 ghost use Prim.Native.Nat.{_≤_};
+ghost use mathlib.Core.List.{[]};
 ghost use lib.ListN.{length, drop};
-ghost use Rattle.lines.specs.Script.{lineOf, spoken, freshened, ticked, hex, hexed, alone};
-ghost use Rattle.lines.specs.Answers.{Reads, Says, HexAt, HexRead, given, askedOf};
+ghost use Rattle.rules.specs.Lists.{unbe};
+ghost use Rattle.fields.specs.Names.{nameOf};
+ghost use Rattle.lines.specs.Places.{Inside, readsAt};
+ghost use Rattle.lines.specs.Script.{lineOf, given, meant, spoken, freshened, ticked, hex, hexed, alone, slipped, chosen};
+ghost use Rattle.lines.specs.Answers.{Reads, Says, HexAt, HexRead, askedOf};
 
 mod kinds;
 mod parts;
@@ -25,13 +30,21 @@ pub enum Flaw {
     Long,
 }
 
-// What a line asks for. The bytes of a message or an offered name stand at the start of the lent buffer.
+// What the bytes of a line are: a message, an offered name, an envelope, the name of a slip, or two messages, the first of so many bytes.
+pub enum What {
+    Message,
+    Offer,
+    Envelope,
+    Slip,
+    Choose { first: usize },
+}
+
+// What a line asks for. Its bytes stand at the start of the lent buffer.
 pub enum Line {
     Blank,
     Fresh { n: u64, delay: u64, own: u64 },
     Tick { count: u64 },
-    Message { len: usize },
-    Offer { len: usize },
+    Bytes { what: What, len: usize },
     Log,
     State,
     Display,
@@ -56,18 +69,21 @@ pub fn read_line(line: &[u8], bytes: &mut [u8]) -> Line
         return Line::Blank;
     }
     let kind = text::which(
-        b"new-view propose vote blame blame-set status fresh tick message offer log state display",
+        b"new-view propose vote blame blame-set status fresh tick message offer log state display envelope choose slip",
         &line[start..at],
     );
     match kind {
         1..=6 => spoken(line, at, kind, bytes),
         7 => fresh(line, at),
         8 => tick(line, at),
-        9 => hexed(line, at, false, bytes),
-        10 => hexed(line, at, true, bytes),
+        9 => hexed(line, at, What::Message, bytes),
+        10 => hexed(line, at, What::Offer, bytes),
         11 => alone(line, at, Asked::Log),
         12 => alone(line, at, Asked::State),
         13 => alone(line, at, Asked::Display),
+        14 => hexed(line, at, What::Envelope, bytes),
+        15 => chosen(line, at, bytes),
+        16 => slip(line, at, bytes),
         _ => Line::Bad(Flaw::Word),
     }
 }
@@ -159,24 +175,78 @@ fn hex(line: &[u8], at: usize, bytes: &mut [u8]) -> Place
     if bytes.len() < len {
         return Place::Wrong(Flaw::Long);
     }
-    values::write_bytes(&line[start..end], bytes);
+    values::write_bytes(&line[start..end], bytes, 0);
     Place::At(len)
 }
 
-// An offered name or a message in hex.
-fn hexed(line: &[u8], at: usize, offered: bool, bytes: &mut [u8]) -> Line
+// Bytes in hex.
+fn hexed(line: &[u8], at: usize, what: What, bytes: &mut [u8]) -> Line
     requires { ⌜ at ≤ length (now line) ⌝ }
-    ensures { λ r. ⌜ Reads (hexed (given offered) (drop at (now (line .entry)))) (now (bytes .entry)) (now (bytes .exit)) r ⌝ }
+    ensures { λ r. ⌜ Reads (hexed what (drop at (now (line .entry)))) (now (bytes .entry)) (now (bytes .exit)) r ⌝ }
 {
     match hex(line, at, bytes) {
         Place::Wrong(flaw) => Line::Bad(flaw),
-        Place::At(len) => {
-            if offered {
-                return Line::Offer { len };
-            }
-            Line::Message { len }
-        }
+        Place::At(len) => Line::Bytes { what, len },
     }
+}
+
+// Two words of bytes in hex.
+fn chosen(line: &[u8], at: usize, bytes: &mut [u8]) -> Line
+    requires { ⌜ at ≤ length (now line) ⌝ }
+    ensures { λ r. ⌜ Reads (chosen (drop at (now (line .entry)))) (now (bytes .entry)) (now (bytes .exit)) r ⌝ }
+{
+    let word = text::word(line, at);
+    let start = word.start;
+    let end = word.end;
+    if start == end {
+        return Line::Bad(Flaw::Missing);
+    }
+    if !values::is_bytes(&line[start..end]) {
+        return Line::Bad(Flaw::Hex);
+    }
+    if let Place::Wrong(flaw) = holds_hex(line, end) {
+        return Line::Bad(flaw);
+    }
+    let other = text::word(line, end);
+    let from = other.start;
+    let to = other.end;
+    let first = (end - start) / 2;
+    let len = first + (to - from) / 2;
+    if bytes.len() < len {
+        return Line::Bad(Flaw::Long);
+    }
+    values::write_bytes(&line[start..end], bytes, 0);
+    values::write_bytes(&line[from..to], bytes, first);
+    Line::Bytes {
+        what: What::Choose { first },
+        len,
+    }
+}
+
+// The 32 bytes of a name that was read last, if nothing is wrong and no word is left.
+fn named(line: &[u8], name: Name, place: Place, what: What, bytes: &mut [u8]) -> Line
+    requires { ⌜ Inside (now line) place ⌝ }
+    ensures { λ r. ⌜ Reads (meant (λ _. given what (unbe 32 (nameOf name))) (readsAt [] (now (line .entry)) place)) (now (bytes .entry)) (now (bytes .exit)) r ⌝ }
+{
+    if let Place::Wrong(flaw) = parts::ending(line, place) {
+        return Line::Bad(flaw);
+    }
+    if bytes.len() < 32 {
+        return Line::Bad(Flaw::Long);
+    }
+    fields::put_name(bytes, 0, name);
+    Line::Bytes { what, len: 32 }
+}
+
+// The slip of a name.
+fn slip(line: &[u8], at: usize, bytes: &mut [u8]) -> Line
+    requires { ⌜ at ≤ length (now line) ⌝ }
+    ensures { λ r. ⌜ Reads (slipped (drop at (now (line .entry)))) (now (bytes .entry)) (now (bytes .exit)) r ⌝ }
+{
+    let name = parts::field(line, Place::At(at), 4);
+    let value = name.value;
+    let at_end = name.next;
+    named(line, value, at_end, What::Slip, bytes)
 }
 
 // A message in words, written to the buffer.
@@ -190,7 +260,8 @@ fn spoken(line: &[u8], at: usize, kind: usize, bytes: &mut [u8]) -> Line
             if bytes.len() < outgoing::size(message) {
                 return Line::Bad(Flaw::Long);
             }
-            Line::Message {
+            Line::Bytes {
+                what: What::Message,
                 len: outgoing::write_message(bytes, 0, message),
             }
         }

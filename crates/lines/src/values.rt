@@ -3,7 +3,7 @@ use super::text;
 use super::text::Over;
 use fields::Name;
 ghost use mathlib.Core.Path.{_≡_};
-ghost use Prim.Native.Nat.{_≤_, _<_, _-_, _/_};
+ghost use Prim.Native.Nat.{_+_, _≤_, _<_, _-_, _/_};
 ghost use lib.ListN.{length};
 ghost use Rattle.rules.specs.Lists.{all, within};
 ghost use Rattle.outgoing.specs.Wrote.{wrote};
@@ -188,17 +188,17 @@ pub fn is_bytes(word: &[u8]) -> bool
     all_hex(word)
 }
 
-// Writes the bytes that pairs of hex digits say; '-' is no pair.
-pub fn write_bytes(word: &[u8], bytes: &mut [u8])
-    requires { ⌜ length (now word) / 2 ≤ length (now bytes) ⌝ }
-    ensures { λ _. ⌜ now (bytes .exit) ≡ wrote (now (bytes .entry)) 0 (pairs (now (word .entry))) ⌝ }
+// Writes the bytes that pairs of hex digits say from a place on; '-' is no pair.
+pub fn write_bytes(word: &[u8], bytes: &mut [u8], at: usize)
+    requires { ⌜ at + length (now word) / 2 ≤ length (now bytes) ⌝ }
+    ensures { λ _. ⌜ now (bytes .exit) ≡ wrote (now (bytes .entry)) at (pairs (now (word .entry))) ⌝ }
 {
     let count = word.len() / 2;
     let mut i: usize = 0;
     while i < count {
         let high = digit(word[2 * i]);
         let low = digit(word[2 * i + 1]);
-        bytes[i] = high * 16 + low;
+        bytes[at + i] = high * 16 + low;
         i += 1;
     }
 }

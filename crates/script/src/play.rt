@@ -1,10 +1,12 @@
 // What each line does to the station.
+use crate::relay;
 use crate::show;
 use crate::show::Out;
 use crate::spell;
 use crate::stored;
 use crate::stored::Store;
 use lines::Line;
+use lines::What;
 use page::Page;
 
 // Plays a line, and says whether it was one. The bytes of any line of 4,096 have room.
@@ -20,12 +22,8 @@ pub fn line(store: &mut Store, line: &[u8], number: u64) -> bool {
             ticks(store, number, count);
             true
         }
-        Line::Message { len } => {
-            message(store, number, &bytes[..len]);
-            true
-        }
-        Line::Offer { len } => {
-            offer(store, number, &bytes[..len]);
+        Line::Bytes { what, len } => {
+            given(store, number, what, &bytes[..len]);
             true
         }
         Line::Log => {
@@ -60,6 +58,44 @@ fn fresh(store: &mut Store, number: u64, n: u64, delay: u64, own: u64) {
     let answer = station::station_fresh(store, n, delay, own);
     let out = show::out_buffer();
     answered(number, b"fresh", answer, &out);
+}
+
+// A line with bytes, by what they are.
+fn given(store: &mut Store, number: u64, what: What, bytes: &[u8]) {
+    match what {
+        What::Message => message(store, number, bytes),
+        What::Offer => offer(store, number, bytes),
+        What::Envelope => relay::hand_over(store, number, bytes),
+        What::Slip => later(number),
+        What::Choose { first } => choose(store, number, bytes, first),
+    }
+}
+
+// What this program can't do yet.
+fn later(number: u64) {
+    let mut page = io::buffer();
+    let started = show::start(&mut page, 0, number, b"not yet\n");
+    page::finish(&page, started);
+}
+
+// Which of two status messages is to be built on, in a group of as many stations as the store's.
+fn choose(store: &Store, number: u64, bytes: &[u8], first: usize) {
+    let mut page = io::buffer();
+    let started = show::start(&mut page, 0, number, b"choose");
+    let end = chosen(&mut page, started, stored::stations(store), bytes, first);
+    page::finish(&page, end);
+}
+
+// The choice in words.
+fn chosen(page: &mut Page, at: usize, n: u64, bytes: &[u8], first: usize) -> usize {
+    if bytes.len() < first {
+        return at;
+    }
+    match choose::status_choose(0, n, &bytes[..first], &bytes[first..]) {
+        1 => page::say(page, at, b": the first\n"),
+        2 => page::say(page, at, b": the second\n"),
+        _ => page::say(page, at, b": neither\n"),
+    }
 }
 
 // A message is handed over.

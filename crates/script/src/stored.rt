@@ -42,6 +42,12 @@ pub fn clock(store: &Store) -> u64
     wide(station.clock)
 }
 
+// How many stations the group of a store has.
+pub fn stations(store: &Store) -> u64 {
+    let station = Station::load(store);
+    station.settings.n
+}
+
 // The log, lowest height first.
 pub fn log(line: u64, store: &Store) {
     let mut page = io::buffer();

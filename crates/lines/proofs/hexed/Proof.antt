@@ -1,7 +1,7 @@
 -- `lines::hexed` meets its contract. Assumes nothing.
 use Rattle.lines.proofs.Replies.{hexed-reply, lineBy}
 use Rattle.lines.specs.Script.{hexed}
-use mathlib.Core.Path.{ap₂}
+use mathlib.Core.Path.{ap}
 use borrow.Author.Needs.{needs}
 use Rattle.lines.proofs.hexed.Statement.{statement}
 use Rattle.lines.proofs.hexed.Tie as tie
@@ -21,7 +21,7 @@ same-length c = search needs
 returns : tie.Need-returns
 unfolding hexed
 returns c =
-    rw (ap₂ lineBy (c .if1 .taken) (c .before .before .len .given .1)) at (hexed-reply (c .before .before .before .before .before .before .before .before .before .before .args .offered) _ _ _ _ (c .before .before .before .before .before .before .hex .ensures))
+    rw (ap (lineBy _) (c .before .flaw .given .1)) at (hexed-reply (c .before .before .before .before .before .before .before .before .before .args .what) _ _ _ _ (c .before .before .before .before .before .hex .ensures))
 
 same-length-2 : tie.Need-same-length-2
 same-length-2 c = search needs
@@ -29,15 +29,7 @@ same-length-2 c = search needs
 returns-2 : tie.Need-returns-2
 unfolding hexed
 returns-2 c =
-    rw (c .before .flaw .given .1) at (hexed-reply (c .before .before .before .before .before .before .before .before .before .args .offered) _ _ _ _ (c .before .before .before .before .before .hex .ensures))
-
-same-length-3 : tie.Need-same-length-3
-same-length-3 c = search needs
-
-returns-3 : tie.Need-returns-3
-unfolding hexed
-returns-3 c =
-    rw (ap₂ lineBy (c .if1 .left) (c .before .before .len .given .1)) at (hexed-reply (c .before .before .before .before .before .before .before .before .before .before .args .offered) _ _ _ _ (c .before .before .before .before .before .before .hex .ensures))
+    rw (ap (lineBy _) (c .before .len .given .1)) at (hexed-reply (c .before .before .before .before .before .before .before .before .before .args .what) _ _ _ _ (c .before .before .before .before .before .hex .ensures))
 
 pub hexed-spec : {M : Type 1} → statement M
 hexed-spec =
@@ -49,6 +41,4 @@ hexed-spec =
     same-length
     returns
     same-length-2
-    returns-2
-    same-length-3
-    returns-3)
+    returns-2)

@@ -53,6 +53,15 @@ alone-requires-2 c κs = search needs
 alone-requires-3 : tie.Need-alone-requires-3
 alone-requires-3 c κs = search needs
 
+hexed-requires-3 : tie.Need-hexed-requires-3
+hexed-requires-3 c κs = search needs
+
+chosen-requires : tie.Need-chosen-requires
+chosen-requires c κs = search needs
+
+slip-requires : tie.Need-slip-requires
+slip-requires c κs = search needs
+
 spoken-requires : tie.Need-spoken-requires
 spoken-requires c κs = search needs
 
@@ -122,29 +131,62 @@ same-length-3 : tie.Need-same-length-3
 same-length-3 c = search needs
 
 returns-9 : tie.Need-returns-9
-unfolding bytes
+unfolding bytes meansOf meanings orders
 returns-9 c =
+    let s = c .before .before .before .before .before .before .before .before .before .before .before .before .args .line .now in
+    let w = c .before .before .before .before .before .before .before .before .before .word .ensures in
+    let is = line-order s (c .before .before .before .before .before .which .result) (word-some w (c .before .before .before .before .before .before .before .before .if1 .left)) (λ ws l. rw (w .is) at (c .before .before .before .before .before .which .ensures ws l)) in
+    reads-as _ _ _ _ _ (rw (← w .after) at (is ∙ ap (λ (k : ℕ). meansOf k (rest s)) (c .before .before .before .before .match .keys8))) (c .before .before .hexed3 .ensures)
+
+same-length-4 : tie.Need-same-length-4
+same-length-4 c = search needs
+
+returns-10 : tie.Need-returns-10
+unfolding bytes meansOf meanings orders
+returns-10 c =
+    let s = c .before .before .before .before .before .before .before .before .before .before .before .before .args .line .now in
+    let w = c .before .before .before .before .before .before .before .before .before .word .ensures in
+    let is = line-order s (c .before .before .before .before .before .which .result) (word-some w (c .before .before .before .before .before .before .before .before .if1 .left)) (λ ws l. rw (w .is) at (c .before .before .before .before .before .which .ensures ws l)) in
+    reads-as _ _ _ _ _ (rw (← w .after) at (is ∙ ap (λ (k : ℕ). meansOf k (rest s)) (c .before .before .before .before .match .keys9))) (c .before .before .chosen .ensures)
+
+same-length-5 : tie.Need-same-length-5
+same-length-5 c = search needs
+
+returns-11 : tie.Need-returns-11
+unfolding bytes meansOf meanings orders
+returns-11 c =
+    let s = c .before .before .before .before .before .before .before .before .before .before .before .before .args .line .now in
+    let w = c .before .before .before .before .before .before .before .before .before .word .ensures in
+    let is = line-order s (c .before .before .before .before .before .which .result) (word-some w (c .before .before .before .before .before .before .before .before .if1 .left)) (λ ws l. rw (w .is) at (c .before .before .before .before .before .which .ensures ws l)) in
+    reads-as _ _ _ _ _ (rw (← w .after) at (is ∙ ap (λ (k : ℕ). meansOf k (rest s)) (c .before .before .before .before .match .keys10))) (c .before .before .slip .ensures)
+
+same-length-6 : tie.Need-same-length-6
+same-length-6 c = search needs
+
+returns-12 : tie.Need-returns-12
+unfolding bytes
+returns-12 c =
     let s = c .before .before .before .before .before .before .before .before .before .before .before .before .before .before .args .line .now in
     let w = c .before .before .before .before .before .before .before .before .before .before .before .word .ensures in
     let is = line-order s (c .before .before .before .before .before .before .before .which .result) (word-some w (c .before .before .before .before .before .before .before .before .before .before .if1 .left)) (λ ws l. rw (w .is) at (c .before .before .before .before .before .before .before .which .ensures ws l)) in
     reads-as _ _ _ _ _ (rw (← w .after) at (is ∙ means-spoken (c .before .before .before .before .before .before .before .which .result) (c .before .before .before .before .before .if2 .left) (omega (arith, c .before .before .before .before .if3 .taken)) (rest s))) (c .before .before .spoken .ensures)
 
-returns-10 : tie.Need-returns-10
+returns-13 : tie.Need-returns-13
 unfolding bytes meansOf
-returns-10 c =
+returns-13 c =
     let s = c .before .before .before .before .before .before .before .before .before .args .line .now in
     let w = c .before .before .before .before .before .before .word .ensures in
     let is = line-order s (c .before .before .which .result) (word-some w (c .before .before .before .before .before .if1 .left)) (λ ws l. rw (w .is) at (c .before .before .which .ensures ws l)) in
     let none : c .before .before .which .result ≡ 0 = omega (arith, c .if2 .taken) in
     unchanged _ _ _ _ (says-bad _ _ (is ∙ ap (λ (k : ℕ). meansOf k (rest s)) none)) refl
 
-returns-11 : tie.Need-returns-11
+returns-14 : tie.Need-returns-14
 unfolding bytes
-returns-11 c =
+returns-14 c =
     let s = c .before .before .before .before .before .before .before .before .before .before .args .line .now in
     let w = c .before .before .before .before .before .before .before .word .ensures in
     let is = line-order s (c .before .before .before .which .result) (word-some w (c .before .before .before .before .before .before .if1 .left)) (λ ws l. rw (w .is) at (c .before .before .before .which .ensures ws l)) in
-    unchanged _ _ _ _ (says-bad _ _ (is ∙ means-other _ (rest s) (c .if3 .left) (c .before .before .match .rest .0 .0 .0 .0 .0 .0 .1) (c .before .before .match .rest .0 .0 .0 .0 .0 .1) (c .before .before .match .rest .0 .0 .0 .0 .1) (c .before .before .match .rest .0 .0 .0 .1) (c .before .before .match .rest .0 .0 .1) (c .before .before .match .rest .0 .1) (c .before .before .match .rest .1))) refl
+    unchanged _ _ _ _ (says-bad _ _ (is ∙ means-other _ (rest s) (c .if3 .left) (c .before .before .match .rest .0 .0 .0 .0 .0 .0 .0 .0 .0 .1) (c .before .before .match .rest .0 .0 .0 .0 .0 .0 .0 .0 .1) (c .before .before .match .rest .0 .0 .0 .0 .0 .0 .0 .1) (c .before .before .match .rest .0 .0 .0 .0 .0 .0 .1) (c .before .before .match .rest .0 .0 .0 .0 .0 .1) (c .before .before .match .rest .0 .0 .0 .0 .1) (c .before .before .match .rest .0 .0 .0 .1) (c .before .before .match .rest .0 .0 .1) (c .before .before .match .rest .0 .1) (c .before .before .match .rest .1))) refl
 
 pub read-line-spec : {M : Type 1} → statement M
 read-line-spec =
@@ -164,6 +206,9 @@ read-line-spec =
     alone-requires
     alone-requires-2
     alone-requires-3
+    hexed-requires-3
+    chosen-requires
+    slip-requires
     spoken-requires
     returns-2
     returns-3
@@ -176,5 +221,11 @@ read-line-spec =
     returns-8
     same-length-3
     returns-9
+    same-length-4
     returns-10
-    returns-11)
+    same-length-5
+    returns-11
+    same-length-6
+    returns-12
+    returns-13
+    returns-14)

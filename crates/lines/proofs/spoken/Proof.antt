@@ -1,6 +1,7 @@
 -- `lines::spoken` meets its contract. Assumes nothing.
-use Rattle.lines.proofs.Replies.{says-bad, unchanged, spoken-long, spoken-good}
+use Rattle.lines.proofs.Replies.{says-bad, unchanged, too-long, spoken-good}
 use Rattle.lines.specs.Places.{heardOf}
+use Rattle.lines.specs.declared.What.the-variants.{Message}
 use mathlib.Core.Path.{refl, sym, ap, _∙_}
 use native.Mathlib.Omega.{arith}
 use borrow.Author.Needs.{needs}
@@ -21,7 +22,7 @@ size-requires c κs = search needs
 
 returns : tie.Need-returns
 returns c =
-    spoken-long _ _ _ (sym (c .before .before .before .before .before .said .ensures .0) ∙ ap heardOf (c .before .before .before .message .given .1)) (omega (arith, c .before .size .ensures))
+    too-long _ _ Message _ (sym (c .before .before .before .before .before .said .ensures .0) ∙ ap heardOf (c .before .before .before .message .given .1)) (omega (arith, c .before .size .ensures))
 
 write-message-requires : tie.Need-write-message-requires
 write-message-requires c κs =

@@ -1,9 +1,10 @@
 -- `lines::values::write_bytes` meets its contract. The invariant: what is left to write makes the whole. Assumes nothing.
-use Rattle.lines.proofs.Digits.{pairs-step, pairs-end, wrote-step}
+use Rattle.lines.proofs.Digits.{pairs-step, pairs-end, wrote-further}
 use Prim.Native.Nat.{ℕ, _+_, _≤_, _-_, _*_, _/_}
 use mathlib.Core.Path.{_≡_, refl, sym, ap, ap₂, _∙_}
 use mathlib.Core.List.{_∷_}
 use native.Mathlib.Omega.{arith}
+use native.Mathlib.Nat.{add-zero}
 use lib.ListN.{length, drop, length-set}
 use Rattle.outgoing.specs.Wrote.{wrote}
 use Rattle.lines.specs.Words.{pairs}
@@ -12,14 +13,15 @@ use Rattle.lines.proofs.values.write_bytes.Statement.{statement}
 use Rattle.lines.proofs.values.write_bytes.Tie as tie
 
 abbrev Inv-loop : tie.InvT-loop
-Inv-loop word bytes₀ count i₀ bytes i =
-    (i ≤ count) × (count ≡ length word / 2) × (length bytes ≡ length bytes₀) × (wrote bytes₀ 0 (pairs word) ≡ wrote bytes i (pairs (drop (2 * i) word)))
+Inv-loop word bytes₀ at count i₀ bytes i =
+    (i ≤ count) × (count ≡ length word / 2) × (length bytes ≡ length bytes₀) × (wrote bytes₀ at (pairs word) ≡ wrote bytes (at + i) (pairs (drop (2 * i) word)))
 
 abbrev μ-loop : tie.MeasureT-loop
-μ-loop word bytes₀ count i₀ bytes i = count - i
+μ-loop word bytes₀ at count i₀ bytes i = count - i
 
 loop-holds : tie.Need-loop-holds Inv-loop μ-loop
-loop-holds c = (omega arith, refl, refl, refl)
+loop-holds c =
+    let a = c .before .before .args in (omega arith, refl, refl, ap (λ (k : ℕ). wrote (a .bytes .now) k (pairs (a .word .now))) (sym (add-zero (a .at))))
 
 mul-digit : tie.Need-mul-digit Inv-loop μ-loop
 mul-digit c = search needs
@@ -48,6 +50,9 @@ mul-bytes c = search needs
 add-bytes : tie.Need-add-bytes Inv-loop μ-loop
 add-bytes c = search needs
 
+add-bytes-2 : tie.Need-add-bytes-2 Inv-loop μ-loop
+add-bytes-2 c = search needs
+
 slice-write-bytes : tie.Need-slice-write-bytes Inv-loop μ-loop
 slice-write-bytes c = search needs
 
@@ -60,8 +65,9 @@ loop-less c = search needs
 loop-again : tie.Need-loop-again Inv-loop μ-loop
 loop-again c =
     let at = c .before .before .before .before .before .loop in
-    let w = c .before .before .before .before .before .before .before .before .args .word .now in
-    (omega arith, refl, simp length-set (at .inv .2), at .inv .3 ∙ ap (wrote (at .bytes) (at .i)) (pairs-step w (at .i) (omega arith) ∙ ap (_∷ pairs (drop (2 * (at .i + 1)) w)) (ap₂ (λ (x y : ℕ). x * 16 + y) (sym (c .before .before .digit .ensures .0)) (sym (c .digit2 .ensures .0)))) ∙ wrote-step (at .bytes) (at .i) _ _)
+    let a = c .before .before .before .before .before .before .before .before .args in
+    let w = a .word .now in
+    (omega arith, refl, simp length-set (at .inv .2), at .inv .3 ∙ ap (wrote (at .bytes) (a .at + at .i)) (pairs-step w (at .i) (omega arith) ∙ ap (_∷ pairs (drop (2 * (at .i + 1)) w)) (ap₂ (λ (x y : ℕ). x * 16 + y) (sym (c .before .before .digit .ensures .0)) (sym (c .digit2 .ensures .0)))) ∙ wrote-further (at .bytes) (a .at) (at .i) _ _)
 
 same-length : tie.Need-same-length Inv-loop μ-loop
 same-length c = c .before .loop .inv .2
@@ -70,7 +76,7 @@ returns : tie.Need-returns Inv-loop μ-loop
 unfolding wrote
 returns c =
     let at = c .before .loop in
-    sym (at .inv .3 ∙ ap (wrote (at .bytes) (at .i)) (pairs-end (c .before .before .before .before .args .word .now) (at .i) (omega arith)))
+    sym (at .inv .3 ∙ ap (wrote (at .bytes) (c .before .before .before .before .args .at + at .i)) (pairs-end (c .before .before .before .before .args .word .now) (at .i) (omega arith)))
 
 pub write-bytes-spec : {M : Type 1} → statement M
 write-bytes-spec =
@@ -88,6 +94,7 @@ write-bytes-spec =
     digit-requires-2
     mul-bytes
     add-bytes
+    add-bytes-2
     slice-write-bytes
     add-i
     loop-less

@@ -1,4 +1,4 @@
--- `script::play::line` is safe: the bytes of a message or of an offered name lie in the buffer. Assumes nothing.
+-- `script::play::line` is safe: the bytes of a line lie in the buffer. Assumes nothing.
 use Prim.Native.Nat.{ℕ, _≤_}
 use mathlib.Core.Path.{_≡_, sym}
 use native.Mathlib.Omega.{arith}
@@ -37,29 +37,17 @@ enum-known-count c = search needs
 ticks-requires : tie.Need-ticks-requires
 ticks-requires c κs = search needs
 
-enum-known-len : tie.Need-enum-known-len
-enum-known-len c = search needs
+enum-known-what : tie.Need-enum-known-what
+enum-known-what c = search needs
 
 array-share-prefix-bytes : tie.Need-array-share-prefix-bytes
-array-share-prefix-bytes c = within (c .before .before .len .given .1) (c .before .before .before .before .before .read-line .ensures .fits) (c .before .before .before .before .before .read-line .ensures .kept)
+array-share-prefix-bytes c = within (c .before .before .what .given .1) (c .before .before .before .before .before .read-line .ensures .fits) (c .before .before .before .before .before .read-line .ensures .kept)
 
-slice-aggregate-message : tie.Need-slice-aggregate-message
-slice-aggregate-message c = sym (length-take-le _ _ (within (c .before .before .before .len .given .1) (c .before .before .before .before .before .before .read-line .ensures .fits) (c .before .before .before .before .before .before .read-line .ensures .kept)))
+slice-aggregate-given : tie.Need-slice-aggregate-given
+slice-aggregate-given c = sym (length-take-le _ _ (within (c .before .before .before .what .given .1) (c .before .before .before .before .before .before .read-line .ensures .fits) (c .before .before .before .before .before .before .read-line .ensures .kept)))
 
-message-requires : tie.Need-message-requires
-message-requires c κs = search needs
-
-enum-known-len-2 : tie.Need-enum-known-len-2
-enum-known-len-2 c = search needs
-
-array-share-prefix-bytes-2 : tie.Need-array-share-prefix-bytes-2
-array-share-prefix-bytes-2 c = within (c .before .before .len2 .given .1) (c .before .before .before .before .before .read-line .ensures .fits) (c .before .before .before .before .before .read-line .ensures .kept)
-
-slice-aggregate-offer : tie.Need-slice-aggregate-offer
-slice-aggregate-offer c = sym (length-take-le _ _ (within (c .before .before .before .len2 .given .1) (c .before .before .before .before .before .before .read-line .ensures .fits) (c .before .before .before .before .before .before .read-line .ensures .kept)))
-
-offer-requires : tie.Need-offer-requires
-offer-requires c κs = search needs
+given-requires : tie.Need-given-requires
+given-requires c κs = search needs
 
 enum-told-2 : tie.Need-enum-told-2
 enum-told-2 c = search needs
@@ -109,9 +97,6 @@ returns-7 c = search needs
 returns-8 : tie.Need-returns-8
 returns-8 c = search needs
 
-returns-9 : tie.Need-returns-9
-returns-9 c = search needs
-
 pub line-spec : {M : Type 1} → statement M
 line-spec =
     tie.close
@@ -124,14 +109,10 @@ line-spec =
     fresh-requires
     enum-known-count
     ticks-requires
-    enum-known-len
+    enum-known-what
     array-share-prefix-bytes
-    slice-aggregate-message
-    message-requires
-    enum-known-len-2
-    array-share-prefix-bytes-2
-    slice-aggregate-offer
-    offer-requires
+    slice-aggregate-given
+    given-requires
     enum-told-2
     log-requires
     enum-told-3
@@ -147,5 +128,4 @@ line-spec =
     returns-5
     returns-6
     returns-7
-    returns-8
-    returns-9)
+    returns-8)

@@ -1,0 +1,72 @@
+-- `script::play::chosen` is safe: the first message is a part of the bytes. Assumes nothing.
+use mathlib.Core.Path.{sym}
+use native.Mathlib.Omega.{arith}
+use lib.Seq.{length-take-le}
+use borrow.Author.Needs.{needs}
+use Rattle.script.proofs.play.chosen.Statement.{statement}
+use Rattle.script.proofs.play.chosen.Tie as tie
+
+returns : tie.Need-returns
+returns c = search needs
+
+slice-aggregate-status-choose : tie.Need-slice-aggregate-status-choose
+slice-aggregate-status-choose c = sym (length-take-le _ _ (omega (arith, c .before .if1 .left)))
+
+sub-status-choose : tie.Need-sub-status-choose
+sub-status-choose c = search needs
+
+part-status-choose-start : tie.Need-part-status-choose-start
+part-status-choose-start c = search needs
+
+part-status-choose-end : tie.Need-part-status-choose-end
+part-status-choose-end c = search needs
+
+status-choose-requires : tie.Need-status-choose-requires
+status-choose-requires c κs = search needs
+
+slice-aggregate-say : tie.Need-slice-aggregate-say
+slice-aggregate-say c = search needs
+
+say-requires : tie.Need-say-requires
+say-requires c κs = search needs
+
+slice-aggregate-say-2 : tie.Need-slice-aggregate-say-2
+slice-aggregate-say-2 c = search needs
+
+say-requires-2 : tie.Need-say-requires-2
+say-requires-2 c κs = search needs
+
+slice-aggregate-say-3 : tie.Need-slice-aggregate-say-3
+slice-aggregate-say-3 c = search needs
+
+say-requires-3 : tie.Need-say-requires-3
+say-requires-3 c κs = search needs
+
+returns-2 : tie.Need-returns-2
+returns-2 c = search needs
+
+returns-3 : tie.Need-returns-3
+returns-3 c = search needs
+
+returns-4 : tie.Need-returns-4
+returns-4 c = search needs
+
+pub chosen-spec : {M : Type 1} → statement M
+chosen-spec =
+    tie.close
+    (tie.spec
+    returns
+    slice-aggregate-status-choose
+    sub-status-choose
+    part-status-choose-start
+    part-status-choose-end
+    status-choose-requires
+    slice-aggregate-say
+    say-requires
+    slice-aggregate-say-2
+    say-requires-2
+    slice-aggregate-say-3
+    say-requires-3
+    returns-2
+    returns-3
+    returns-4)
