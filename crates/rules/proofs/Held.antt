@@ -122,20 +122,26 @@ unfolding step ifRoom running done
 step-taken bs m s r q a w =
     rw (r, q, a, w, step) (by-bool (hasRoom (handled m s .now)) (λ k. rw (k, ifRoom) (λ _. refl)) (λ k. rw (k, ifRoom) (λ e. no-bool (sym e))))
 
--- what was taken is held
-pub step-held : (bs : List ℕ) (m : Message) (s : State) → read bs ≡ some m → length (s .blames) ≡ suc (lastView (s .settings .size))
-    → step bs s .number ≡ 0 → Held (s .settings) (step bs s .next) m
+-- what was taken is allowed, and handled
+pub step-done : (bs : List ℕ) (m : Message) (s : State) → read bs ≡ some m → step bs s .number ≡ 0
+    → (allowed (s .settings) m ≡ true) × (step bs s ≡ done (handled m s))
 unfolding step ifRoom refused stopping done
-step-held bs m s q l =
+step-done bs m s q =
     by-bool (running s)
     (λ r.
     by-bool (allowed (s .settings) m)
     (λ a.
     by-bool (ahead m s) (λ w. rw (r, q, a, w, step) (λ e. absurd (omega arith))) λ w.
-    by-bool (hasRoom (handled m s .now)) (λ k. rw (r, q, a, w, step, k, ifRoom) (λ _. handled-held m s a l))
+    by-bool (hasRoom (handled m s .now)) (λ k. rw (r, q, a, w, step, k, ifRoom) (λ _. (refl, refl)))
     (λ k. rw (r, q, a, w, step, k, ifRoom) (λ e. absurd (omega arith))))
     (λ a. rw (r, q, a, step) (λ e. absurd (omega arith))))
     (λ r. rw (r, step) (λ e. absurd (omega arith)))
+
+-- what was taken is held
+pub step-held : (bs : List ℕ) (m : Message) (s : State) → read bs ≡ some m → length (s .blames) ≡ suc (lastView (s .settings .size))
+    → step bs s .number ≡ 0 → Held (s .settings) (step bs s .next) m
+unfolding done
+step-held bs m s q l e = let (a, d) = step-done bs m s q e in rw d (handled-held m s a l)
 
 -- ---- what is said to all is held
 
