@@ -1,0 +1,87 @@
+-- 02, request 12, 'Will it ever get on with it?': a view whose leader is sound and is offered a name as soon as one is wanted, and what
+-- is claimed of it. All of it looks at a run, of the rules or of the calls. Assumes nothing.
+use Prim.Native.Nat.{ℕ, suc, _+_, _*_, _≤_, _<_}
+use mathlib.Core.Path.{_≡_}
+use mathlib.Core.Bool.{Bool, true, false, not, _&&_}
+use mathlib.Core.List.{List, IsPrefix}
+use mathlib.Core.Option.{none, some}
+use lib.Dec.{eqb}
+use lib.ListN.{length}
+use Rattle.rules.specs.Limits.{firstView, lastView}
+use Rattle.rules.specs.Lists.{keep}
+use Rattle.rules.specs.Sizes.{leader}
+use Rattle.rules.specs.Messages.{propose, vote, blame, toAll}
+use Rattle.rules.specs.Words.{Statement, inView, State}
+use Rattle.rules.specs.Inputs.{leads, isOpened, top, extendable}
+use Rattle.agreement.specs.Schedule.{Event, commonTick, settingsOf, clock, Run, Says, Sound, lineage}
+
+-- an offer of a name that nobody has used would be taken
+unfoldable pub possible : State → Bool
+unfolding leads isOpened top extendable
+possible s = leads s && isOpened s && elim (top (s .view) (s .statements)) [ none ↦ false | some x ↦ extendable x s ]
+
+-- a propose of view v with a noted vote
+unfoldable pub isVoted : ℕ → Statement → Bool
+isVoted v x = not (x .isNewView) && eqb (x .view) v && elim (x .voted) [ none ↦ false | some c ↦ true ]
+
+-- how many proposes of view v were voted for
+unfoldable pub votedIn : ℕ → State → ℕ
+unfolding keep isVoted
+votedIn v s = length (keep (isVoted v) (s .statements))
+
+module _ (R : Run) (v : ℕ) where
+  open Run R using (size, n, D, event, state)
+
+  -- the leader of view v
+  abbrev pub chief : ℕ
+  chief = leader (settingsOf size n D 0) v
+
+  -- "a fresh name at the very clock at which each becomes possible": no tick begins while the leader, in v, could take one
+  abbrev pub Prompt : Type 0
+  Prompt = (k : ℕ) → event k ≡ commonTick → state chief k .view ≡ v → possible (state chief k) ≡ false
+
+  -- i entered v at clock e
+  abbrev pub Entered : (i e : ℕ) → Type 0
+  Entered i e = (k : ℕ) × (state i k .view ≡ v) × (state i k .entry ≡ e)
+
+  -- j said a propose of v of height h and its vote, at one event and by clock c
+  abbrev pub VotedBy : (j h c : ℕ) → Type 0
+  VotedBy j h c =
+      (l : ℕ) × (clock event 0 (suc l) ≤ c) × ((b p m a : ℕ) × Says R j l (toAll (propose v h b p m a)) × Says R j l (toAll (vote v h b j)))
+
+  module _ (faulty : ℕ) where
+    -- what is asked of view v beyond the schedule of demand 3
+    pub record Led : Type 0 where
+      pub inside : (firstView ≤ v) × (v ≤ lastView size)
+      pub sound : Sound R faulty chief
+      pub prompt : Prompt
+
+    -- ---- what is claimed
+
+    -- "no sound station blames in that view"
+    abbrev pub NoBlame : Type 0
+    NoBlame = (i : ℕ) → Sound R faulty i → (k a : ℕ) → ¬ (Says R i k (toAll (blame v a)))
+
+    -- "none quits it": who has entered it is in it
+    abbrev pub NoQuit : Type 0
+    NoQuit = (i : ℕ) → Sound R faulty i → (k : ℕ) → v ≤ state i k .view → (state i k .view ≡ v) × (state i k .phase ≡ inView)
+
+    -- "each has voted for its p-th proposal within (2p+4)D+1 ticks after the first sound station entered": from whichever sound
+    -- station's entry at clock e, as the tick to e+(2p+4)D+2 begins or later. The q-th proposal is that of height h+q.
+    abbrev pub InTurn : Type 0
+    InTurn =
+        (i e : ℕ) → Sound R faulty i → Entered i e → (p k : ℕ) → e + (2 * p + 4) * D + 2 ≤ clock event 0 (suc k)
+        → (h : ℕ) × ((j : ℕ) → Sound R faulty j
+        → (p ≤ votedIn v (state j k)) × ((q : ℕ) → 1 ≤ q → q ≤ p → VotedBy j (h + q) (e + (2 * q + 4) * D + 1)))
+
+    -- with B: what a sound station voted for in v is in its log after the tick 2D+1 later, with all its ancestors
+    abbrev pub Commits : (ℕ → ℕ) → Type 0
+    Commits parentOf =
+        (j : ℕ) → Sound R faulty j → (l h b p m a : ℕ) → Says R j l (toAll (propose v h b p m a)) → Says R j l (toAll (vote v h b j))
+        → (k : ℕ) → event k ≡ commonTick → clock event j k ≡ clock event j (suc l) + 2 * D → IsPrefix (lineage parentOf h b) (state j (suc k) .log)
+
+    pub record GetsOn (parentOf : ℕ → ℕ) : Type 0 where
+      pub noBlame : NoBlame
+      pub noQuit : NoQuit
+      pub inTurn : InTurn
+      pub commits : Commits parentOf
