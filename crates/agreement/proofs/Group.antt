@@ -100,7 +100,7 @@ module _ (X : Group) where
   moves-of i h k = event-moves i (event k) (st i k) (X .common k) (X .runs i h (suc k))
 
   -- what the moves of event k say, station i says at the clock after it
-  said-here : (i : ℕ) (k : ℕ) (o : List Effect) → out size n D event i k ≡ before (event k) (st i k) ++ o → (c : ℕ) → ck (suc k) ≡ c → All (SaidAt i c) o
+  pub said-here : (i : ℕ) (k : ℕ) (o : List Effect) → out size n D event i k ≡ before (event k) (st i k) ++ o → (c : ℕ) → ck (suc k) ≡ c → All (SaidAt i c) o
   said-here i k o e c q = to-all (SaidAt i c) o (λ f m. (k, q, subst (List·Memᴰ f) (sym e) (mem-after (before (event k) (st i k)) o f m)))
 
   -- what holds of the reports and of what the moves say holds of all that is said

@@ -1,1 +1,6 @@
+pub mod Tick
+pub mod New
+pub mod Blames
+pub mod Entries
+pub mod Marks
 pub mod Examples
