@@ -55,7 +55,7 @@ module _ {R : Outside} where
       go (inr (v, e)) (inl (w, f)) = inr (omega arith, f ∙ e ∙ sym (move-fixed b .1))
       go (inr (v, e)) (inr (w, f)) = inr (omega arith, f)
 
-begun-entry : (e : Event) (s : State) → begun e s .entry ≡ s .entry
+pub begun-entry : (e : Event) (s : State) → begun e s .entry ≡ s .entry
 unfolding begun counted withClock withLog
 begun-entry idle s = refl
 begun-entry commonTick s = refl

@@ -3,4 +3,5 @@ pub mod New
 pub mod Blames
 pub mod Entries
 pub mod Marks
+pub mod Leader
 pub mod Examples
