@@ -4,4 +4,5 @@ pub mod Blames
 pub mod Entries
 pub mod Marks
 pub mod Leader
+pub mod Calm
 pub mod Examples
