@@ -26,7 +26,7 @@ use Rattle.agreement.proofs.Group.{Group, st, ck, Ok, G, SaidAt, at-settings, a
 use Rattle.agreement.proofs.Follow.{names-sound, follow}
 use Rattle.agreement.proofs.Ripe.{past-of, quit-of, entry-of}
 use Rattle.progress.proofs.Blames.{Names, Accused, heard, own, event-blames}
-use Rattle.progress.proofs.Entries.{entry-run}
+use Rattle.progress.proofs.Entries.{Remains, entry-run}
 use Rattle.progress.proofs.Leader.{source, leader-clean}
 
 module _ (X : Group) (genuine : NoForgery (run (X .size) (X .n) (X .D) (X .event)) (X .faulty)) (v : ℕ) (inside : (firstView ≤ v) × (v ≤ lastView (X .size)))
@@ -137,7 +137,7 @@ module _ (X : Group) (genuine : NoForgery (run (X .size) (X .n) (X .D) (X .event
       there l c = rw (← w) (follow X i j hi hj (past-of X i hi k0) l c)
 
       same : (l : ℕ) → l ≤ k → st X j k .view ≡ st X j l .view → st X j l .entry ≤ ck X l → ck X l ≡ st X i k0 .entry + D
-          → ((st X j k .view ≡ st X j l .view) × (st X j k .entry ≡ st X j l .entry)) ⊎ ((st X j l .view < st X j k .view) × (ck X (suc l) ≤ st X j k .entry))
+          → Remains (st X j l) (st X j k) ⊎ ((st X j l .view < st X j k .view) × (ck X (suc l) ≤ st X j k .entry))
           → st X j k .entry ≤ st X i k0 .entry + D
-      same l o b e c (inl (_, f)) = omega arith
+      same l o b e c (inl (_, f, _)) = omega arith
       same l o b e c (inr (f, _)) = absurd (omega arith)

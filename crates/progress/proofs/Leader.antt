@@ -29,7 +29,7 @@ use Rattle.agreement.proofs.Clock.{clock-suc, clock-mono}
 use Rattle.agreement.proofs.Group.{Group, st, ck, Ok, G, at-settings, begun-at, kept-run, said-held}
 use Rattle.progress.proofs.Tick.{Same, stated, NoMore}
 use Rattle.progress.proofs.New.{Newly, handed, led, made, Change, event-change}
-use Rattle.progress.proofs.Entries.{begun-entry, entry-run}
+use Rattle.progress.proofs.Entries.{begun-entry, Remains, entry-run}
 
 -- a statement is stored when the same is with another mask
 stored-like : (xs : List Statement) (w : Statement) (k : Bool) → w .isNewView ≡ k → (m : ℕ) → In xs (stated k (w .view) (w .height) (w .name) (w .link) m (w .author)) → In xs w
@@ -179,8 +179,8 @@ module _ (X : Group) (genuine : NoForgery (run (X .size) (X .n) (X .D) (X .event
   late-on : (k : ℕ) → Late k → Late (suc k)
   late-on k (a, b) = go (entry-run X L ok k (suc k) (omega arith))
     where
-      go : ((st X L (suc k) .view ≡ st X L k .view) × (st X L (suc k) .entry ≡ st X L k .entry)) ⊎ ((st X L k .view < st X L (suc k) .view) × (ck X (suc k) ≤ st X L (suc k) .entry)) → Late (suc k)
-      go (inl (w, e)) = (omega arith, λ q. let c = b (sym w ∙ q) in let m = clock-mono event k (suc k) (omega arith) in omega arith)
+      go : Remains (st X L k) (st X L (suc k)) ⊎ ((st X L k .view < st X L (suc k) .view) × (ck X (suc k) ≤ st X L (suc k) .entry)) → Late (suc k)
+      go (inl (w, e, _)) = (omega arith, λ q. let c = b (sym w ∙ q) in let m = clock-mono event k (suc k) (omega arith) in omega arith)
       go (inr (w, e)) = (omega arith, λ q. absurd (omega arith))
 
   abbrev Early : ℕ → Type 0
@@ -190,8 +190,8 @@ module _ (X : Group) (genuine : NoForgery (run (X .size) (X .n) (X .D) (X .event
   early-on k before x h q = go (change L ok k)
     where
       led-late : st X L k .view ≡ v → ck X (suc k) ≡ st X L k .entry + 2 * D + 1
-          → ((st X L (suc k) .view ≡ st X L k .view) × (st X L (suc k) .entry ≡ st X L k .entry)) ⊎ ((st X L k .view < st X L (suc k) .view) × (ck X (suc k) ≤ st X L (suc k) .entry)) → Late (suc k)
-      led-late a c (inl (w, e)) = (omega arith, λ p. omega arith)
+          → Remains (st X L k) (st X L (suc k)) ⊎ ((st X L k .view < st X L (suc k) .view) × (ck X (suc k) ≤ st X L (suc k) .entry)) → Late (suc k)
+      led-late a c (inl (w, e, _)) = (omega arith, λ p. omega arith)
       led-late a c (inr (w, e)) = (omega arith, λ p. absurd (omega arith))
 
       fresh-one : (w : Statement) → w .view ≡ v → Newly L (event k) (st X L k) w → Late (suc k)

@@ -5,4 +5,7 @@ pub mod Entries
 pub mod Marks
 pub mod Leader
 pub mod Calm
+pub mod Opening
+pub mod Heights
+pub mod Rungs
 pub mod Examples

@@ -74,7 +74,7 @@ held-stored g s x h = go (x .isNewView) refl
 
 -- ---- what is handed over is held
 
-statement-held : (x : Statement) (s : State) → In (statement x s .now .statements) x
+pub statement-held : (x : Statement) (s : State) → In (statement x s .now .statements) x
 unfolding statement voting saying quit withPhase stored withTables certificateJoined votedFor
 statement-held x s =
     let a = in-last (s .statements) x in
