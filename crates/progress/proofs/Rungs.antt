@@ -1,8 +1,9 @@
 -- The proposals of v, one above the other: each is voted for by all within D ticks, so certified at the leader within 2D, and then the
 -- next one is made. It is shown while no sound station blames v. Assumes nothing.
 use mathlib.Core.Path.{_≡_, subst, refl, sym, ap, _∙_}
-use Prim.Native.Nat.{ℕ, zero, suc, _+_, _*_, _/_, _≤_, _<_}
+use Prim.Native.Nat.{ℕ, zero, suc, _+_, _-_, _*_, _/_, _≤_, _<_}
 use native.Mathlib.Omega.{arith}
+use native.Mathlib.Nat.{le-of-lt}
 use native.Mathlib.Decide.{decLt, decLe, ℕ-discrete}
 use mathlib.Core.Bool.{Bool, true, false, not, _&&_, _||_}
 use mathlib.Core.List.{List, [], _∷_, List·Memᴰ}
@@ -43,6 +44,53 @@ use Rattle.progress.proofs.Calm.{Calm, calm-less, Within, in-calm, join
 use Rattle.progress.proofs.Opening.{Opens, best, opener, locks-below, opener-stored}
 use Rattle.progress.proofs.Heights.{HasEach, at-least, span}
 
+-- ---- numbers
+
+number-a : (e D a k : ℕ) → a ≡ e + 2 * D → e + 2 * D + 1 ≤ k → a < k
+number-a e D a k p q = omega arith
+
+number-b : (e D k : ℕ) → e + 2 * D + 1 ≤ k → e + D ≤ k
+number-b e D k p = omega arith
+
+number-c : (t s D k : ℕ) → k ≡ t + s + 2 * D → t ≤ k
+number-c t s D k p = omega arith
+
+number-d : (t s D c k : ℕ) → c ≤ t + s → k ≡ t + s + 2 * D + 1 → c + 2 * D + 1 ≤ k
+number-d t s D c k p q = omega arith
+
+number-e : (c D k l : ℕ) → c + 2 * D + 1 ≤ k → k ≤ l → c + D + 1 ≤ l
+number-e c D k l p q = omega arith
+
+number-f : (h p : ℕ) → h ≤ h + p
+number-f h p = omega arith
+
+number-g : (a b : ℕ) → a < b → b ≡ a + 1 + (b - (a + 1))
+number-g a b p = omega arith
+
+number-h : (h p : ℕ) → h + p + 1 ≡ h + suc p
+number-h h p = omega arith
+
+number-i : (t s D c k : ℕ) → c ≤ k → k ≡ t + s + 2 * D → c ≤ t + (s + 2 * D)
+number-i t s D c k p q = omega arith
+
+number-j : (e D a b : ℕ) → a ≡ e + 2 * D → b ≡ a + 1 → (e + 2 * D + 1 ≤ b) × (b ≡ e + 2 * D + 1)
+number-j e D a b p q = (omega arith, omega arith)
+
+number-k : (h : ℕ) → h ≡ h + 0
+number-k h = omega arith
+
+number-l : (c b t : ℕ) → c ≤ b → b ≡ t → c ≤ t + 0
+number-l c b t p q = omega arith
+
+number-m : (b k t : ℕ) → b ≡ t → t + 0 < k → b ≤ k
+number-m b k t p q = omega arith
+
+number-n : (t s D k : ℕ) → t + (s + 2 * D) < k → t + s + 2 * D < k
+number-n t s D k p = omega arith
+
+number-o : (t s D k : ℕ) → t + (s + 2 * D) < k → t + s < k
+number-o t s D k p = omega arith
+
 -- what ranks at or above is not below
 above-high : (t u : Certificate) → Above t u → below t u ≡ false
 unfolding below
@@ -57,7 +105,7 @@ above-high t u a = by-bool (below t u) (λ q. go a (or-2 (ltb (t .view) (u .view
 -- a new-view whose certificate ranks at or above the lock is not below it
 new-view-high : (x : Statement) (s : State) (t : Certificate) → x .isNewView ≡ true → x .link ≡ t .view → x .height ≡ t .height → Above t (s .lock) → belowLock x s ≡ false
 unfolding belowLock certificate
-new-view-high x s t k l h a = rw k (above-high (certificate x) (s .lock) (rw k (rank a)))
+new-view-high x s t k l h a = rw k (above-high (record { view = x .link; height = x .height; name = x .name; mask = x .mask }) (s .lock) (rank a))
   where
     rank : Above t (s .lock) → (s .lock .view < x .link) ⊎ ((x .link ≡ s .lock .view) × (s .lock .height ≤ x .height))
     rank (inl d) = inl (omega arith)
@@ -157,3 +205,136 @@ module _ (X : Group) (genuine : NoForgery (run (X .size) (X .n) (X .D) (X .event
         stored-at xs h b a =
             by-option (first (isBlock h b) xs) (λ f. no-bool (sym a ∙ first-none (isBlock h b) xs f))
             (λ z f. (z, (first-mem (isBlock h b) xs z f, sym (block-parts h b z (first-any (isBlock h b) xs z f .1) .1))))
+
+    -- ---- P12: as a tick begins, one above what is certified is stored
+
+    module _ (prompt : Prompt (run size n D event) v) where
+      pub taller : (k : ℕ) → event k ≡ commonTick → Within X genuine v inside ok L k → In (st X L k .statements) N → (x : Statement) → In (st X L k .statements) x → x .view ≡ v
+          → quorum (G X L) (voters (block (x .view) (x .height) (x .name)) (st X L k .tallies)) ≡ true → x .height < lastHeight
+          → (z : Statement) × In (st X L k .statements) z × (z .view ≡ v) × (x .height < z .height)
+      unfolding possible leads isOpened extendable ownBlock leader
+      taller k e (w, p) a x b q cert low =
+          let s = st X L k in
+          let xs = s .statements in
+          let g = at-settings X L ok k in
+          let (y, f, m) = found x xs b in
+          let (_, yv, yh, _) = same-fields x xs y f in
+          let (z, t, h) = top-some v xs y m (yv ∙ q) in
+          let (zm, zv) = top-mem v xs z t in
+          let (o, of, om) = found N xs a in
+          let (ok1, ov, _, _) = same-fields N xs o of in
+          elim (decLt (x .height) (z .height)) [
+            | yes d ↦ (z, mem-in xs z zm, zv, d)
+            | no d ↦ (
+                let zh : z .height ≡ x .height = omega arith in
+                let zn : z .name ≡ x .name = no-conflict-level x z (leader-clean X genuine v ok k x z b (mem-in xs z zm) q) (zv ∙ sym q) zh in
+                let leading : leads s ≡ true = both (true-in (s .view) s p refl) (eq-eqb (leader (s .settings) (s .view)) (s .settings .own) (ap (λ (y : Settings). leader y (s .view)) g ∙ ap (leader (G X L)) w ∙ sym (ap (λ (y : Settings). y .own) g))) in
+                let opened : isOpened s ≡ true = any-mem (λ (y : Statement). y .isNewView && eqb (y .view) (s .view)) xs o om (both ok1 (eq-eqb (o .view) (s .view) (ov ∙ sym w))) in
+                let tops : top (s .view) xs ≡ some z = subst (λ (y : ℕ). top y xs ≡ some z) (sym w) t in
+                let quorate : quorum (s .settings) (voters (ownBlock z 0) (s .tallies)) ≡ true = rw (g, zv ∙ sym q, zh, zn) cert in
+                let extends : extendable z s ≡ true = both quorate (lt-ltb (z .height) lastHeight (omega arith)) in
+                let can : possible s ≡ true = rw (leading, opened, tops, extends) refl in
+                no-bool (sym can ∙ prompt k e w))
+          ]
+
+      -- ---- down the ladder
+
+      -- from one of greater height to the one just above h
+      descend : (k h d : ℕ) (z : Statement) → N .height ≤ h → z .height ≡ h + 1 + d → In (st X L k .statements) z → z .view ≡ v
+          → (w : Statement) × In (st X L k .statements) w × (w .view ≡ v) × (w .height ≡ h + 1) × (w .isNewView ≡ false)
+      descend k h d z o e a q = by-bool (z .isNewView) (λ p. let f = ap (λ (y : Statement). y .height) (same-like N z (the-opener L ok k z a q p)) in absurd (omega arith)) (λ p. down k h d z o e a q p)
+        where
+          down : (k h d : ℕ) (z : Statement) → N .height ≤ h → z .height ≡ h + 1 + d → In (st X L k .statements) z → z .view ≡ v → z .isNewView ≡ false
+              → (w : Statement) × In (st X L k .statements) w × (w .view ≡ v) × (w .height ≡ h + 1) × (w .isNewView ≡ false)
+          down k h zero z o e a q p = (z, a, q, e ∙ omega arith, p)
+          down k h (suc d) z o e a q p =
+              let (y, b, yv, f) = ladder X genuine v ok k z a q p in
+              by-bool (y .isNewView) (λ r. let g = ap (λ (t : Statement). t .height) (same-like N y (the-opener L ok k y b yv r)) in absurd (omega arith))
+              (λ r. down k h d y o (omega arith) b yv r)
+
+      -- ---- P13: the rungs
+
+      abbrev T : ℕ
+      T = eL + 2 * D + 1
+
+      -- the p-th proposal, said by L by clock T + 2pD; the 0-th is the new-view
+      pub record Rung (p : ℕ) : Type 0 where
+        pub what : Statement
+        pub view : what .view ≡ v
+        pub height : what .height ≡ N .height + p
+        pub kind : 1 ≤ p → what .isNewView ≡ false
+        pub clock : ℕ
+        pub entered : eL ≤ clock
+        pub early : clock ≤ T + span D p
+        pub said : Voted (SaidAt X L) clock L what
+
+      entry-now : (k : ℕ) → l0 ≤ k → st X L k .view ≡ v → st X L k .entry ≡ eL
+      entry-now k l w = go (entry-run X L ok l0 k l)
+        where
+          go : Remains (st X L l0) (st X L k) ⊎ ((st X L l0 .view < st X L k .view) × (ck X (suc l0) ≤ st X L k .entry)) → st X L k .entry ≡ eL
+          go (inl (_, e, _)) = e
+          go (inr (d, _)) = let u = O .within .0 in absurd (omega arith)
+
+      -- L is in v from that tick on
+      still : (k : ℕ) → Quiet k → T ≤ ck X k → (l0 < k) × Within X genuine v inside ok L k × (st X L k .entry ≡ eL)
+      still k calm d =
+          let later = clock-before event l0 k (number-a eL D (ck X l0) (ck X k) (O .due) d) in
+          let (win, _) = joins-calm X genuine v inside ok L L ok ok l0 (O .within .0) k calm (number-b eL D (ck X k) d) in
+          (later, win, entry-now k (le-of-lt later) (win .0))
+
+      -- at the tick to T + 2pD + 2D + 1 the next one is stored
+      next-stored : (p : ℕ) → Rung p → (l : ℕ) → event l ≡ commonTick → ck X l ≡ T + span D p + 2 * D → ck X (suc l) ≡ T + span D p + 2 * D + 1 → Quiet l
+          → (w : Statement) × In (st X L l .statements) w × (w .view ≡ v) × (w .height ≡ N .height + p + 1) × (w .isNewView ≡ false)
+      next-stored p r l tk c1 c2 calm =
+          let (later, win, _) = still l calm (number-c T (span D p) D (ck X l) c1) in
+          let due : r .clock + 2 * D + 1 ≤ ck X (suc l) = number-d T (span D p) D (r .clock) (ck X (suc l)) (r .early) c2 in
+          let soon : r .clock + D + 1 ≤ next l = number-e (r .clock) D (ck X (suc l)) (next l) due (X .soon l) in
+          let x = r .what in
+          let (z, a, q, h) = taller l tk win (kept-run X L ok (suc l0) l later .has N (opener-stored X genuine v inside ok l0 O)) x
+              (heard-by L ok (r .clock) l x (r .said) soon) (r .view) (certified-by (r .clock) l x (r .view) (r .said) (r .entered) due calm)
+              (low-enough (r .clock) l x (r .said) soon) in
+          descend l (N .height + p) (z .height - (N .height + p + 1)) z (number-f (N .height) p) (number-g (N .height + p) (z .height) (subst (λ (y : ℕ). y < z .height) (r .height) h)) a q
+
+      rung-on : (p : ℕ) → Rung p → (l : ℕ) → event l ≡ commonTick → ck X l ≡ T + span D p + 2 * D → ck X (suc l) ≡ T + span D p + 2 * D + 1 → Quiet l → Rung (suc p)
+      unfolding span
+      rung-on p r l tk c1 c2 calm =
+          let (w, b, wv, wh, wk) = next-stored p r l tk c1 c2 calm in
+          let d = number-c T (span D p) D (ck X l) c1 in
+          let (_, _, e) = still l calm d in
+          let (c, lo, hi, vt) = cast L ok l calm (number-b eL D (ck X l) d) w b wv in
+          record {
+            what = w;
+            view = wv;
+            height = wh ∙ number-h (N .height) p;
+            kind = λ u. wk;
+            clock = c;
+            entered = subst (λ (y : ℕ). y ≤ c) e lo;
+            early = number-i T (span D p) D c (ck X l) hi c1;
+            said = vt;
+          }
+
+      rung-first : Quiet (suc l0) → Rung 0
+      unfolding span
+      rung-first calm =
+          let d : T ≤ ck X (suc l0) = number-j eL D (ck X l0) (ck X (suc l0)) (O .due) (tick-clock X genuine v ok l0 (O .tick)) .0 in
+          let (_, _, e) = still (suc l0) calm d in
+          let (c, lo, hi, vt) = cast L ok (suc l0) calm (number-b eL D (ck X (suc l0)) d) N (opener-stored X genuine v inside ok l0 O) refl in
+          record {
+            what = N;
+            view = refl;
+            height = number-k (N .height);
+            kind = λ u. absurd (omega (arith, u));
+            clock = c;
+            entered = subst (λ (y : ℕ). y ≤ c) e lo;
+            early = number-l c (ck X (suc l0)) T hi (number-j eL D (ck X l0) (ck X (suc l0)) (O .due) (tick-clock X genuine v ok l0 (O .tick)) .1);
+            said = vt;
+          }
+
+      pub rung : (p k : ℕ) → Quiet k → T + span D p < ck X k → Rung p
+      unfolding span
+      rung zero k calm d =
+          let b = number-j eL D (ck X l0) (ck X (suc l0)) (O .due) (tick-clock X genuine v ok l0 (O .tick)) .1 in
+          rung-first (calm-less X genuine v inside ok (ck X (suc l0)) (ck X k) (number-m (ck X (suc l0)) (ck X k) T b d) calm)
+      rung (suc p) k calm d =
+          let (l, before, c1, c2, tk) = last-of event (X .common) (T + span D p + 2 * D) k (number-n T (span D p) D (ck X k) d) in
+          rung-on p (rung p k calm (number-o T (span D p) D (ck X k) d)) l tk c1 c2 (calm-less X genuine v inside ok (ck X l) (ck X k) (clock-mono event l k (le-of-lt before)) calm)
