@@ -248,7 +248,7 @@ enter-blames s =
     by-option (pair (current e)) (λ p. rw (q, enter, arrive-clean e c p) (votingAll-blames (inOrder (current e)) e)) (λ a p. rw (q, enter, arrive-pair e a c p) refl))
     (λ q. rw (q, enter) refl)
 
-mem-left : (a b : List Effect) (e : Effect) → List·Memᴰ e a → List·Memᴰ e (a ++ b)
+pub mem-left : (a b : List Effect) (e : Effect) → List·Memᴰ e a → List·Memᴰ e (a ++ b)
 mem-left (x ∷ a) b e (List·Memᴰ·head q) = List·Memᴰ·head q
 mem-left (x ∷ a) b e (List·Memᴰ·tail m) = List·Memᴰ·tail (mem-left a b e m)
 

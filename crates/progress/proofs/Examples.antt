@@ -39,25 +39,25 @@ pub steady-schedule : Schedule (run small 3 1 (listed steady)) 2 heightOf parent
 unfolding verdict premises steady heightOf parentOf
 steady-schedule = schedule-checked small 3 1 steady 2 heightOf parentOf refl
 
-pub steady-led : Led (run small 3 1 (listed steady)) 2 2
+pub steady-led : (K : ℕ) → Led (run small 3 1 (listed steady)) 2 2 K
 unfolding allPrompt steady leader
-steady-led =
+steady-led K =
     record {
       inside = (omega arith, omega arith);
       sound = (omega arith, refl);
-      prompt = prompt-checked small 3 1 steady 2 refl;
+      prompt = λ k l. prompt-checked small 3 1 steady 2 refl k;
     }
 
 -- ---- the bound is reached: station 0 is the first to enter, at clock 10, and says its votes for the first and the second proposal at
 -- clocks 10+(2+4)+1 and 10+(4+4)+1, the last that are allowed
 
-pub steady-tight : Entered (run small 3 1 (listed steady)) 2 0 10 × Entered (run small 3 1 (listed steady)) 2 2 11
+pub steady-tight : Entered (run small 3 1 (listed steady)) 2 2 42 0 10 × Entered (run small 3 1 (listed steady)) 2 2 42 2 11
     × Says (run small 3 1 (listed steady)) 0 28 (toAll (vote 2 1 77 0)) × (clock (listed steady) 0 29 ≡ 10 + (2 * 1 + 4) * 1 + 1)
     × Says (run small 3 1 (listed steady)) 0 35 (toAll (vote 2 2 78 0)) × (clock (listed steady) 0 36 ≡ 10 + (2 * 2 + 4) * 1 + 1)
 unfolding at out clock listed steady
 steady-tight = (
-  (16, refl, refl),
-  (18, refl, refl),
+  (16, omega arith, refl, refl),
+  (18, omega arith, refl, refl),
   List·Memᴰ·tail (List·Memᴰ·head refl),
   refl,
   List·Memᴰ·tail (List·Memᴰ·head refl),
@@ -89,21 +89,21 @@ unfolding verdict premises usedName heightOf parentOf at out clock listed possib
 used-name = (schedule-checked small 3 1 usedName 2 heightOf parentOf refl, (refl, refl), List·Memᴰ·tail (List·Memᴰ·head refl))
 
 -- a message comes a tick late
-pub late-delivery : AllBut (run small 3 1 (listed lateDelivery)) 2 heightOf parentOf inTime × Led (run small 3 1 (listed lateDelivery)) 2 2
+pub late-delivery : AllBut (run small 3 1 (listed lateDelivery)) 2 heightOf parentOf inTime × ((K : ℕ) → Led (run small 3 1 (listed lateDelivery)) 2 2 K)
     × Blames lateDelivery 28
 unfolding verdict premises other lateDelivery heightOf parentOf allPrompt leader out listed
 late-delivery = (
   all-but small 3 1 lateDelivery 2 heightOf parentOf inTime refl,
-  record { inside = (omega arith, omega arith); sound = (omega arith, refl); prompt = prompt-checked small 3 1 lateDelivery 2 refl },
+  λ K. record { inside = (omega arith, omega arith); sound = (omega arith, refl); prompt = λ k l. prompt-checked small 3 1 lateDelivery 2 refl k },
   List·Memᴰ·head refl,
 )
 
 -- a blame is forged: both quit view 2, which nobody blamed
-pub forged-blame : AllBut (run small 3 1 (listed forgedBlame)) 2 heightOf parentOf noForgery × Led (run small 3 1 (listed forgedBlame)) 2 2
+pub forged-blame : AllBut (run small 3 1 (listed forgedBlame)) 2 heightOf parentOf noForgery × ((K : ℕ) → Led (run small 3 1 (listed forgedBlame)) 2 2 K)
     × ((at small 3 1 (listed forgedBlame) 0 19 .phase ≡ waiting 12) × (at small 3 1 (listed forgedBlame) 2 21 .phase ≡ waiting 13))
 unfolding verdict premises other forgedBlame heightOf parentOf allPrompt leader at listed
 forged-blame = (
   all-but small 3 1 forgedBlame 2 heightOf parentOf noForgery refl,
-  record { inside = (omega arith, omega arith); sound = (omega arith, refl); prompt = prompt-checked small 3 1 forgedBlame 2 refl },
+  λ K. record { inside = (omega arith, omega arith); sound = (omega arith, refl); prompt = λ k l. prompt-checked small 3 1 forgedBlame 2 refl k },
   (refl, refl),
 )

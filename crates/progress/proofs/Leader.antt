@@ -22,6 +22,7 @@ use Rattle.rules.proofs.Statements.{like, same-like, same-refl, In, mem-in, in-
 use Rattle.rules.proofs.Allowed.{allowed-rights}
 use Rattle.rules.proofs.Offers.{top-mem, offer-made}
 use Rattle.rules.proofs.Made.{made-clean, led-clean}
+use Rattle.rules.proofs.Leads.{leads-at}
 use Rattle.rules.proofs.Views.{view-message}
 use Rattle.agreement.specs.Schedule.{Event, commonTick, given, ticks, at, run, Hands, Genuine, NoForgery}
 use Rattle.agreement.proofs.Events.{begun, begun-same}
@@ -115,13 +116,11 @@ module _ (X : Group) (genuine : NoForgery (run (X .size) (X .n) (X .D) (X .event
   -- an own new-view of v: at the clock 2D+1 after the entry
   led-facts : (i : ℕ) → Ok X i → (k : ℕ) (u : State) (w : Statement) → event k ≡ commonTick → leadsNow u ≡ true → Same (begun commonTick (st X i k)) u → message w ≡ ownNewView u → w .view ≡ v
       → (i ≡ L) × (st X i k .view ≡ v) × (ck X (suc k) ≡ st X i k .entry + 2 * D + 1)
-  unfolding leadsNow
   led-facts i hi k u w e l m f q =
       let b = begun-same commonTick (st X i k) in
       let g : u .settings ≡ G X i = m .settings ∙ b .0 ∙ at-settings X i hi k in
       let uv : u .view ≡ v = sym (own-fields w u f .1) ∙ q in
-      let (ld, cl) = and-2 (leads u) _ l in
-      let c = eqb-true (u .clock) (u .entry + 2 * u .settings .D + 1) cl in
+      let (ld, c) = leads-at u l in
       let d : u .settings .D ≡ D = ap (λ (y : Settings). y .D) g in
       let en : u .entry ≡ st X i k .entry = m .entry ∙ begun-entry commonTick (st X i k) in
       let now : u .clock ≡ ck X (suc k) = m .clock ∙ ap (λ (y : Event). begun y (st X i k) .clock) (sym e) ∙ begun-at X i hi k in

@@ -8,4 +8,8 @@ pub mod Calm
 pub mod Opening
 pub mod Heights
 pub mod Rungs
+pub mod Ballots
+pub mod Bound
+pub mod Theorems
+pub mod Alike
 pub mod Examples

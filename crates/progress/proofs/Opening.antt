@@ -24,11 +24,12 @@ use Rattle.rules.proofs.Statements.{In}
 use Rattle.rules.proofs.Allowed.{sizes, mask-parts, certificate-cases, allowed-rights}
 use Rattle.rules.proofs.Kept.{true-in}
 use Rattle.rules.proofs.Held.{step-done}
+use Rattle.rules.proofs.Leads.{at-leads, newViewOf, overdue-at}
 use Rattle.agreement.specs.Schedule.{Event, commonTick, given, happens, at, run, Says, NoForgery}
 use Rattle.agreement.proofs.Events.{begun, begun-same, happens-given}
 use Rattle.agreement.proofs.Whole.{sent-allowed}
 use Rattle.agreement.proofs.Group.{Group, st, ck, Ok, G, SaidAt, moves-of, said-here, begun-at, at-settings, good}
-use Rattle.progress.proofs.Tick.{tick-whole, newViewOf, lead-has, complain-quiet, enter-keeps}
+use Rattle.progress.proofs.Tick.{tick-whole, lead-has, complain-quiet, enter-keeps}
 use Rattle.progress.proofs.Entries.{begun-entry, Remains, entry-run}
 use Rattle.progress.proofs.Marks.{Marked, marked-above, status-marked, KeepsMarks, moves-marks, Based, based-on, moves-based, fresh-based}
 use Rattle.progress.proofs.Leader.{tick-clock}
@@ -42,9 +43,7 @@ late-blame a D x h = go ((a + 6) * D) (a * D) (add-mul a 6 D) h
     go p m e l = omega arith
 
 overdue-late : (s : State) → overdue s ≡ true → 6 * s .settings .D + 2 ≤ s .clock - s .entry
-unfolding overdue
-overdue-late s q =
-    late-blame (2 * votes s) (s .settings .D) (s .clock - s .entry) (leb-true _ _ (and-2 (isIn (s .view) s && not (holds _ (s .settings .own))) _ q .1))
+overdue-late s q = late-blame (2 * votes s) (s .settings .D) (s .clock - s .entry) (overdue-at s q)
 
 -- every rank is at least that of genesis
 zero-rank : (a b c d : ℕ) → c ≡ 0 → d ≡ 0 → AtLeast a b c d
@@ -209,12 +208,12 @@ module _ (X : Group) (genuine : NoForgery (run (X .size) (X .n) (X .D) (X .event
         by-bool (overdue u0) (λ q. let z = overdue-late u0 q in absurd (omega arith)) (λ q. q)
 
     leading : leadsNow u0 ≡ true
-    unfolding leadsNow leads leader
+    unfolding leads leader
     leading =
         let (g, w, p, _, c) = begun-now in
         let d : u0 .settings .D ≡ D = ap (λ (y : Settings). y .D) g in
-        both (both (true-in (u0 .view) u0 p refl) (eq-eqb (leader (u0 .settings) (u0 .view)) (u0 .settings .own) (ap (λ (y : Settings). leader y (u0 .view)) g ∙ ap (leader (G X L)) w ∙ sym (ap (λ (y : Settings). y .own) g))))
-        (eq-eqb (u0 .clock) (u0 .entry + 2 * u0 .settings .D + 1) (c ∙ sym (ap (λ (y : ℕ). u0 .entry + 2 * y + 1) d)))
+        at-leads u0 (both (true-in (u0 .view) u0 p refl) (eq-eqb (leader (u0 .settings) (u0 .view)) (u0 .settings .own) (ap (λ (y : Settings). leader y (u0 .view)) g ∙ ap (leader (G X L)) w ∙ sym (ap (λ (y : Settings). y .own) g))))
+        (c ∙ sym (ap (λ (y : ℕ). u0 .entry + 2 * y + 1) d))
 
     pub opener-stored : In (st X L (suc l0) .statements) opener
     unfolding at happens

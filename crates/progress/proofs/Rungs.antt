@@ -28,6 +28,7 @@ use Rattle.rules.proofs.Offers.{top-some, top-mem}
 use Rattle.rules.proofs.Kept.{true-in}
 use Rattle.rules.proofs.Orderly.{propose-high, Voted}
 use Rattle.rules.proofs.Held.{block, held-stored}
+use Rattle.rules.proofs.Leads.{new-view-high}
 use Rattle.kept.proofs.Logs.{block-parts}
 use Rattle.agreement.specs.Schedule.{Event, commonTick, run, Says, NoForgery}
 use Rattle.agreement.proofs.Lineage.{up}
@@ -91,26 +92,6 @@ number-n t s D k p = omega arith
 number-o : (t s D k : ℕ) → t + (s + 2 * D) < k → t + s < k
 number-o t s D k p = omega arith
 
--- what ranks at or above is not below
-above-high : (t u : Certificate) → Above t u → below t u ≡ false
-unfolding below
-above-high t u a = by-bool (below t u) (λ q. go a (or-2 (ltb (t .view) (u .view)) _ q)) (λ q. q)
-  where
-    go : Above t u → (ltb (t .view) (u .view) ≡ true) ⊎ ((eqb (t .view) (u .view) && ltb (t .height) (u .height)) ≡ true) → below t u ≡ false
-    go (inl l) (inl q) = let z = ltb-true (t .view) (u .view) q in absurd (omega arith)
-    go (inl l) (inr q) = let z = eqb-true (t .view) (u .view) (and-2 (eqb (t .view) (u .view)) _ q .0) in absurd (omega arith)
-    go (inr (e, l)) (inl q) = let z = ltb-true (t .view) (u .view) q in absurd (omega arith)
-    go (inr (e, l)) (inr q) = let z = ltb-true (t .height) (u .height) (and-2 (eqb (t .view) (u .view)) _ q .1) in absurd (omega arith)
-
--- a new-view whose certificate ranks at or above the lock is not below it
-new-view-high : (x : Statement) (s : State) (t : Certificate) → x .isNewView ≡ true → x .link ≡ t .view → x .height ≡ t .height → Above t (s .lock) → belowLock x s ≡ false
-unfolding belowLock certificate
-new-view-high x s t k l h a = rw k (above-high (record { view = x .link; height = x .height; name = x .name; mask = x .mask }) (s .lock) (rank a))
-  where
-    rank : Above t (s .lock) → (s .lock .view < x .link) ⊎ ((x .link ≡ s .lock .view) × (s .lock .height ≤ x .height))
-    rank (inl d) = inl (omega arith)
-    rank (inr (e, d)) = inr (l ∙ e, omega arith)
-
 module _ (X : Group) (genuine : NoForgery (run (X .size) (X .n) (X .D) (X .event)) (X .faulty)) (v : ℕ) (inside : (firstView ≤ v) × (v ≤ lastView (X .size)))
     (ok : Ok X (leader (G X 0) v)) where
   open Group X using (size, n, D, faulty, event, next, parentOf)
@@ -129,7 +110,7 @@ module _ (X : Group) (genuine : NoForgery (run (X .size) (X .n) (X .D) (X .event
     N = opener X genuine v inside ok l0 O
 
     -- a new-view of v that a sound station stores is L's
-    the-opener : (i : ℕ) → Ok X i → (k : ℕ) (x : Statement) → In (st X i k .statements) x → x .view ≡ v → x .isNewView ≡ true → sameStatement N x ≡ true
+    pub the-opener : (i : ℕ) → Ok X i → (k : ℕ) (x : Statement) → In (st X i k .statements) x → x .view ≡ v → x .isNewView ≡ true → sameStatement N x ≡ true
     the-opener i hi k x a w p =
         let m = k + suc l0 in
         let c = leader-clean X genuine v ok m N x (kept-run X L ok (suc l0) m (omega arith) .has N (opener-stored X genuine v inside ok l0 O))

@@ -6,9 +6,9 @@ use mathlib.Core.List.{List, [], _∷_, _++_}
 use mathlib.Core.Logic.{_⊎_, inl, inr}
 use mathlib.Core.Option.{none, some, Option·some-injective}
 use Rattle.rules.specs.Lists.{first, any}
-use Rattle.rules.specs.Sizes.{Settings, only}
+use Rattle.rules.specs.Sizes.{only}
 use Rattle.rules.specs.Messages.{Message, newView, propose, vote, blame, blameSet, status, Effect, toAll}
-use Rattle.rules.specs.Words.{Statement, message, sameStatement, conflict, Tally, highest, State}
+use Rattle.rules.specs.Words.{Statement, message, sameStatement, conflict, State}
 use Rattle.rules.specs.Inputs.{Work, saying, _▸_, withPhase, withClock, withTables, withBlames, withLog, entering, isIn, quit, belowLock, votedFor, voting, certificateJoined, stored, statement, tallied, blamed, blameFull, blaming, handled, logging, overdue, complain, leadsNow, ownNewView, lead, entersNow, entered, current, pair, inOrder, votingAll, arrive, enter}
 use Rattle.rules.specs.Refusals.{Outcome, done, running, tick}
 use Rattle.rules.proofs.Tests.{by-bool, by-option}
@@ -16,6 +16,7 @@ use Rattle.rules.proofs.Statements.{In, in-append, in-noted}
 use Rattle.rules.proofs.Moves.{Outside, arrived, fillsNow, counted, logAfter, news, voting-low, voting-high, arrive-full, arrive-pair, arrive-clean, message-newView, message-propose, ticked-some, tick-done, enter-moves, tick-moves}
 use Rattle.rules.proofs.Kept.{moves-kept}
 use Rattle.rules.proofs.Held.{statement-held}
+use Rattle.rules.proofs.Leads.{newViewOf, own-message}
 use Rattle.agreement.specs.Schedule.{commonTick}
 use Rattle.agreement.proofs.Events.{begun}
 
@@ -111,14 +112,12 @@ lead-adds s =
     go q (inl n) = inl n
     go q (inr r) = inr (refl, r)
 
--- the new-view that a leader of these settings makes in view v of these tallies
-abbrev pub newViewOf : Settings → ℕ → List Tally → Statement
-newViewOf g v ts = let t = highest g v ts in stated true v (t .height) (t .name) (t .view) (t .mask) (g .own)
-
 -- it is stored then
 pub lead-has : (s : State) → leadsNow s ≡ true → In (lead s .now .statements) (newViewOf (s .settings) (s .view) (s .tallies))
-unfolding lead handled ownNewView
-lead-has s q = rw (q, lead) (statement-held (newViewOf (s .settings) (s .view) (s .tallies)) s)
+unfolding lead handled message
+lead-has s q =
+    let x = newViewOf (s .settings) (s .view) (s .tallies) in
+    rw (q, lead) (subst (λ (m : Message). In (handled m s .now .statements) x) (own-message s) (statement-held x s))
 
 -- who is not overdue doesn't blame
 pub complain-quiet : (s : State) → overdue s ≡ false → complain s .now ≡ s

@@ -40,37 +40,39 @@ module _ (R : Run) (v : ℕ) where
   abbrev pub Prompt : Type 0
   Prompt = (k : ℕ) → event k ≡ commonTick → state chief k .view ≡ v → possible (state chief k) ≡ false
 
-  -- i entered v at clock e
-  abbrev pub Entered : (i e : ℕ) → Type 0
-  Entered i e = (k : ℕ) × (state i k .view ≡ v) × (state i k .entry ≡ e)
-
   -- j said a propose of v of height h and its vote, at one event and by clock c
   abbrev pub VotedBy : (j h c : ℕ) → Type 0
   VotedBy j h c =
       (l : ℕ) × (clock event 0 (suc l) ≤ c) × ((b p m a : ℕ) × Says R j l (toAll (propose v h b p m a)) × Says R j l (toAll (vote v h b j)))
 
-  module _ (faulty : ℕ) where
+  -- "while records last": all that follows is asked and claimed up to a moment K, and the theorem is for each K up to which no sound
+  -- station is full or at the last clock
+  module _ (faulty K : ℕ) where
+    -- i entered v at clock e
+    abbrev pub Entered : (i e : ℕ) → Type 0
+    Entered i e = (k : ℕ) × (k ≤ K) × (state i k .view ≡ v) × (state i k .entry ≡ e)
+
     -- what is asked of view v beyond the schedule of demand 3
     pub record Led : Type 0 where
       pub inside : (firstView ≤ v) × (v ≤ lastView size)
       pub sound : Sound R faulty chief
-      pub prompt : Prompt
+      pub prompt : (k : ℕ) → k < K → event k ≡ commonTick → state chief k .view ≡ v → possible (state chief k) ≡ false
 
     -- ---- what is claimed
 
     -- "no sound station blames in that view"
     abbrev pub NoBlame : Type 0
-    NoBlame = (i : ℕ) → Sound R faulty i → (k a : ℕ) → ¬ (Says R i k (toAll (blame v a)))
+    NoBlame = (i : ℕ) → Sound R faulty i → (k a : ℕ) → k < K → ¬ (Says R i k (toAll (blame v a)))
 
     -- "none quits it": who has entered it is in it
     abbrev pub NoQuit : Type 0
-    NoQuit = (i : ℕ) → Sound R faulty i → (k : ℕ) → v ≤ state i k .view → (state i k .view ≡ v) × (state i k .phase ≡ inView)
+    NoQuit = (i : ℕ) → Sound R faulty i → (k : ℕ) → k ≤ K → v ≤ state i k .view → (state i k .view ≡ v) × (state i k .phase ≡ inView)
 
     -- "each has voted for its p-th proposal within (2p+4)D+1 ticks after the first sound station entered": from whichever sound
     -- station's entry at clock e, as the tick to e+(2p+4)D+2 begins or later. The q-th proposal is that of height h+q.
     abbrev pub InTurn : Type 0
     InTurn =
-        (i e : ℕ) → Sound R faulty i → Entered i e → (p k : ℕ) → e + (2 * p + 4) * D + 2 ≤ clock event 0 (suc k)
+        (i e : ℕ) → Sound R faulty i → Entered i e → (p k : ℕ) → k < K → e + (2 * p + 4) * D + 2 ≤ clock event 0 (suc k)
         → (h : ℕ) × ((j : ℕ) → Sound R faulty j
         → (p ≤ votedIn v (state j k)) × ((q : ℕ) → 1 ≤ q → q ≤ p → VotedBy j (h + q) (e + (2 * q + 4) * D + 1)))
 
@@ -78,7 +80,7 @@ module _ (R : Run) (v : ℕ) where
     abbrev pub Commits : (ℕ → ℕ) → Type 0
     Commits parentOf =
         (j : ℕ) → Sound R faulty j → (l h b p m a : ℕ) → Says R j l (toAll (propose v h b p m a)) → Says R j l (toAll (vote v h b j))
-        → (k : ℕ) → event k ≡ commonTick → clock event j k ≡ clock event j (suc l) + 2 * D → IsPrefix (lineage parentOf h b) (state j (suc k) .log)
+        → (k : ℕ) → k < K → event k ≡ commonTick → clock event 0 k ≡ clock event 0 (suc l) + 2 * D → IsPrefix (lineage parentOf h b) (state j (suc k) .log)
 
     pub record GetsOn (parentOf : ℕ → ℕ) : Type 0 where
       pub noBlame : NoBlame

@@ -1,0 +1,65 @@
+-- What request 12 asks and claims of a run holds of another in which sound stations hold and say the same; and what 'possible' is: an
+-- offer of a fresh name is taken then, and never else. Assumes nothing.
+use mathlib.Core.Path.{_≡_, subst, refl, sym, ap, _∙_}
+use Prim.Native.Nat.{ℕ, suc, _+_, _*_, _≤_, _<_}
+use mathlib.Core.Bool.{Bool, true, false, not, _&&_}
+use mathlib.Core.List.{List, IsPrefix, List·Memᴰ}
+use mathlib.Core.Option.{none, some}
+use lib.Dec.{eqb}
+use Rattle.rules.specs.Messages.{Message, Effect, toAll}
+use Rattle.rules.specs.Words.{Statement, inView, State}
+use Rattle.rules.specs.Inputs.{leads, isOpened, isUsed, top, extendable, above, offered}
+use Rattle.rules.proofs.Tests.{by-bool, by-option, no-bool}
+use Rattle.rules.proofs.Truths.{and-2, both}
+use Rattle.rules.proofs.Offers.{offer-made}
+use Rattle.agreement.specs.Schedule.{Event, Run, Says, Sound, lineage}
+use Rattle.agreement.proofs.Alike.{other}
+use Rattle.progress.specs.Progress.{possible, votedIn, chief, VotedBy, Entered, Led, GetsOn}
+
+-- ---- a host that offers a fresh name whenever one is possible lets no tick begin while one is
+
+pub fresh-taken : (b : ℕ) (s : State) → possible s ≡ true → eqb b 0 ≡ false → isUsed b s ≡ false → (m : Message) × (offered b s ≡ some m)
+unfolding possible offered
+fresh-taken b s p z u =
+    let (lo, x) = and-2 (leads s && isOpened s) _ p in
+    let c : (leads s && isOpened s && not (eqb b 0) && not (isUsed b s)) ≡ true = both (both lo (ap not z)) (ap not u) in
+    by-option (top (s .view) (s .statements)) (λ t. no-bool (sym (rw t at x)))
+    (λ y t. let k : extendable y s ≡ true = rw t at x in (above y b s, rw (c, t, k, offered) refl))
+
+pub taken-possible : (b : ℕ) (s : State) (m : Message) → offered b s ≡ some m → possible s ≡ true
+unfolding possible
+taken-possible b s m e = let (x, t, l, o, _, k, _) = offer-made b s m e in rw (l, o, t, k) refl
+
+-- ---- the same states and words
+
+module _ (R : Run) (state : ℕ → ℕ → State) (said : ℕ → ℕ → List Effect) (faulty v K : ℕ)
+    (states : (i : ℕ) → Sound R faulty i → (k : ℕ) → R .state i k ≡ state i k) (words : (i : ℕ) → Sound R faulty i → (k : ℕ) → R .said i k ≡ said i k) where
+  abbrev T : Run
+  T = other R (R .event) state said
+
+  pub led-alike : Led R v faulty K → Led T v faulty K
+  led-alike led =
+      record {
+        inside = led .inside;
+        sound = led .sound;
+        prompt = λ k l e w.
+            let same = states (chief R v) (led .sound) k in
+            subst (λ (s : State). possible s ≡ false) same (led .prompt k l e (subst (λ (s : State). s .view ≡ v) (sym same) w));
+      }
+
+  voted-alike : (j : ℕ) → Sound R faulty j → (h c : ℕ) → VotedBy R v j h c → VotedBy T v j h c
+  voted-alike j hj h c (l, u, (b, p, m, a, s, w)) = (l, u, (b, p, m, a, subst (List·Memᴰ _) (words j hj l) s, subst (List·Memᴰ _) (words j hj l) w))
+
+  pub gets-alike : (parentOf : ℕ → ℕ) → GetsOn R v faulty K parentOf → GetsOn T v faulty K parentOf
+  gets-alike parentOf G =
+      record {
+        noBlame = λ i hi k a l s. G .noBlame i hi k a l (subst (List·Memᴰ _) (sym (words i hi k)) s);
+        noQuit = λ i hi k l u. subst (λ (s : State). v ≤ s .view → (s .view ≡ v) × (s .phase ≡ inView)) (states i hi k) (G .noQuit i hi k l) u;
+        inTurn = λ i e hi (k0, l0, w, en) p k l d.
+            let same = states i hi k0 in
+            let (h, f) = G .inTurn i e hi (k0, l0, ap (λ (s : State). s .view) same ∙ w, ap (λ (s : State). s .entry) same ∙ en) p k l d in
+            (h, λ j hj. (subst (λ (s : State). p ≤ votedIn v s) (states j hj k) (f j hj .0), λ q a b. voted-alike j hj (h + q) _ (f j hj .1 q a b)));
+        commits = λ j hj l h b p m a s w k u e d.
+            subst (λ (t : State). IsPrefix (lineage parentOf h b) (t .log)) (states j hj (suc k))
+            (G .commits j hj l h b p m a (subst (List·Memᴰ _) (sym (words j hj l)) s) (subst (List·Memᴰ _) (sym (words j hj l)) w) k u e d);
+      }
