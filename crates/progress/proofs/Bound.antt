@@ -181,11 +181,18 @@ module _ (X : Group) (genuine : NoForgery (run (X .size) (X .n) (X .D) (X .event
         let late = number-e e (st X L l0 .entry) D (span D q) (r .clock) ((2 * q + 4) * D) c (opens .2) (r .early) (span-bound D q) le in
         let has : In (st X j (suc l) .statements) t = held-stored (G X j) (st X j (suc l)) t (said-held X j hj l (message t) m) in
         let kind : t .isNewView ≡ false = by-bool (t .isNewView)
-            (λ n. absurd (taller (ap (λ (u : Statement). u .height) (same-like (opener X genuine v inside ok l0 O) t (the-opener X genuine v inside ok l0 O j hj (suc l) t has (tv ∙ r .view) n))) (th ∙ r .height) a)) (λ n. n) in
-        (l, subst (λ (u : ℕ). u ≤ e + (2 * q + 4) * D + 1) (sym ce) late,
-        (t .name, t .link, t .mask, t .author,
-        subst (λ (u : Message). Says (run size n D event) j l (toAll u)) (as-propose t kind (tv ∙ r .view) (th ∙ r .height)) m,
-        subst (λ (u : Message). Says (run size n D event) j l (toAll u)) (as-vote (r .view) (r .height) (sym tn)) s))
+        (λ n. absurd (taller (ap (λ (u : Statement). u .height) (same-like (opener X genuine v inside ok l0 O) t (the-opener X genuine v inside ok l0 O j hj (suc l) t has (tv ∙ r .view) n))) (th ∙ r .height) a)) (λ n. n) in (
+          l,
+          subst (λ (u : ℕ). u ≤ e + (2 * q + 4) * D + 1) (sym ce) late,
+          (
+            t .name,
+            t .link,
+            t .mask,
+            t .author,
+            subst (λ (u : Message). Says (run size n D event) j l (toAll u)) (as-propose t kind (tv ∙ r .view) (th ∙ r .height)) m,
+            subst (λ (u : Message). Says (run size n D event) j l (toAll u)) (as-vote (r .view) (r .height) (sym tn)) s,
+          ),
+        )
       where
         taller : {h q g : ℕ} → g ≡ h → g ≡ h + q → 1 ≤ q → ⊥
         taller {h} {q} {g} x y z = omega arith
@@ -198,10 +205,13 @@ module _ (X : Group) (genuine : NoForgery (run (X .size) (X .n) (X .D) (X .event
 
     pub turn : Turn e p k
     unfolding votedIn
-    turn = (opener X genuine v inside ok l0 O .height, λ j hj. (
-      at-least (λ (z : Statement). z .height) (opener X genuine v inside ok l0 O .height) p (keep (isVoted v) (st X j k .statements)) (noted j hj),
-      voted j hj,
-    ))
+    turn = (
+      opener X genuine v inside ok l0 O .height,
+      λ j hj. (
+        at-least (λ (z : Statement). z .height) (opener X genuine v inside ok l0 O .height) p (keep (isVoted v) (st X j k .statements)) (noted j hj),
+        voted j hj,
+      ),
+    )
 
   -- ---- P15: no sound station blames v
 

@@ -113,25 +113,29 @@ module _ (X : Group) (genuine : NoForgery (run (X .size) (X .n) (X .D) (X .event
             let (q, d, t) = past-told (SaidAt X i) (past-of X i hi k) v (inside .0) y in
             absurd (told-calm i hi q (calm-less q (ck X k) (omega arith) calm) t))
         | no y ↦ (
-            let w : st X i k .view ≡ v = omega arith in
-            (w, by-phase (st X i k) (X .runs i hi k) (λ p. p) (λ q p.
-            let (d, t) = quit-of X i hi k q p in
-            absurd (told-calm i hi q (calm-less q (ck X k) d calm) (subst (λ (z : ℕ). Told (SaidAt X i) (G X i) q z) w t)))))
+            let w : st X i k .view ≡ v = omega arith in (
+              w,
+              by-phase (st X i k) (X .runs i hi k) (λ p. p) (λ q p.
+                  let (d, t) = quit-of X i hi k q p in
+                  absurd (told-calm i hi q (calm-less q (ck X k) d calm) (subst (λ (z : ℕ). Told (SaidAt X i) (G X i) q z) w t))),
+            ))
       ]
 
   -- where i entered v at clock e, j is in v from clock e + D on, and entered it by then
   pub joins-calm : (i j : ℕ) → Ok X i → Ok X j → (k0 : ℕ) → st X i k0 .view ≡ v → (k : ℕ) → Calm (ck X k) → st X i k0 .entry + D ≤ ck X k
       → Within j k × (st X j k .entry ≤ st X i k0 .entry + D)
   joins-calm i j hi hj k0 w k calm d =
-      let (a, p) = in-calm j hj k calm (there k d) in
-      ((a, p), elim (decLt (st X i k0 .entry + D) (ck X k)) [
-        | yes y ↦ (
-            let (l, u, c, _, _) = last-of event (X .common) (st X i k0 .entry + D) k y in
-            let (b, _) = in-calm j hj l (calm-less (ck X l) (ck X k) (clock-mono event l k (omega arith)) calm) (there l (omega arith)) in
-            let e = entry-of X j hj l in
-            same l (omega arith) (a ∙ sym b) e c (entry-run X j hj l k (omega arith)))
-        | no y ↦ (let e = entry-of X j hj k in omega arith)
-      ])
+      let (a, p) = in-calm j hj k calm (there k d) in (
+        (a, p),
+        elim (decLt (st X i k0 .entry + D) (ck X k)) [
+          | yes y ↦ (
+              let (l, u, c, _, _) = last-of event (X .common) (st X i k0 .entry + D) k y in
+              let (b, _) = in-calm j hj l (calm-less (ck X l) (ck X k) (clock-mono event l k (omega arith)) calm) (there l (omega arith)) in
+              let e = entry-of X j hj l in
+              same l (omega arith) (a ∙ sym b) e c (entry-run X j hj l k (omega arith)))
+          | no y ↦ (let e = entry-of X j hj k in omega arith)
+        ],
+      )
     where
       there : (l : ℕ) → st X i k0 .entry + D ≤ ck X l → v ≤ st X j l .view
       there l c = rw (← w) (follow X i j hi hj (past-of X i hi k0) l c)

@@ -32,8 +32,13 @@ unfolding join grown
 join-marked g c t [] (w, m, v, h, q) = (w, List·Memᴰ·tail m, v, h, q)
 join-marked g c t (u ∷ us) (w, List·Memᴰ·head e, v, h, q) =
     by-bool (sameBlock t (certificateOf u))
-    (λ s. rw (s, join) (grown u (t .mask), List·Memᴰ·head refl, ap (λ (x : Tally). x .view) (sym e) ∙ v, ap (λ (x : Tally). x .height) (sym e) ∙ h,
-    quorum-left g (u .mask) (t .mask) (subst (λ (x : Tally). quorum g (x .mask) ≡ true) e q)))
+    (λ s. rw (s, join) (
+      grown u (t .mask),
+      List·Memᴰ·head refl,
+      ap (λ (x : Tally). x .view) (sym e) ∙ v,
+      ap (λ (x : Tally). x .height) (sym e) ∙ h,
+      quorum-left g (u .mask) (t .mask) (subst (λ (x : Tally). quorum g (x .mask) ≡ true) e q),
+    ))
     (λ s. rw (s, join) (w, List·Memᴰ·head e, v, h, q))
 join-marked g c t (u ∷ us) (w, List·Memᴰ·tail m, v, h, q) =
     by-bool (sameBlock t (certificateOf u)) (λ s. rw (s, join) (w, List·Memᴰ·tail m, v, h, q))

@@ -225,6 +225,6 @@ module _ (X : Group) (genuine : NoForgery (run (X .size) (X .n) (X .D) (X .event
         let c : complain u0 .now ≡ u0 = complain-quiet u0 quiet in
         let has = enter-keeps (lead u0 .now) (newViewOf (u0 .settings) (u0 .view) (u0 .tallies)) (lead-has u0 leading) in
         let has′ : In (enter (lead u0 .now) .now .statements) opener = subst (λ (y : Settings). In (enter (lead u0 .now) .now .statements) (newViewOf y v (st X L l0 .tallies))) g
-            (subst (λ (y : ℕ). In (enter (lead u0 .now) .now .statements) (newViewOf (u0 .settings) y (st X L l0 .tallies))) w
-            (subst (λ (y : List Tally). In (enter (lead u0 .now) .now .statements) (newViewOf (u0 .settings) (u0 .view) y)) ts has)) in
+        (subst (λ (y : ℕ). In (enter (lead u0 .now) .now .statements) (newViewOf (u0 .settings) y (st X L l0 .tallies))) w
+        (subst (λ (y : List Tally). In (enter (lead u0 .now) .now .statements) (newViewOf (u0 .settings) (u0 .view) y)) ts has)) in
         subst (λ (t : State). In (t .statements) opener) (sym (nx ∙ e)) (subst (λ (t : State). In (enter (lead t .now) .now .statements) opener) (sym c) has′)

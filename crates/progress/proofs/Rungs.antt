@@ -114,7 +114,7 @@ module _ (X : Group) (genuine : NoForgery (run (X .size) (X .n) (X .D) (X .event
     the-opener i hi k x a w p =
         let m = k + suc l0 in
         let c = leader-clean X genuine v ok m N x (kept-run X L ok (suc l0) m (omega arith) .has N (opener-stored X genuine v inside ok l0 O))
-            (kept-run X L ok k m (omega arith) .has x (source X genuine v ok i hi k x a w)) refl in
+        (kept-run X L ok k m (omega arith) .has x (source X genuine v ok i hi k x a w)) refl in
         one-new-view N x c w refl p
 
     -- ---- P9: a stored statement of v is voted for, from the entry on
@@ -173,9 +173,9 @@ module _ (X : Group) (genuine : NoForgery (run (X .size) (X .n) (X .D) (X .event
         let xs = st X L k .statements in
         let shown = ancestors X c (x .view) (x .height) (x .name) (L, l, ok, omega arith, w) in
         let each : HasEach (λ (z : Statement). z .height) 0 (x .height) xs = λ q a b.
-            let h = shown-stored X L ok k c (x .height - (x .height - q)) (up parentOf (x .height - q) (x .name)) d (shown (x .height - q) (omega arith)) in
-            let (z, f) = stored-at xs (x .height - (x .height - q)) (up parentOf (x .height - q) (x .name)) h in
-            (z, f .0, f .1 ∙ omega arith) in
+        let h = shown-stored X L ok k c (x .height - (x .height - q)) (up parentOf (x .height - q) (x .name)) d (shown (x .height - q) (omega arith)) in
+        let (z, f) = stored-at xs (x .height - (x .height - q)) (up parentOf (x .height - q) (x .name)) h in
+        (z, f .0, f .1 ∙ omega arith) in
         let many = at-least (λ (z : Statement). z .height) 0 (x .height) xs each in
         let few = formed-run X L ok k .fewStatements in
         let g : mostStatements (st X L k .settings .size) ≡ mostStatements size = ap (λ (y : Settings). mostStatements (y .size)) (at-settings X L ok k) in
@@ -272,8 +272,8 @@ module _ (X : Group) (genuine : NoForgery (run (X .size) (X .n) (X .D) (X .event
           let soon : r .clock + D + 1 ≤ next l = number-e (r .clock) D (ck X (suc l)) (next l) due (X .soon l) in
           let x = r .what in
           let (z, a, q, h) = taller l tk win (kept-run X L ok (suc l0) l later .has N (opener-stored X genuine v inside ok l0 O)) x
-              (heard-by L ok (r .clock) l x (r .said) soon) (r .view) (certified-by (r .clock) l x (r .view) (r .said) (r .entered) due calm)
-              (low-enough (r .clock) l x (r .said) soon) in
+          (heard-by L ok (r .clock) l x (r .said) soon) (r .view) (certified-by (r .clock) l x (r .view) (r .said) (r .entered) due calm)
+          (low-enough (r .clock) l x (r .said) soon) in
           descend l (N .height + p) (z .height - (N .height + p + 1)) z (number-f (N .height) p) (number-g (N .height + p) (z .height) (subst (λ (y : ℕ). y < z .height) (r .height) h)) a q
 
       rung-on : (p : ℕ) → Rung p → (l : ℕ) → event l ≡ commonTick → ck X l ≡ T + span D p + 2 * D → ck X (suc l) ≡ T + span D p + 2 * D + 1 → Quiet l → Rung (suc p)

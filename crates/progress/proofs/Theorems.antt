@@ -134,11 +134,13 @@ module _ (size : Size) (n D : ℕ) (event : ℕ → Event) (faulty : ℕ) (heigh
           let same = at-until size n D event K i k0 l0 in
           let ee : at size n D E i k0 .entry ≡ e = ap (λ (s : State). s .entry) same ∙ en in
           let (h, f) = whole-turn size n D E faulty heightOf parentOf S v lu i hi k0 (ap (λ (s : State). s .view) same ∙ w) p k
-              (subst₂ (λ (x y : ℕ). x + (2 * p + 4) * D + 2 ≤ y) (sym ee) (sym (clock-until size n D event K 0 (suc k) l)) d) in
-          (h, λ j hj. (
-            subst (λ (s : State). p ≤ votedIn v s) (at-until size n D event K j k (le-of-lt l)) (f j hj .0),
-            λ q a b. subst (λ (x : ℕ). VotedBy W v j (h + q) (x + (2 * q + 4) * D + 1)) ee (back j (h + q) _ (f j hj .1 q a b)),
-          ))
+          (subst₂ (λ (x y : ℕ). x + (2 * p + 4) * D + 2 ≤ y) (sym ee) (sym (clock-until size n D event K 0 (suc k) l)) d) in (
+            h,
+            λ j hj. (
+              subst (λ (s : State). p ≤ votedIn v s) (at-until size n D event K j k (le-of-lt l)) (f j hj .0),
+              λ q a b. subst (λ (x : ℕ). VotedBy W v j (h + q) (x + (2 * q + 4) * D + 1)) ee (back j (h + q) _ (f j hj .1 q a b)),
+            ),
+          )
 
       commits-at : (j : ℕ) → Sound W faulty j → (l h b p m a : ℕ) → Says W j l (toAll (propose v h b p m a)) → Says W j l (toAll (vote v h b j))
           → (k : ℕ) → k < K → event k ≡ commonTick → clock event 0 k ≡ clock event 0 (suc l) + 2 * D → IsPrefix (lineage parentOf h b) (at size n D event j (suc k) .log)
