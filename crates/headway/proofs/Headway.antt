@@ -1,10 +1,10 @@
 -- Request 12 of the calls, with every premise and every conclusion about stores and bytes: what is asked of the leader's host is asked of
 -- the state that the leader's store holds as a tick begins. Assumes nothing.
-use mathlib.Core.Path.{_≡_, subst, sym}
+use mathlib.Core.Path.{subst, sym}
 use Prim.Native.Nat.{ℕ}
 use mathlib.Core.List.{List}
 use Rattle.rules.specs.Limits.{Size}
-use Rattle.agreement.specs.Schedule.{Event, HasRoom, Run, at, out, run, Sound, RoomTo, Premises}
+use Rattle.agreement.specs.Schedule.{Event, HasRoom, Run, at, out, run, RoomTo, Premises}
 use Rattle.agreement.proofs.Alike.{premises-alike}
 use Rattle.progress.specs.Progress.{Led, GetsOn}
 use Rattle.progress.proofs.Alike.{led-alike, gets-alike}

@@ -1,1 +1,2 @@
 pub mod Headway
+pub mod Examples

@@ -1,20 +1,20 @@
 -- What request 12 asks and claims of a run holds of another in which sound stations hold and say the same; and what 'possible' is: an
 -- offer of a fresh name is taken then, and never else. Assumes nothing.
 use mathlib.Core.Path.{_≡_, subst, refl, sym, ap, _∙_}
-use Prim.Native.Nat.{ℕ, suc, _+_, _*_, _≤_, _<_}
-use mathlib.Core.Bool.{Bool, true, false, not, _&&_}
+use Prim.Native.Nat.{ℕ, suc, _+_, _≤_}
+use mathlib.Core.Bool.{true, false, not, _&&_}
 use mathlib.Core.List.{List, IsPrefix, List·Memᴰ}
-use mathlib.Core.Option.{none, some}
+use mathlib.Core.Option.{some}
 use lib.Dec.{eqb}
-use Rattle.rules.specs.Messages.{Message, Effect, toAll}
-use Rattle.rules.specs.Words.{Statement, inView, State}
+use Rattle.rules.specs.Messages.{Message, Effect}
+use Rattle.rules.specs.Words.{inView, State}
 use Rattle.rules.specs.Inputs.{leads, isOpened, isUsed, top, extendable, above, offered}
-use Rattle.rules.proofs.Tests.{by-bool, by-option, no-bool}
+use Rattle.rules.proofs.Tests.{by-option, no-bool}
 use Rattle.rules.proofs.Truths.{and-2, both}
 use Rattle.rules.proofs.Offers.{offer-made}
-use Rattle.agreement.specs.Schedule.{Event, Run, Says, Sound, lineage}
+use Rattle.agreement.specs.Schedule.{Run, Sound, lineage}
 use Rattle.agreement.proofs.Alike.{other}
-use Rattle.progress.specs.Progress.{possible, votedIn, chief, VotedBy, Entered, Led, GetsOn}
+use Rattle.progress.specs.Progress.{possible, votedIn, chief, VotedBy, Led, GetsOn}
 
 -- ---- a host that offers a fresh name whenever one is possible lets no tick begin while one is
 

@@ -1,13 +1,13 @@
 -- Who blames: a blame is said at a tick alone, by who is overdue then; a bit of a blame mask was handed over, or is the own and was said.
 -- Assumes nothing.
 use mathlib.Core.Path.{_≡_, subst, refl, sym, ap, _∙_}
-use Prim.Native.Nat.{ℕ, suc, _+_}
+use Prim.Native.Nat.{ℕ, _+_}
 use native.Mathlib.Omega.{arith}
 use native.Mathlib.Decide.{ℕ-discrete}
 use mathlib.Core.Bool.{Bool, true, false}
 use mathlib.Core.List.{List, [], _∷_, _++_, List·Memᴰ, List·Memᴰ·head, List·Memᴰ·tail}
 use mathlib.Core.Logic.{_⊎_, inl, inr}
-use mathlib.Core.Option.{none, some}
+use mathlib.Core.Option.{some}
 use lib.Dec.{eqb}
 use lib.ListN.{getD}
 use borrow.Author.Tests.{eqb-true}
@@ -15,10 +15,10 @@ use Rattle.rules.specs.Lists.{first, any}
 use Rattle.rules.specs.Sizes.{Settings, only, bit, joined}
 use Rattle.rules.specs.Messages.{Message, newView, propose, vote, blame, blameSet, status, read, allowed, Effect, toAll, toOne, committed}
 use Rattle.rules.specs.Words.{Statement, message, sameStatement, conflict, highest, State}
-use Rattle.rules.specs.Inputs.{Work, saying, _▸_, withPhase, withTables, withBlames, entering, isIn, quit, belowLock, votedFor, ballot, voting, certificateJoined, stored, statement, tallied, blamesOf, blamed, blameFull, blaming, handled, above, offered, overdue, complain, leadsNow, ownNewView, lead, entersNow, report, entered, current, pair, inOrder, votingAll, enter}
+use Rattle.rules.specs.Inputs.{Work, saying, _▸_, withPhase, withTables, entering, isIn, quit, belowLock, votedFor, ballot, voting, certificateJoined, stored, statement, tallied, blamesOf, blamed, blameFull, blaming, handled, above, offered, overdue, complain, leadsNow, ownNewView, lead, entersNow, report, entered, current, pair, inOrder, votingAll, enter}
 use Rattle.rules.specs.Refusals.{done, refused, stopping, hasRoom, ifRoom, running, step, offer, tick}
-use Rattle.rules.proofs.Tests.{by-bool, by-option, no-bool}
-use Rattle.rules.proofs.Searches.{All, all-append, all-map}
+use Rattle.rules.proofs.Tests.{by-bool, by-option}
+use Rattle.rules.proofs.Searches.{All, all-append}
 use Rattle.rules.proofs.Masks.{joined-bit}
 use Rattle.rules.proofs.Tallies.{bit-only}
 use Rattle.rules.proofs.Offers.{offer-made}

@@ -5,43 +5,40 @@ use Prim.Native.Nat.{ℕ, zero, suc, _+_, _-_, _*_, _≤_, _<_}
 use native.Mathlib.Omega.{arith}
 use native.Mathlib.Nat.{le-of-lt}
 use native.Mathlib.Decide.{decLe}
-use mathlib.Core.Bool.{Bool, true, false, not, _&&_}
+use mathlib.Core.Bool.{true, false}
 use mathlib.Core.List.{List, List·Memᴰ}
 use mathlib.Core.Logic.{_⊎_, inl, inr}
-use mathlib.Core.Option.{Option, none, some}
-use lib.Dec.{leb, eqb}
+use mathlib.Core.Option.{some}
 use lib.ListN.{length}
-use borrow.Author.Tests.{eq-eqb, leb-true}
+use borrow.Author.Tests.{eq-eqb}
 use Rattle.rules.specs.Limits.{firstView, lastView}
 use Rattle.rules.specs.Lists.{keep}
-use Rattle.rules.specs.Sizes.{Settings, leader, holds}
-use Rattle.rules.specs.Messages.{Message, propose, vote, blame, Effect, toAll}
+use Rattle.rules.specs.Sizes.{Settings, leader}
+use Rattle.rules.specs.Messages.{Message, propose, vote, blame, toAll}
 use Rattle.rules.specs.Words.{Statement, message, State}
-use Rattle.rules.specs.Inputs.{isIn, votes, overdue}
+use Rattle.rules.specs.Inputs.{votes, overdue}
 use Rattle.rules.proofs.Tests.{by-bool}
-use Rattle.rules.proofs.Truths.{and-2, both}
 use Rattle.rules.proofs.Searches.{keep-mem, all-of}
 use Rattle.rules.proofs.Statements.{same-like, In}
 use Rattle.rules.proofs.Allowed.{sizes}
-use Rattle.rules.proofs.Orderly.{Voted}
 use Rattle.rules.proofs.Held.{held-stored}
 use Rattle.rules.proofs.Leads.{overdue-at}
 use Rattle.agreement.specs.Schedule.{Event, commonTick, at, out, run, Says, NoForgery}
 use Rattle.agreement.proofs.Events.{begun, begun-same}
 use Rattle.agreement.proofs.Clock.{clock-mono, one-tick, last-of}
-use Rattle.agreement.proofs.Group.{Group, st, ck, Ok, G, SaidAt, begun-at, at-settings, orderly-run, said-held}
+use Rattle.agreement.proofs.Group.{Group, st, ck, Ok, G, begun-at, at-settings, orderly-run, said-held}
 use Rattle.agreement.proofs.Stays.{found, same-fields}
 use Rattle.progress.specs.Progress.{isVoted, votedIn, Prompt, VotedBy}
 use Rattle.progress.proofs.Blames.{Blaming, Overdue, event-says}
 use Rattle.progress.proofs.Entries.{begun-entry, Remains, entry-run}
 use Rattle.progress.proofs.Leader.{tick-clock}
-use Rattle.progress.proofs.Calm.{Calm, calm-less, Within, in-calm, joins-calm}
+use Rattle.progress.proofs.Calm.{Calm, calm-less, in-calm, joins-calm}
 use Rattle.progress.proofs.Opening.{Opens, opener}
-use Rattle.progress.proofs.Heights.{HasEach, at-least, span, span-bound, span-mono}
+use Rattle.progress.proofs.Heights.{at-least, span, span-bound, span-mono}
 use Rattle.progress.proofs.Rungs.{the-opener, high, heard-by, follows, Rung, rung}
 use Rattle.progress.proofs.Ballots.{says-ballot}
 
--- ---- numbers
+-- ---- numbers: each fact of linear arithmetic apart, with all that it rests on in view
 
 number-a : (e D t a b : ℕ) → 1 ≤ D → a ≡ t + 4 * D → e + a + 2 ≤ b → (k : ℕ) → b ≤ k + 1 → (e + D ≤ k) × (e + 4 * D + 1 + t ≤ k)
 number-a e D t a b d p q k l = (omega arith, omega arith)
@@ -118,7 +115,7 @@ module _ (X : Group) (genuine : NoForgery (run (X .size) (X .n) (X .D) (X .event
           (l, record { tick = tk; within = in-calm X genuine v inside ok L ok l cl (omega (arith, a, lv)); due = c1 ∙ ap (λ (y : ℕ). y + 2 * D) b }, subst (λ (y : ℕ). y ≤ st X i k0 .entry + D) b le)
       go l lv le c1 c2 tk cl (inr (_, b)) = absurd (omega (arith, b, c2))
 
-  -- ---- P14
+  -- ---- the turns
 
   abbrev Turn : (e p k : ℕ) → Type 0
   Turn e p k =
@@ -213,7 +210,7 @@ module _ (X : Group) (genuine : NoForgery (run (X .size) (X .n) (X .D) (X .event
       ),
     )
 
-  -- ---- P15: no sound station blames v
+  -- ---- no sound station blames v
 
   says-overdue : (i : ℕ) → Ok X i → (l a : ℕ) → Says (run size n D event) i l (toAll (blame v a)) → Overdue (event l) (st X i l) v a
   unfolding at out

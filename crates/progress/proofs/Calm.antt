@@ -1,17 +1,15 @@
 -- While no sound station blames v, none quits it, and all enter it within D ticks of each other. Assumes nothing.
-use mathlib.Core.Path.{_≡_, subst, refl, sym, ap, _∙_}
+use mathlib.Core.Path.{_≡_, subst, sym, ap, _∙_}
 use Prim.Native.Nat.{ℕ, zero, suc, _+_, _≤_, _<_, _^_}
 use native.Mathlib.Omega.{arith}
 use native.Mathlib.Decide.{decLt}
-use mathlib.Core.Bool.{true, false}
-use mathlib.Core.List.{List, List·Memᴰ}
+use mathlib.Core.Bool.{true}
 use mathlib.Core.Logic.{_⊎_, inl, inr}
-use mathlib.Core.Option.{some}
-use lib.ListN.{getD, replicate, getD-replicate}
+use lib.ListN.{getD-replicate}
 use Rattle.rules.specs.Limits.{firstView, lastView}
-use Rattle.rules.specs.Sizes.{Settings, leader, bit, quorum}
-use Rattle.rules.specs.Messages.{Message, newView, propose, vote, blame, blameSet, status, read, allowed, Effect, toAll}
-use Rattle.rules.specs.Words.{Statement, message, conflict, inView, State, fresh}
+use Rattle.rules.specs.Sizes.{Settings, leader, bit}
+use Rattle.rules.specs.Messages.{Message, newView, propose, vote, blame, blameSet, status, allowed, toAll}
+use Rattle.rules.specs.Words.{Statement, message, inView, fresh}
 use Rattle.rules.specs.Inputs.{blamesOf}
 use Rattle.rules.proofs.Tests.{no-bool}
 use Rattle.rules.proofs.Tallies.{no-bit}
@@ -20,9 +18,9 @@ use Rattle.rules.proofs.Kept.{by-phase}
 use Rattle.rules.proofs.Orderly.{Told, full, two, past-told}
 use Rattle.rules.proofs.Held.{held-stored}
 use Rattle.kept.proofs.Blames.{blamesOf-mask}
-use Rattle.agreement.specs.Schedule.{Event, given, at, out, run, Says, Hands, Genuine, NoForgery}
+use Rattle.agreement.specs.Schedule.{at, out, run, Says, Genuine, NoForgery}
 use Rattle.agreement.proofs.Clock.{clock-mono, last-of}
-use Rattle.agreement.proofs.Group.{Group, st, ck, Ok, G, SaidAt, at-settings, at-clock, kept-run, view-run, formed-run, said-held}
+use Rattle.agreement.proofs.Group.{Group, st, ck, Ok, G, SaidAt, at-settings, kept-run, formed-run, said-held}
 use Rattle.agreement.proofs.Follow.{names-sound, follow}
 use Rattle.agreement.proofs.Ripe.{past-of, quit-of, entry-of}
 use Rattle.progress.proofs.Blames.{Names, Accused, heard, own, event-blames}

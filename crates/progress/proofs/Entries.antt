@@ -1,6 +1,6 @@
 -- The clock of entry and the lock: they stay with the view, and who enters notes the clock. Assumes nothing.
 use mathlib.Core.Path.{_≡_, refl, sym, _∙_}
-use Prim.Native.Nat.{ℕ, zero, suc, _+_, _≤_, _<_}
+use Prim.Native.Nat.{ℕ, zero, suc, _≤_, _<_}
 use native.Mathlib.Omega.{arith}
 use native.Mathlib.Decide.{decLe}
 use mathlib.Core.List.{List, [], _∷_}
@@ -10,7 +10,7 @@ use Rattle.rules.specs.Words.{Statement, State}
 use Rattle.rules.specs.Inputs.{saying, _▸_, withPhase, withClock, withTables, withBlames, withLog, entering, belowLock, votedFor, stored, blamed, current, inOrder, votingAll}
 use Rattle.rules.proofs.Tests.{by-bool}
 use Rattle.rules.proofs.Moves.{Outside, arrived, counted, Move, joins, stores, passes, casts, clashes, accuses, fills, complains, entersFull, entersPair, enters, Moves, here, more, voting-low, voting-high}
-use Rattle.rules.proofs.Kept.{votingAll-fixed, move-fixed, move-kept, moves-kept}
+use Rattle.rules.proofs.Kept.{votingAll-fixed, move-fixed}
 use Rattle.agreement.specs.Schedule.{Event, idle, commonTick, tickOf, given, offeredTo}
 use Rattle.agreement.proofs.Events.{begun, begun-same}
 use Rattle.agreement.proofs.Clock.{clock-mono}

@@ -1,27 +1,26 @@
 -- The schedules of specs/Examples.antt, evaluated: what request 12 claims is not empty, its bound is reached, and without a prompt
 -- leader, delivery in time or no forgery, all else holding, a sound station blames or quits. Assumes nothing.
 use mathlib.Core.Path.{_≡_, refl, sym, ap, _∙_}
-use Prim.Native.Nat.{ℕ, suc, _+_, _*_, _≤_, _<_}
+use Prim.Native.Nat.{ℕ, _+_, _*_}
 use native.Mathlib.Omega.{arith}
 use native.Mathlib.Decide.{decLt}
-use mathlib.Core.Bool.{Bool, true, false, not, _&&_}
-use mathlib.Core.List.{List, [], _∷_, List·Memᴰ·head, List·Memᴰ·tail}
-use lib.Dec.{eqb}
+use mathlib.Core.Bool.{true}
+use mathlib.Core.List.{List, List·Memᴰ·head, List·Memᴰ·tail}
 use lib.ListN.{length}
 use borrow.Author.Tests.{eq-eqb, not-true}
 use Rattle.rules.specs.Limits.{Size, small}
 use Rattle.rules.specs.Sizes.{leader}
-use Rattle.rules.specs.Messages.{propose, vote, blame, blameSet, toAll}
+use Rattle.rules.specs.Messages.{vote, blame, toAll}
 use Rattle.rules.specs.Words.{waiting}
-use Rattle.rules.proofs.Tests.{no-bool}
 use Rattle.rules.proofs.Truths.{both}
-use Rattle.agreement.specs.Schedule.{Event, idle, commonTick, settingsOf, at, out, clock, run, Says, Schedule}
+use Rattle.agreement.specs.Schedule.{Event, commonTick, settingsOf, at, out, clock, run, Says, Schedule}
 use Rattle.agreement.specs.Checks.{inTime, noForgery, premises, other, AllBut, listed, verdict}
 use Rattle.agreement.specs.Examples.{heightOf, parentOf}
 use Rattle.agreement.proofs.Events.{never-idle}
 use Rattle.agreement.proofs.Checked.{implies-true, every-true, listed-idle, all-but, schedule-checked}
-use Rattle.progress.specs.Progress.{possible, votedIn, Prompt, Entered, Led}
+use Rattle.progress.specs.Progress.{possible, votedIn, Prompt, Entered, Led, GetsOn}
 use Rattle.progress.specs.Examples.{steady, lateOffer, usedName, lateDelivery, forgedBlame, isTick, allPrompt}
+use Rattle.progress.proofs.Theorems.{gets-on}
 
 -- the test of a prompt leader that holds is the premise
 prompt-checked : (size : Size) (n D : ℕ) (es : List Event) (v : ℕ) → allPrompt size n D es v ≡ true → Prompt (run size n D (listed es)) v
@@ -47,6 +46,11 @@ steady-led K =
       sound = (omega arith, refl);
       prompt = λ k l. prompt-checked small 3 1 steady 2 refl k;
     }
+
+-- so view 2 gets on, by the theorem
+pub steady-gets-on : (K : ℕ) → GetsOn (run small 3 1 (listed steady)) 2 2 K parentOf
+steady-gets-on K =
+    gets-on small 3 1 (listed steady) 2 heightOf parentOf 2 K (steady-schedule .premises) (λ i ok k l. steady-schedule .room i ok k) (steady-led K)
 
 -- ---- the bound is reached: station 0 is the first to enter, at clock 10, and says its votes for the first and the second proposal at
 -- clocks 10+(2+4)+1 and 10+(4+4)+1, the last that are allowed

@@ -3,16 +3,15 @@
 use mathlib.Core.Path.{_≡_, subst, refl, sym, ap, _∙_}
 use Prim.Native.Nat.{ℕ, zero, suc, _+_, _*_, _≤_, _<_}
 use native.Mathlib.Omega.{arith}
-use mathlib.Core.Bool.{Bool, true, false, _&&_}
-use mathlib.Core.List.{List, [], _∷_, _++_, List·Memᴰ}
+use mathlib.Core.Bool.{Bool, true, false}
+use mathlib.Core.List.{List, [], _∷_, _++_}
 use mathlib.Core.Logic.{_⊎_, inl, inr}
 use mathlib.Core.Option.{none, some}
-use lib.Dec.{eqb}
 use lib.ListN.{getD}
 use borrow.Author.Tests.{eqb-true}
 use Rattle.rules.specs.Lists.{first, any}
 use Rattle.rules.specs.Sizes.{Settings, leader}
-use Rattle.rules.specs.Messages.{Message, newView, propose, viewOf, kind, values, read, allowed, toAll}
+use Rattle.rules.specs.Messages.{Message, kind, values, read, allowed}
 use Rattle.rules.specs.Words.{Statement, message, sameStatement, against, conflict, State, fresh}
 use Rattle.rules.specs.Inputs.{isIn, leads, top, above, offered, leadsNow, ownNewView}
 use Rattle.rules.proofs.Tests.{by-bool, by-option, no-bool}
@@ -23,12 +22,11 @@ use Rattle.rules.proofs.Allowed.{allowed-rights}
 use Rattle.rules.proofs.Offers.{top-mem, offer-made}
 use Rattle.rules.proofs.Made.{made-clean, led-clean}
 use Rattle.rules.proofs.Leads.{leads-at}
-use Rattle.rules.proofs.Views.{view-message}
-use Rattle.agreement.specs.Schedule.{Event, commonTick, given, ticks, at, run, Hands, Genuine, NoForgery}
+use Rattle.agreement.specs.Schedule.{Event, commonTick, given, ticks, at, run, Genuine, NoForgery}
 use Rattle.agreement.proofs.Events.{begun, begun-same}
 use Rattle.agreement.proofs.Clock.{clock-suc, clock-mono}
 use Rattle.agreement.proofs.Group.{Group, st, ck, Ok, G, at-settings, begun-at, kept-run, said-held}
-use Rattle.progress.proofs.Tick.{Same, stated, NoMore}
+use Rattle.progress.proofs.Tick.{Same, stated}
 use Rattle.progress.proofs.New.{Newly, handed, led, made, Change, event-change}
 use Rattle.progress.proofs.Entries.{begun-entry, Remains, entry-run}
 
@@ -137,7 +135,7 @@ module _ (X : Group) (genuine : NoForgery (run (X .size) (X .n) (X .D) (X .event
       let (m, xv) = top-mem (s .view) (s .statements) x t in
       (leads-chief i s (at-settings X i hi k) l sv, sv, n, (x, mem-in (s .statements) x m, xv ∙ sv, h))
 
-  -- ---- P1: what a sound station stores of v, L stores
+  -- ---- what a sound station stores of v, L stores
 
   abbrev Source : (i k : ℕ) → Type 0
   Source i k = (x : Statement) → In (st X i k .statements) x → x .view ≡ v → In (st X L k .statements) x
@@ -170,7 +168,7 @@ module _ (X : Group) (genuine : NoForgery (run (X .size) (X .n) (X .D) (X .event
   source i hi zero = λ x h q. no-bool (sym h)
   source i hi (suc k) = source-on i hi k (source i hi k)
 
-  -- ---- P2: L stores nothing of v before the clock of its new-view
+  -- ---- L stores nothing of v before the clock of its new-view
 
   abbrev Late : ℕ → Type 0
   Late k = (v ≤ st X L k .view) × (st X L k .view ≡ v → st X L k .entry + 2 * D + 1 ≤ ck X k)
@@ -211,7 +209,7 @@ module _ (X : Group) (genuine : NoForgery (run (X .size) (X .n) (X .D) (X .event
   early zero = λ x h q. no-bool (sym h)
   early (suc k) = early-on k (early k)
 
-  -- ---- P3: no two that L stores of v conflict, at any moment and in any phase
+  -- ---- no two that L stores of v conflict, at any moment and in any phase
 
   -- what is stored conflicts with nothing stored
   stored-clean : (xs : List Statement) → Clean v xs → (w : Statement) → In xs w → w .view ≡ v → first (conflict w) xs ≡ none

@@ -1,18 +1,18 @@
 -- What is certified in the tallies stays so, and the highest certificate ranks at or above it; a lock is genesis or was certified as the
 -- view was entered, and was then sent to the leader. S c e: the station said e at clock c. Assumes nothing.
 use mathlib.Core.Path.{_≡_, subst, refl, sym, ap, _∙_}
-use Prim.Native.Nat.{ℕ, zero, suc, _+_, _≤_, _<_}
+use Prim.Native.Nat.{ℕ, _+_, _≤_, _<_}
 use native.Mathlib.Omega.{arith}
 use mathlib.Core.Bool.{true, false, _&&_}
-use mathlib.Core.List.{List, [], _∷_, _++_, List·Memᴰ, List·Memᴰ·head, List·Memᴰ·tail}
+use mathlib.Core.List.{List, [], _∷_, List·Memᴰ, List·Memᴰ·head, List·Memᴰ·tail}
 use mathlib.Core.Logic.{_⊎_, inl, inr}
 use lib.Dec.{eqb, ltb}
 use borrow.Author.Tests.{lt-ltb, eqb-true}
 use Rattle.rules.specs.Sizes.{Settings, leader, only, quorum}
-use Rattle.rules.specs.Messages.{Message, status, Effect, toAll, toOne}
+use Rattle.rules.specs.Messages.{status, Effect, toOne}
 use Rattle.rules.specs.Words.{Statement, Certificate, Tally, certificateOf, opened, ownBlock, certificate, sameBlock, grown, join, joinCertificate, certified, higher, highest, genesis, State, fresh}
 use Rattle.rules.specs.Inputs.{saying, _▸_, withPhase, withTables, withBlames, withLog, entering, belowLock, votedFor, stored, tallied, blamed, handled, nextLock, report, current, inOrder, votingAll}
-use Rattle.rules.proofs.Tests.{by-bool, no-bool}
+use Rattle.rules.proofs.Tests.{by-bool}
 use Rattle.rules.proofs.Truths.{and-2}
 use Rattle.rules.proofs.Searches.{All, all-split}
 use Rattle.rules.proofs.Tallies.{block-eq, Above, at-least-trans, higher-true, higher-false, highest-tally}

@@ -2,7 +2,7 @@
 -- offer. Assumes nothing.
 use mathlib.Core.Path.{_≡_, subst, refl, sym, ap, _∙_}
 use Prim.Native.Nat.{ℕ}
-use mathlib.Core.Bool.{true, false}
+use mathlib.Core.Bool.{true}
 use mathlib.Core.List.{List, [], _∷_, _++_}
 use mathlib.Core.Logic.{_⊎_, inl, inr}
 use mathlib.Core.Option.{some}
@@ -11,7 +11,7 @@ use borrow.Author.Tests.{eqb-true}
 use Rattle.rules.specs.Messages.{Message, read, allowed}
 use Rattle.rules.specs.Words.{Statement, message, State}
 use Rattle.rules.specs.Inputs.{Work, saying, handled, offered, complain, leadsNow, ownNewView, lead, enter}
-use Rattle.rules.specs.Refusals.{done, refused, hasRoom, ifRoom, running, step, offer, tick}
+use Rattle.rules.specs.Refusals.{done, refused, hasRoom, ifRoom, running, tick}
 use Rattle.rules.proofs.Tests.{by-bool, no-bool}
 use Rattle.rules.proofs.Statements.{In}
 use Rattle.rules.proofs.Answers.{by-step, by-offer}

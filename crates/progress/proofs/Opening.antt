@@ -5,27 +5,26 @@ use Prim.Native.Nat.{ℕ, zero, suc, _+_, _-_, _*_, _≤_, _<_}
 use native.Mathlib.Omega.{arith}
 use native.Mathlib.Nat.{add-mul}
 use native.Mathlib.Decide.{decLt, decLe, ℕ-discrete}
-use mathlib.Core.Bool.{true, false, not, _&&_}
+use mathlib.Core.Bool.{true, false}
 use mathlib.Core.List.{List}
 use mathlib.Core.Logic.{_⊎_, inl, inr}
-use mathlib.Core.Option.{some}
-use lib.Dec.{leb, eqb}
-use borrow.Author.Tests.{eqb-true, eq-eqb, leb-true}
+use lib.Dec.{eqb}
+use borrow.Author.Tests.{eqb-true, eq-eqb}
 use Rattle.rules.specs.Limits.{firstView, lastView}
-use Rattle.rules.specs.Sizes.{Settings, leader, holds, quorum}
-use Rattle.rules.specs.Messages.{Message, status, viewOf, read, write, allowed, Effect, toAll, toOne}
+use Rattle.rules.specs.Sizes.{Settings, leader}
+use Rattle.rules.specs.Messages.{status, viewOf, write, toOne}
 use Rattle.rules.specs.Words.{Statement, Certificate, Tally, highest, inView, State}
-use Rattle.rules.specs.Inputs.{isIn, leads, handled, votes, overdue, complain, leadsNow, lead, enter}
+use Rattle.rules.specs.Inputs.{leads, handled, votes, overdue, complain, leadsNow, lead, enter}
 use Rattle.rules.specs.Refusals.{Outcome, done, running, step, tick}
 use Rattle.rules.proofs.Tests.{by-bool}
-use Rattle.rules.proofs.Truths.{and-2, both}
+use Rattle.rules.proofs.Truths.{both}
 use Rattle.rules.proofs.Tallies.{Above, AtLeast}
 use Rattle.rules.proofs.Statements.{In}
 use Rattle.rules.proofs.Allowed.{sizes, mask-parts, certificate-cases, allowed-rights}
 use Rattle.rules.proofs.Kept.{true-in}
 use Rattle.rules.proofs.Held.{step-done}
 use Rattle.rules.proofs.Leads.{at-leads, newViewOf, overdue-at}
-use Rattle.agreement.specs.Schedule.{Event, commonTick, given, happens, at, run, Says, NoForgery}
+use Rattle.agreement.specs.Schedule.{Event, commonTick, happens, at, run, Says, NoForgery}
 use Rattle.agreement.proofs.Events.{begun, begun-same, happens-given}
 use Rattle.agreement.proofs.Whole.{sent-allowed}
 use Rattle.agreement.proofs.Group.{Group, st, ck, Ok, G, SaidAt, moves-of, said-here, begun-at, at-settings, good}

@@ -1,36 +1,35 @@
 -- The proposals of v, one above the other: each is voted for by all within D ticks, so certified at the leader within 2D, and then the
 -- next one is made. It is shown while no sound station blames v. Assumes nothing.
 use mathlib.Core.Path.{_≡_, subst, refl, sym, ap, _∙_}
-use Prim.Native.Nat.{ℕ, zero, suc, _+_, _-_, _*_, _/_, _≤_, _<_}
+use Prim.Native.Nat.{ℕ, zero, suc, _+_, _-_, _*_, _≤_, _<_}
 use native.Mathlib.Omega.{arith}
 use native.Mathlib.Nat.{le-of-lt}
-use native.Mathlib.Decide.{decLt, decLe, ℕ-discrete}
-use mathlib.Core.Bool.{Bool, true, false, not, _&&_, _||_}
-use mathlib.Core.List.{List, [], _∷_, List·Memᴰ}
+use native.Mathlib.Decide.{decLt}
+use mathlib.Core.Bool.{true, false, _&&_}
+use mathlib.Core.List.{List, List·Memᴰ}
 use mathlib.Core.Logic.{_⊎_, inl, inr}
-use mathlib.Core.Option.{none, some}
-use lib.Dec.{leb, ltb, eqb}
-use lib.ListN.{length}
-use borrow.Author.Tests.{eqb-true, eq-eqb, lt-ltb, ltb-true}
+use mathlib.Core.Option.{some}
+use lib.Dec.{eqb}
+use borrow.Author.Tests.{eq-eqb, lt-ltb}
 use Rattle.rules.specs.Limits.{firstView, lastView, lastHeight, mostStatements}
 use Rattle.rules.specs.Lists.{first, any}
-use Rattle.rules.specs.Sizes.{Settings, leader, bit, quorum}
-use Rattle.rules.specs.Messages.{vote, toAll}
-use Rattle.rules.specs.Words.{Statement, message, sameStatement, conflict, Certificate, certificate, below, voters, ownBlock, inView, State}
-use Rattle.rules.specs.Inputs.{isIn, belowLock, isBlock, leads, isOpened, top, extendable}
+use Rattle.rules.specs.Sizes.{Settings, leader, quorum}
+use Rattle.rules.specs.Messages.{vote}
+use Rattle.rules.specs.Words.{Statement, message, sameStatement, voters, ownBlock}
+use Rattle.rules.specs.Inputs.{belowLock, isBlock, leads, isOpened, top, extendable}
 use Rattle.rules.proofs.Tests.{by-bool, by-option, no-bool}
-use Rattle.rules.proofs.Truths.{and-2, both, or-2}
+use Rattle.rules.proofs.Truths.{both}
 use Rattle.rules.proofs.Bounds.{statements-most}
 use Rattle.rules.proofs.Searches.{any-mem, first-any, first-mem, first-none}
-use Rattle.rules.proofs.Statements.{same-like, same-sym, In, mem-in, in-cong, no-conflict-level}
-use Rattle.rules.proofs.Tallies.{Above, sound-quorum, count-quorum}
+use Rattle.rules.proofs.Statements.{same-like, In, mem-in, in-cong, no-conflict-level}
+use Rattle.rules.proofs.Tallies.{sound-quorum, count-quorum}
 use Rattle.rules.proofs.Offers.{top-some, top-mem}
 use Rattle.rules.proofs.Kept.{true-in}
 use Rattle.rules.proofs.Orderly.{propose-high, Voted}
 use Rattle.rules.proofs.Held.{block, held-stored}
 use Rattle.rules.proofs.Leads.{new-view-high}
 use Rattle.kept.proofs.Logs.{block-parts}
-use Rattle.agreement.specs.Schedule.{Event, commonTick, run, Says, NoForgery}
+use Rattle.agreement.specs.Schedule.{commonTick, run, NoForgery}
 use Rattle.agreement.proofs.Lineage.{up}
 use Rattle.agreement.proofs.Clock.{clock-mono, clock-before, last-of}
 use Rattle.agreement.proofs.Group.{Group, st, ck, Ok, G, SaidAt, at-settings, at-clock, kept-run, orderly-run, formed-run}
@@ -41,11 +40,11 @@ use Rattle.agreement.proofs.Stays.{found, same-fields, shown-stored}
 use Rattle.progress.specs.Progress.{possible, Prompt}
 use Rattle.progress.proofs.Entries.{Remains, entry-run}
 use Rattle.progress.proofs.Leader.{one-new-view, source, leader-clean, ladder, tick-clock}
-use Rattle.progress.proofs.Calm.{Calm, calm-less, Within, in-calm, joins-calm}
+use Rattle.progress.proofs.Calm.{Calm, calm-less, Within, joins-calm}
 use Rattle.progress.proofs.Opening.{Opens, best, opener, locks-below, opener-stored}
 use Rattle.progress.proofs.Heights.{HasEach, at-least, span}
 
--- ---- numbers
+-- ---- numbers: each fact of linear arithmetic apart, with all that it rests on in view
 
 number-a : (e D a k : ℕ) → a ≡ e + 2 * D → e + 2 * D + 1 ≤ k → a < k
 number-a e D a k p q = omega arith
@@ -117,7 +116,7 @@ module _ (X : Group) (genuine : NoForgery (run (X .size) (X .n) (X .D) (X .event
         (kept-run X L ok k m (omega arith) .has x (source X genuine v ok i hi k x a w)) refl in
         one-new-view N x c w refl p
 
-    -- ---- P9: a stored statement of v is voted for, from the entry on
+    -- ---- a stored statement of v is voted for, from the entry on
 
     abbrev Cast : (s k : ℕ) → Statement → Type 0
     Cast s k x = (c : ℕ) × (st X s k .entry ≤ c) × (c ≤ ck X k) × Voted (SaidAt X s) c s x
@@ -154,7 +153,7 @@ module _ (X : Group) (genuine : NoForgery (run (X .size) (X .n) (X .D) (X .event
         let (c′, _, hi, w) = cast s hs l calm′ (omega arith) x (heard-by s hs c l x vt (omega arith)) q in
         (c′, omega arith, w)
 
-    -- ---- P10: 2D ticks after L said it, it is certified at L
+    -- ---- 2D ticks after L said it, it is certified at L
 
     pub certified-by : (c k : ℕ) (x : Statement) → x .view ≡ v → Voted (SaidAt X L) c L x → eL ≤ c → c + 2 * D + 1 ≤ ck X (suc k) → Quiet k
         → quorum (G X L) (voters (block (x .view) (x .height) (x .name)) (st X L k .tallies)) ≡ true
@@ -166,7 +165,7 @@ module _ (X : Group) (genuine : NoForgery (run (X .size) (X .n) (X .D) (X .event
         let sn = X .soon k in
         reach X i L (u, f) ok (vote (x .view) (x .height) (x .name) i) c′ k w (omega arith)))
 
-    -- ---- P11: its height is below the last
+    -- ---- its height is below the last
 
     pub low-enough : (c k : ℕ) (x : Statement) → Voted (SaidAt X L) c L x → c + D + 1 ≤ next k → x .height < lastHeight
     low-enough c k x (y, e, m, (l, ce, w)) d =
@@ -187,7 +186,7 @@ module _ (X : Group) (genuine : NoForgery (run (X .size) (X .n) (X .D) (X .event
             by-option (first (isBlock h b) xs) (λ f. no-bool (sym a ∙ first-none (isBlock h b) xs f))
             (λ z f. (z, (first-mem (isBlock h b) xs z f, sym (block-parts h b z (first-any (isBlock h b) xs z f .1) .1))))
 
-    -- ---- P12: as a tick begins, one above what is certified is stored
+    -- ---- as a tick begins, one above what is certified is stored
 
     module _ (prompt : Prompt (run size n D event) v) where
       pub taller : (k : ℕ) → event k ≡ commonTick → Within X genuine v inside ok L k → In (st X L k .statements) N → (x : Statement) → In (st X L k .statements) x → x .view ≡ v
@@ -233,7 +232,7 @@ module _ (X : Group) (genuine : NoForgery (run (X .size) (X .n) (X .D) (X .event
               by-bool (y .isNewView) (λ r. let g = ap (λ (t : Statement). t .height) (same-like N y (the-opener L ok k y b yv r)) in absurd (omega arith))
               (λ r. down k h d y o (omega arith) b yv r)
 
-      -- ---- P13: the rungs
+      -- ---- the rungs
 
       abbrev T : ℕ
       T = eL + 2 * D + 1

@@ -1,27 +1,26 @@
 -- Request 12 of the rules: up to each moment K up to which no sound station is full or at the last clock, under the premises of demand 3
 -- and with a prompt sound leader, no sound station blames view v, none quits it, each votes in turn within the bound, and what it voted
 -- for is in its log 2D+1 ticks later. Assumes nothing.
-use mathlib.Core.Path.{_≡_, subst, subst₂, refl, sym, ap, _∙_}
+use mathlib.Core.Path.{_≡_, subst, subst₂, sym, ap, _∙_}
 use Prim.Native.Nat.{ℕ, suc, _+_, _*_, _≤_, _<_}
 use native.Mathlib.Omega.{arith}
 use native.Mathlib.Nat.{le-of-lt}
 use native.Mathlib.Decide.{decLt}
-use mathlib.Core.Bool.{Bool, true, false}
-use mathlib.Core.List.{List, IsPrefix}
+use mathlib.Core.Bool.{false}
+use mathlib.Core.List.{IsPrefix}
 use Rattle.rules.specs.Limits.{Size}
-use Rattle.rules.specs.Sizes.{leader}
-use Rattle.rules.specs.Messages.{Message, propose, vote, blame, Effect, toAll}
+use Rattle.rules.specs.Messages.{propose, vote, blame, toAll}
 use Rattle.rules.specs.Words.{inView, State}
 use Rattle.rules.proofs.Allowed.{sizes}
 use Rattle.rules.proofs.Kept.{moves-kept}
 use Rattle.agreement.specs.Schedule.{Event, idle, commonTick, settingsOf, until, at, clock, Run, run, Says, Sound, RoomTo, Premises, Schedule, lineage}
 use Rattle.agreement.proofs.Events.{never-idle}
 use Rattle.agreement.proofs.Clock.{clock-before, clock-alike}
-use Rattle.agreement.proofs.Group.{Group, st, ck, Ok, G, kept-run, cast-run}
+use Rattle.agreement.proofs.Group.{Group, kept-run, cast-run}
 use Rattle.agreement.proofs.Needed.{to-group}
 use Rattle.agreement.proofs.Until.{not-lt, until-before, at-until, clock-until, says-on, says-back, schedule-until}
 use Rattle.agreement.proofs.Theorems.{sound-run, vote-commits}
-use Rattle.progress.specs.Progress.{possible, votedIn, chief, Prompt, Entered, VotedBy, Led, NoBlame, NoQuit, InTurn, Commits, GetsOn}
+use Rattle.progress.specs.Progress.{possible, votedIn, chief, Prompt, VotedBy, Led, GetsOn}
 use Rattle.progress.proofs.Calm.{Calm, in-calm}
 use Rattle.progress.proofs.Bound.{turn, calm-all}
 

@@ -1,16 +1,16 @@
 -- A tick by its rules, one after another: what each leaves of the tables, the view and the entry. Assumes nothing.
-use mathlib.Core.Path.{_≡_, subst, refl, sym, ap, _∙_}
-use Prim.Native.Nat.{ℕ, suc, _+_}
+use mathlib.Core.Path.{_≡_, subst, refl, sym, _∙_}
+use Prim.Native.Nat.{ℕ, _+_}
 use mathlib.Core.Bool.{Bool, true, false}
 use mathlib.Core.List.{List, [], _∷_, _++_}
 use mathlib.Core.Logic.{_⊎_, inl, inr}
-use mathlib.Core.Option.{none, some, Option·some-injective}
+use mathlib.Core.Option.{none, Option·some-injective}
 use Rattle.rules.specs.Lists.{first, any}
 use Rattle.rules.specs.Sizes.{only}
-use Rattle.rules.specs.Messages.{Message, newView, propose, vote, blame, blameSet, status, Effect, toAll}
+use Rattle.rules.specs.Messages.{Message, newView, propose, vote, blame, blameSet, status}
 use Rattle.rules.specs.Words.{Statement, message, sameStatement, conflict, State}
-use Rattle.rules.specs.Inputs.{Work, saying, _▸_, withPhase, withClock, withTables, withBlames, withLog, entering, isIn, quit, belowLock, votedFor, voting, certificateJoined, stored, statement, tallied, blamed, blameFull, blaming, handled, logging, overdue, complain, leadsNow, ownNewView, lead, entersNow, entered, current, pair, inOrder, votingAll, arrive, enter}
-use Rattle.rules.specs.Refusals.{Outcome, done, running, tick}
+use Rattle.rules.specs.Inputs.{saying, _▸_, withPhase, withClock, withTables, withBlames, entering, isIn, quit, belowLock, votedFor, voting, certificateJoined, stored, statement, tallied, blamed, blameFull, blaming, handled, logging, overdue, complain, leadsNow, ownNewView, lead, entersNow, entered, current, pair, votingAll, enter}
+use Rattle.rules.specs.Refusals.{done, running, tick}
 use Rattle.rules.proofs.Tests.{by-bool, by-option}
 use Rattle.rules.proofs.Statements.{In, in-append, in-noted}
 use Rattle.rules.proofs.Moves.{Outside, arrived, fillsNow, counted, logAfter, news, voting-low, voting-high, arrive-full, arrive-pair, arrive-clean, message-newView, message-propose, ticked-some, tick-done, enter-moves, tick-moves}

@@ -3,7 +3,7 @@
 use Prim.Native.Nat.{ℕ, suc, _+_, _*_, _≤_, _<_}
 use mathlib.Core.Path.{_≡_}
 use mathlib.Core.Bool.{Bool, true, false, not, _&&_}
-use mathlib.Core.List.{List, IsPrefix}
+use mathlib.Core.List.{IsPrefix}
 use mathlib.Core.Option.{none, some}
 use lib.Dec.{eqb}
 use lib.ListN.{length}
@@ -13,7 +13,7 @@ use Rattle.rules.specs.Sizes.{leader}
 use Rattle.rules.specs.Messages.{propose, vote, blame, toAll}
 use Rattle.rules.specs.Words.{Statement, inView, State}
 use Rattle.rules.specs.Inputs.{leads, isOpened, top, extendable}
-use Rattle.agreement.specs.Schedule.{Event, commonTick, settingsOf, clock, Run, Says, Sound, lineage}
+use Rattle.agreement.specs.Schedule.{commonTick, settingsOf, clock, Run, Says, Sound, lineage}
 
 -- an offer of a name that nobody has used would be taken
 unfoldable pub possible : State → Bool
