@@ -40,24 +40,24 @@ use Rattle.progress.proofs.Ballots.{says-ballot}
 
 -- ---- numbers: each fact of linear arithmetic apart, with all that it rests on in view
 
-number-a : (e D t a b : ℕ) → 1 ≤ D → a ≡ t + 4 * D → e + a + 2 ≤ b → (k : ℕ) → b ≤ k + 1 → (e + D ≤ k) × (e + 4 * D + 1 + t ≤ k)
-number-a e D t a b d p q k l = (omega arith, omega arith)
+far-enough : (e D t a b : ℕ) → 1 ≤ D → a ≡ t + 4 * D → e + a + 2 ≤ b → (k : ℕ) → b ≤ k + 1 → (e + D ≤ k) × (e + 4 * D + 1 + t ≤ k)
+far-enough e D t a b d p q k l = (omega arith, omega arith)
 
-number-b : (e l D k : ℕ) → l ≤ e + D → e + 4 * D + 1 ≤ k → l + 2 * D < k
-number-b e l D k p q = omega arith
+opens-before : (e l D k : ℕ) → l ≤ e + D → e + 4 * D + 1 ≤ k → l + 2 * D < k
+opens-before e l D k p q = omega arith
 
 -- the q-th rung is said, heard and voted for in time
-number-c : (e l D s t k : ℕ) → 1 ≤ D → l ≤ e + D → s ≤ t → e + 4 * D + 1 + t ≤ k → l + 2 * D + 1 + s < k
-number-c e l D s t k d p q r = omega arith
+rung-due : (e l D s t k : ℕ) → 1 ≤ D → l ≤ e + D → s ≤ t → e + 4 * D + 1 + t ≤ k → l + 2 * D + 1 + s < k
+rung-due e l D s t k d p q r = omega arith
 
-number-d : (e l D s t c b a m : ℕ) → l ≤ e + D → s ≤ t → c ≤ l + 2 * D + 1 + s → a ≡ t + 4 * D → e + a + 2 ≤ b → b ≤ m → (c + D + 1 ≤ m) × (c + D < b)
-number-d e l D s t c b a m p q r u w x = (omega arith, omega arith)
+heard-in-time : (e l D s t c b a m : ℕ) → l ≤ e + D → s ≤ t → c ≤ l + 2 * D + 1 + s → a ≡ t + 4 * D → e + a + 2 ≤ b → b ≤ m → (c + D + 1 ≤ m) × (c + D < b)
+heard-in-time e l D s t c b a m p q r u w x = (omega arith, omega arith)
 
-number-e : (e l D s c x y : ℕ) → l ≤ e + D → c ≤ l + 2 * D + 1 + s → x ≡ s + 4 * D → y ≤ c + D → y ≤ e + x + 1
-number-e e l D s c x y p q r u = omega arith
+voted-in-time : (e l D s c x y : ℕ) → l ≤ e + D → c ≤ l + 2 * D + 1 + s → x ≡ s + 4 * D → y ≤ c + D → y ≤ e + x + 1
+voted-in-time e l D s c x y p q r u = omega arith
 
-number-f : (a b x y e f c k : ℕ) → a ≡ b → x ≡ y → e ≡ f → c ≡ k → (2 * a + 6) * x + 2 ≤ c - e → f + (2 * suc b + 4) * y + 2 ≤ k
-number-f a b x y e f c k p q r s t =
+overdue-since : (a b x y e f c k : ℕ) → a ≡ b → x ≡ y → e ≡ f → c ≡ k → (2 * a + 6) * x + 2 ≤ c - e → f + (2 * suc b + 4) * y + 2 ≤ k
+overdue-since a b x y e f c k p q r s t =
     let u : (2 * a + 6) * x ≡ (2 * suc b + 4) * y = ap (λ (z : ℕ). (2 * z + 6) * x) p ∙ ap (λ (z : ℕ). (2 * b + 6) * z) q ∙ ap (_* y) (six b) in
     go ((2 * a + 6) * x) ((2 * suc b + 4) * y) u t
   where
@@ -67,14 +67,14 @@ number-f a b x y e f c k p q r s t =
     go : (m n : ℕ) → m ≡ n → m + 2 ≤ c - e → f + n + 2 ≤ k
     go m n z w = omega arith
 
-number-g : (a b c : ℕ) → b ≡ a + 1 → b ≤ suc c → a ≤ c
-number-g a b c p q = omega arith
+before-tick : (a b c : ℕ) → b ≡ a + 1 → b ≤ suc c → a ≤ c
+before-tick a b c p q = omega arith
 
-number-h : (m : ℕ) → suc m ≤ m → ⊥
-number-h m p = omega arith
+no-more : (m : ℕ) → suc m ≤ m → ⊥
+no-more m p = omega arith
 
-number-i : (a b : ℕ) → b ≡ a + 1 → b ≤ 0 → ⊥
-number-i a b p q = omega arith
+no-tick : (a b : ℕ) → b ≡ a + 1 → b ≤ 0 → ⊥
+no-tick a b p q = omega arith
 
 -- the votes that a blame looks at
 votes-in : (s : State) (v : ℕ) → s .view ≡ v → votes s ≡ length (keep (isVoted v) (s .statements))
@@ -104,7 +104,7 @@ module _ (X : Group) (genuine : NoForgery (run (X .size) (X .n) (X .D) (X .event
       → (l0 : ℕ) × Opens X genuine v inside ok l0 × (st X L l0 .entry ≤ st X i k0 .entry + D)
   opening i hi k0 w k calm near d =
       let ((lv, lp), le) = joins-calm X genuine v inside ok i L hi ok k0 w k calm near in
-      let (l, before, c1, c2, tk) = last-of event (X .common) (st X L k .entry + 2 * D) k (number-b (st X i k0 .entry) (st X L k .entry) D (ck X k) le d) in
+      let (l, before, c1, c2, tk) = last-of event (X .common) (st X L k .entry + 2 * D) k (opens-before (st X i k0 .entry) (st X L k .entry) D (ck X k) le d) in
       let calm′ = calm-less X genuine v inside ok (ck X l) (ck X k) (clock-mono event l k (le-of-lt before)) calm in
       go l lv le c1 c2 tk calm′ (entry-run X L ok l k (le-of-lt before))
     where
@@ -119,14 +119,15 @@ module _ (X : Group) (genuine : NoForgery (run (X .size) (X .n) (X .D) (X .event
 
   abbrev Turn : (e p k : ℕ) → Type 0
   Turn e p k =
-      (h : ℕ) × ((j : ℕ) → Ok X j → (p ≤ votedIn v (st X j k)) × ((q : ℕ) → 1 ≤ q → q ≤ p → VotedBy (run size n D event) v j (h + q) (e + (2 * q + 4) * D + 1)))
+      (h : ℕ) × ((j : ℕ) → Ok X j → p ≤ votedIn v (st X j k))
+      × ((q : ℕ) → 1 ≤ q → q ≤ p → (b : ℕ) × ((j : ℕ) → Ok X j → VotedBy (run size n D event) v j (h + q) b (e + (2 * q + 4) * D + 1)))
 
   module _ (i : ℕ) (hi : Ok X i) (k0 : ℕ) (w : st X i k0 .view ≡ v) (p k : ℕ) (calm : Quiet k) (d : st X i k0 .entry + (2 * p + 4) * D + 2 ≤ ck X (suc k)) where
     abbrev e : ℕ
     e = st X i k0 .entry
 
     far : (e + D ≤ ck X k) × (e + 4 * D + 1 + span D p ≤ ck X k)
-    far = number-a e D (span D p) ((2 * p + 4) * D) (ck X (suc k)) delay (span-bound D p) d (ck X k) (one-tick event (X .common) k)
+    far = far-enough e D (span D p) ((2 * p + 4) * D) (ck X (suc k)) delay (span-bound D p) d (ck X k) (one-tick event (X .common) k)
 
     opens : (l0 : ℕ) × Opens X genuine v inside ok l0 × (st X L l0 .entry ≤ e + D)
     opens = opening i hi k0 w k calm (far .0) (less (ck X k) (far .1))
@@ -143,11 +144,11 @@ module _ (X : Group) (genuine : NoForgery (run (X .size) (X .n) (X .D) (X .event
     the-rung : (q : ℕ) → q ≤ p → Rung X genuine v inside ok l0 O prompt q
     the-rung q l =
         rung X genuine v inside ok l0 O prompt q k calm
-        (number-c e (st X L l0 .entry) D (span D q) (span D p) (ck X k) delay (opens .2) (span-mono D q p l) (far .1))
+        (rung-due e (st X L l0 .entry) D (span D q) (span D p) (ck X k) delay (opens .2) (span-mono D q p l) (far .1))
 
     in-time : (q : ℕ) (l : q ≤ p) → (the-rung q l .clock + D + 1 ≤ next k) × (the-rung q l .clock + D < ck X (suc k))
     in-time q l =
-        number-d e (st X L l0 .entry) D (span D q) (span D p) (the-rung q l .clock) (ck X (suc k)) ((2 * p + 4) * D) (next k)
+        heard-in-time e (st X L l0 .entry) D (span D q) (span D p) (the-rung q l .clock) (ck X (suc k)) ((2 * p + 4) * D) (next k)
         (opens .2) (span-mono D q p l) (the-rung q l .early) (span-bound D p) d (X .soon k)
 
     -- what j has voted for
@@ -168,46 +169,44 @@ module _ (X : Group) (genuine : NoForgery (run (X .size) (X .n) (X .D) (X .event
         ready k x = let y = opens .2 in omega (arith, x, y)
 
     -- and when
-    voted : (j : ℕ) → Ok X j → (q : ℕ) → 1 ≤ q → q ≤ p → VotedBy (run size n D event) v j (opener X genuine v inside ok l0 O .height + q) (e + (2 * q + 4) * D + 1)
+    voted : (q : ℕ) → 1 ≤ q → (b : q ≤ p) (j : ℕ) → Ok X j
+        → VotedBy (run size n D event) v j (opener X genuine v inside ok l0 O .height + q) (the-rung q b .what .name) (e + (2 * q + 4) * D + 1)
     unfolding message
-    voted j hj q a b =
+    voted q a b j hj =
         let r = the-rung q b in
         let x = r .what in
         let (c, le, (y, same, _, (l, ce, s))) = follows X genuine v inside ok l0 O j hj (r .clock) k x (r .view) (r .said) (r .entered) (in-time q b .1) calm in
         let (t, m, tv, th, tn) = says-ballot X j hj l (x .view) (x .height) (x .name) j s in
-        let late = number-e e (st X L l0 .entry) D (span D q) (r .clock) ((2 * q + 4) * D) c (opens .2) (r .early) (span-bound D q) le in
+        let late = voted-in-time e (st X L l0 .entry) D (span D q) (r .clock) ((2 * q + 4) * D) c (opens .2) (r .early) (span-bound D q) le in
         let has : In (st X j (suc l) .statements) t = held-stored (G X j) (st X j (suc l)) t (said-held X j hj l (message t) m) in
         let kind : t .isNewView ≡ false = by-bool (t .isNewView)
         (λ n. absurd (taller (ap (λ (u : Statement). u .height) (same-like (opener X genuine v inside ok l0 O) t (the-opener X genuine v inside ok l0 O j hj (suc l) t has (tv ∙ r .view) n))) (th ∙ r .height) a)) (λ n. n) in (
           l,
           subst (λ (u : ℕ). u ≤ e + (2 * q + 4) * D + 1) (sym ce) late,
           (
-            t .name,
             t .link,
             t .mask,
             t .author,
-            subst (λ (u : Message). Says (run size n D event) j l (toAll u)) (as-propose t kind (tv ∙ r .view) (th ∙ r .height)) m,
-            subst (λ (u : Message). Says (run size n D event) j l (toAll u)) (as-vote (r .view) (r .height) (sym tn)) s,
+            subst (λ (u : Message). Says (run size n D event) j l (toAll u)) (as-propose t kind (tv ∙ r .view) (th ∙ r .height) tn) m,
+            subst (λ (u : Message). Says (run size n D event) j l (toAll u)) (as-vote (r .view) (r .height)) s,
           ),
         )
       where
         taller : {h q g : ℕ} → g ≡ h → g ≡ h + q → 1 ≤ q → ⊥
         taller {h} {q} {g} x y z = omega arith
 
-        as-propose : (t : Statement) → t .isNewView ≡ false → {u h : ℕ} → t .view ≡ u → t .height ≡ h → message t ≡ propose u h (t .name) (t .link) (t .mask) (t .author)
-        as-propose t n p q = rw (n, message) (λ i. propose (p i) (q i) (t .name) (t .link) (t .mask) (t .author))
+        as-propose : (t : Statement) → t .isNewView ≡ false → {u h b : ℕ} → t .view ≡ u → t .height ≡ h → t .name ≡ b → message t ≡ propose u h b (t .link) (t .mask) (t .author)
+        as-propose t n p q r = rw (n, message) (λ i. propose (p i) (q i) (r i) (t .link) (t .mask) (t .author))
 
-        as-vote : {u h b u′ h′ b′ : ℕ} → u ≡ u′ → h ≡ h′ → b ≡ b′ → vote u h b j ≡ vote u′ h′ b′ j
-        as-vote p q r = λ i. vote (p i) (q i) (r i) j
+        as-vote : {u h u′ h′ b : ℕ} → u ≡ u′ → h ≡ h′ → vote u h b j ≡ vote u′ h′ b j
+        as-vote {b = b} p q = λ i. vote (p i) (q i) b j
 
     pub turn : Turn e p k
     unfolding votedIn
     turn = (
       opener X genuine v inside ok l0 O .height,
-      λ j hj. (
-        at-least (λ (z : Statement). z .height) (opener X genuine v inside ok l0 O .height) p (keep (isVoted v) (st X j k .statements)) (noted j hj),
-        voted j hj,
-      ),
+      λ j hj. at-least (λ (z : Statement). z .height) (opener X genuine v inside ok l0 O .height) p (keep (isVoted v) (st X j k .statements)) (noted j hj),
+      λ q a b. (the-rung q b .what .name, voted q a b),
     )
 
   -- ---- no sound station blames v
@@ -227,7 +226,7 @@ module _ (X : Group) (genuine : NoForgery (run (X .size) (X .n) (X .D) (X .event
       let m : votes u ≡ votedIn v (st X i l) = votes-in u v (b .2 ∙ w) ∙ ap (λ (xs : List Statement). length (keep (isVoted v) xs)) (b .3) in
       let d : u .settings .D ≡ D = ap (λ (g : Settings). g .D) (b .0 ∙ at-settings X i hi l) in
       let c : u .clock ≡ ck X (suc l) = ap (λ (y : Event). begun y (st X i l) .clock) (sym tk) ∙ begun-at X i hi l in
-      number-f (votes u) (votedIn v (st X i l)) (u .settings .D) D (u .entry) (st X i l .entry) (u .clock) (ck X (suc l)) m d (begun-entry commonTick (st X i l)) c (overdue-at u q)
+      overdue-since (votes u) (votedIn v (st X i l)) (u .settings .D) D (u .entry) (st X i l .entry) (u .clock) (ck X (suc l)) m d (begun-entry commonTick (st X i l)) c (overdue-at u q)
 
   calm-on : (c : ℕ) → Calm X genuine v inside ok c → Calm X genuine v inside ok (suc c)
   calm-on c before i hi l a u s =
@@ -236,14 +235,14 @@ module _ (X : Group) (genuine : NoForgery (run (X .size) (X .n) (X .D) (X .event
       elim (decLe (ck X (suc l)) c) [
         | yes y ↦ before i hi l a y s
         | no y ↦ (
-            let calm = calm-less X genuine v inside ok (ck X l) c (number-g (ck X l) (ck X (suc l)) c t u) before in
+            let calm = calm-less X genuine v inside ok (ck X l) c (before-tick (ck X l) (ck X (suc l)) c t u) before in
             let m = votedIn v (st X i l) in
-            number-h m (turn i hi l w (suc m) l calm (overdue-bound i hi l tk w od) .1 i hi .0))
+            no-more m (turn i hi l w (suc m) l calm (overdue-bound i hi l tk w od) .1 i hi))
       ]
 
   pub calm-all : (c : ℕ) → Calm X genuine v inside ok c
   calm-all zero = λ i hi l a u s.
       let (tk, _, _, _) = says-overdue i hi l a s in
       let t = tick-clock X genuine v ok l tk in
-      absurd (number-i (ck X l) (ck X (suc l)) t u)
+      absurd (no-tick (ck X l) (ck X (suc l)) t u)
   calm-all (suc c) = calm-on c (calm-all c)

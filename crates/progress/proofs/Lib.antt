@@ -10,6 +10,7 @@ pub mod Heights
 pub mod Rungs
 pub mod Ballots
 pub mod Bound
+pub mod Growth
 pub mod Theorems
 pub mod Alike
 pub mod Examples

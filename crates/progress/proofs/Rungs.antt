@@ -46,50 +46,50 @@ use Rattle.progress.proofs.Heights.{HasEach, at-least, span}
 
 -- ---- numbers: each fact of linear arithmetic apart, with all that it rests on in view
 
-number-a : (e D a k : ℕ) → a ≡ e + 2 * D → e + 2 * D + 1 ≤ k → a < k
-number-a e D a k p q = omega arith
+opened-before : (e D a k : ℕ) → a ≡ e + 2 * D → e + 2 * D + 1 ≤ k → a < k
+opened-before e D a k p q = omega arith
 
-number-b : (e D k : ℕ) → e + 2 * D + 1 ≤ k → e + D ≤ k
-number-b e D k p = omega arith
+joined-by : (e D k : ℕ) → e + 2 * D + 1 ≤ k → e + D ≤ k
+joined-by e D k p = omega arith
 
-number-c : (t s D k : ℕ) → k ≡ t + s + 2 * D → t ≤ k
-number-c t s D k p = omega arith
+begun-by : (t s D k : ℕ) → k ≡ t + s + 2 * D → t ≤ k
+begun-by t s D k p = omega arith
 
-number-d : (t s D c k : ℕ) → c ≤ t + s → k ≡ t + s + 2 * D + 1 → c + 2 * D + 1 ≤ k
-number-d t s D c k p q = omega arith
+certified-due : (t s D c k : ℕ) → c ≤ t + s → k ≡ t + s + 2 * D + 1 → c + 2 * D + 1 ≤ k
+certified-due t s D c k p q = omega arith
 
-number-e : (c D k l : ℕ) → c + 2 * D + 1 ≤ k → k ≤ l → c + D + 1 ≤ l
-number-e c D k l p q = omega arith
+heard-due : (c D k l : ℕ) → c + 2 * D + 1 ≤ k → k ≤ l → c + D + 1 ≤ l
+heard-due c D k l p q = omega arith
 
-number-f : (h p : ℕ) → h ≤ h + p
-number-f h p = omega arith
+no-lower : (h p : ℕ) → h ≤ h + p
+no-lower h p = omega arith
 
-number-g : (a b : ℕ) → a < b → b ≡ a + 1 + (b - (a + 1))
-number-g a b p = omega arith
+steps-down : (a b : ℕ) → a < b → b ≡ a + 1 + (b - (a + 1))
+steps-down a b p = omega arith
 
-number-h : (h p : ℕ) → h + p + 1 ≡ h + suc p
-number-h h p = omega arith
+one-up : (h p : ℕ) → h + p + 1 ≡ h + suc p
+one-up h p = omega arith
 
-number-i : (t s D c k : ℕ) → c ≤ k → k ≡ t + s + 2 * D → c ≤ t + (s + 2 * D)
-number-i t s D c k p q = omega arith
+said-early : (t s D c k : ℕ) → c ≤ k → k ≡ t + s + 2 * D → c ≤ t + (s + 2 * D)
+said-early t s D c k p q = omega arith
 
-number-j : (e D a b : ℕ) → a ≡ e + 2 * D → b ≡ a + 1 → (e + 2 * D + 1 ≤ b) × (b ≡ e + 2 * D + 1)
-number-j e D a b p q = (omega arith, omega arith)
+opening-clock : (e D a b : ℕ) → a ≡ e + 2 * D → b ≡ a + 1 → (e + 2 * D + 1 ≤ b) × (b ≡ e + 2 * D + 1)
+opening-clock e D a b p q = (omega arith, omega arith)
 
-number-k : (h : ℕ) → h ≡ h + 0
-number-k h = omega arith
+none-up : (h : ℕ) → h ≡ h + 0
+none-up h = omega arith
 
-number-l : (c b t : ℕ) → c ≤ b → b ≡ t → c ≤ t + 0
-number-l c b t p q = omega arith
+said-first : (c b t : ℕ) → c ≤ b → b ≡ t → c ≤ t + 0
+said-first c b t p q = omega arith
 
-number-m : (b k t : ℕ) → b ≡ t → t + 0 < k → b ≤ k
-number-m b k t p q = omega arith
+opened-by : (b k t : ℕ) → b ≡ t → t + 0 < k → b ≤ k
+opened-by b k t p q = omega arith
 
-number-n : (t s D k : ℕ) → t + (s + 2 * D) < k → t + s + 2 * D < k
-number-n t s D k p = omega arith
+rung-due : (t s D k : ℕ) → t + (s + 2 * D) < k → t + s + 2 * D < k
+rung-due t s D k p = omega arith
 
-number-o : (t s D k : ℕ) → t + (s + 2 * D) < k → t + s < k
-number-o t s D k p = omega arith
+rung-before : (t s D k : ℕ) → t + (s + 2 * D) < k → t + s < k
+rung-before t s D k p = omega arith
 
 module _ (X : Group) (genuine : NoForgery (run (X .size) (X .n) (X .D) (X .event)) (X .faulty)) (v : ℕ) (inside : (firstView ≤ v) × (v ≤ lastView (X .size)))
     (ok : Ok X (leader (G X 0) v)) where
@@ -258,63 +258,63 @@ module _ (X : Group) (genuine : NoForgery (run (X .size) (X .n) (X .D) (X .event
       -- L is in v from that tick on
       still : (k : ℕ) → Quiet k → T ≤ ck X k → (l0 < k) × Within X genuine v inside ok L k × (st X L k .entry ≡ eL)
       still k calm d =
-          let later = clock-before event l0 k (number-a eL D (ck X l0) (ck X k) (O .due) d) in
-          let (win, _) = joins-calm X genuine v inside ok L L ok ok l0 (O .within .0) k calm (number-b eL D (ck X k) d) in
+          let later = clock-before event l0 k (opened-before eL D (ck X l0) (ck X k) (O .due) d) in
+          let (win, _) = joins-calm X genuine v inside ok L L ok ok l0 (O .within .0) k calm (joined-by eL D (ck X k) d) in
           (later, win, entry-now k (le-of-lt later) (win .0))
 
       -- at the tick to T + 2pD + 2D + 1 the next one is stored
       next-stored : (p : ℕ) → Rung p → (l : ℕ) → event l ≡ commonTick → ck X l ≡ T + span D p + 2 * D → ck X (suc l) ≡ T + span D p + 2 * D + 1 → Quiet l
           → (w : Statement) × In (st X L l .statements) w × (w .view ≡ v) × (w .height ≡ N .height + p + 1) × (w .isNewView ≡ false)
       next-stored p r l tk c1 c2 calm =
-          let (later, win, _) = still l calm (number-c T (span D p) D (ck X l) c1) in
-          let due : r .clock + 2 * D + 1 ≤ ck X (suc l) = number-d T (span D p) D (r .clock) (ck X (suc l)) (r .early) c2 in
-          let soon : r .clock + D + 1 ≤ next l = number-e (r .clock) D (ck X (suc l)) (next l) due (X .soon l) in
+          let (later, win, _) = still l calm (begun-by T (span D p) D (ck X l) c1) in
+          let due : r .clock + 2 * D + 1 ≤ ck X (suc l) = certified-due T (span D p) D (r .clock) (ck X (suc l)) (r .early) c2 in
+          let soon : r .clock + D + 1 ≤ next l = heard-due (r .clock) D (ck X (suc l)) (next l) due (X .soon l) in
           let x = r .what in
           let (z, a, q, h) = taller l tk win (kept-run X L ok (suc l0) l later .has N (opener-stored X genuine v inside ok l0 O)) x
           (heard-by L ok (r .clock) l x (r .said) soon) (r .view) (certified-by (r .clock) l x (r .view) (r .said) (r .entered) due calm)
           (low-enough (r .clock) l x (r .said) soon) in
-          descend l (N .height + p) (z .height - (N .height + p + 1)) z (number-f (N .height) p) (number-g (N .height + p) (z .height) (subst (λ (y : ℕ). y < z .height) (r .height) h)) a q
+          descend l (N .height + p) (z .height - (N .height + p + 1)) z (no-lower (N .height) p) (steps-down (N .height + p) (z .height) (subst (λ (y : ℕ). y < z .height) (r .height) h)) a q
 
       rung-on : (p : ℕ) → Rung p → (l : ℕ) → event l ≡ commonTick → ck X l ≡ T + span D p + 2 * D → ck X (suc l) ≡ T + span D p + 2 * D + 1 → Quiet l → Rung (suc p)
       unfolding span
       rung-on p r l tk c1 c2 calm =
           let (w, b, wv, wh, wk) = next-stored p r l tk c1 c2 calm in
-          let d = number-c T (span D p) D (ck X l) c1 in
+          let d = begun-by T (span D p) D (ck X l) c1 in
           let (_, _, e) = still l calm d in
-          let (c, lo, hi, vt) = cast L ok l calm (number-b eL D (ck X l) d) w b wv in
+          let (c, lo, hi, vt) = cast L ok l calm (joined-by eL D (ck X l) d) w b wv in
           record {
             what = w;
             view = wv;
-            height = wh ∙ number-h (N .height) p;
+            height = wh ∙ one-up (N .height) p;
             kind = λ u. wk;
             clock = c;
             entered = subst (λ (y : ℕ). y ≤ c) e lo;
-            early = number-i T (span D p) D c (ck X l) hi c1;
+            early = said-early T (span D p) D c (ck X l) hi c1;
             said = vt;
           }
 
       rung-first : Quiet (suc l0) → Rung 0
       unfolding span
       rung-first calm =
-          let d : T ≤ ck X (suc l0) = number-j eL D (ck X l0) (ck X (suc l0)) (O .due) (tick-clock X genuine v ok l0 (O .tick)) .0 in
+          let d : T ≤ ck X (suc l0) = opening-clock eL D (ck X l0) (ck X (suc l0)) (O .due) (tick-clock X genuine v ok l0 (O .tick)) .0 in
           let (_, _, e) = still (suc l0) calm d in
-          let (c, lo, hi, vt) = cast L ok (suc l0) calm (number-b eL D (ck X (suc l0)) d) N (opener-stored X genuine v inside ok l0 O) refl in
+          let (c, lo, hi, vt) = cast L ok (suc l0) calm (joined-by eL D (ck X (suc l0)) d) N (opener-stored X genuine v inside ok l0 O) refl in
           record {
             what = N;
             view = refl;
-            height = number-k (N .height);
+            height = none-up (N .height);
             kind = λ u. absurd (omega (arith, u));
             clock = c;
             entered = subst (λ (y : ℕ). y ≤ c) e lo;
-            early = number-l c (ck X (suc l0)) T hi (number-j eL D (ck X l0) (ck X (suc l0)) (O .due) (tick-clock X genuine v ok l0 (O .tick)) .1);
+            early = said-first c (ck X (suc l0)) T hi (opening-clock eL D (ck X l0) (ck X (suc l0)) (O .due) (tick-clock X genuine v ok l0 (O .tick)) .1);
             said = vt;
           }
 
       pub rung : (p k : ℕ) → Quiet k → T + span D p < ck X k → Rung p
       unfolding span
       rung zero k calm d =
-          let b = number-j eL D (ck X l0) (ck X (suc l0)) (O .due) (tick-clock X genuine v ok l0 (O .tick)) .1 in
-          rung-first (calm-less X genuine v inside ok (ck X (suc l0)) (ck X k) (number-m (ck X (suc l0)) (ck X k) T b d) calm)
+          let b = opening-clock eL D (ck X l0) (ck X (suc l0)) (O .due) (tick-clock X genuine v ok l0 (O .tick)) .1 in
+          rung-first (calm-less X genuine v inside ok (ck X (suc l0)) (ck X k) (opened-by (ck X (suc l0)) (ck X k) T b d) calm)
       rung (suc p) k calm d =
-          let (l, before, c1, c2, tk) = last-of event (X .common) (T + span D p + 2 * D) k (number-n T (span D p) D (ck X k) d) in
-          rung-on p (rung p k calm (number-o T (span D p) D (ck X k) d)) l tk c1 c2 (calm-less X genuine v inside ok (ck X l) (ck X k) (clock-mono event l k (le-of-lt before)) calm)
+          let (l, before, c1, c2, tk) = last-of event (X .common) (T + span D p + 2 * D) k (rung-due T (span D p) D (ck X k) d) in
+          rung-on p (rung p k calm (rung-before T (span D p) D (ck X k) d)) l tk c1 c2 (calm-less X genuine v inside ok (ck X l) (ck X k) (clock-mono event l k (le-of-lt before)) calm)

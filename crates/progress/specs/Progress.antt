@@ -40,10 +40,10 @@ module _ (R : Run) (v : ℕ) where
   abbrev pub Prompt : Type 0
   Prompt = (k : ℕ) → event k ≡ commonTick → state chief k .view ≡ v → possible (state chief k) ≡ false
 
-  -- j said a propose of v of height h and its vote, at one event and by clock c
-  abbrev pub VotedBy : (j h c : ℕ) → Type 0
-  VotedBy j h c =
-      (l : ℕ) × (clock event 0 (suc l) ≤ c) × ((b p m a : ℕ) × Says R j l (toAll (propose v h b p m a)) × Says R j l (toAll (vote v h b j)))
+  -- j said a propose of block b of height h in v and its vote, at one event and by clock c
+  abbrev pub VotedBy : (j h b c : ℕ) → Type 0
+  VotedBy j h b c =
+      (l : ℕ) × (clock event 0 (suc l) ≤ c) × ((p m a : ℕ) × Says R j l (toAll (propose v h b p m a)) × Says R j l (toAll (vote v h b j)))
 
   -- "while records last": all that follows is asked and claimed up to a moment K, and the theorem is for each K up to which no sound
   -- station is full or at the last clock
@@ -69,12 +69,13 @@ module _ (R : Run) (v : ℕ) where
     NoQuit = (i : ℕ) → Sound R faulty i → (k : ℕ) → k ≤ K → v ≤ state i k .view → (state i k .view ≡ v) × (state i k .phase ≡ inView)
 
     -- "each has voted for its p-th proposal within (2p+4)D+1 ticks after the first sound station entered": from whichever sound
-    -- station's entry at clock e, as the tick to e+(2p+4)D+2 begins or later. The q-th proposal is that of height h+q.
+    -- station's entry at clock e, as the tick to e+(2p+4)D+2 begins or later. The q-th proposal is the block b of height h+q, the same
+    -- for all.
     abbrev pub InTurn : Type 0
     InTurn =
         (i e : ℕ) → Sound R faulty i → Entered i e → (p k : ℕ) → k < K → e + (2 * p + 4) * D + 2 ≤ clock event 0 (suc k)
-        → (h : ℕ) × ((j : ℕ) → Sound R faulty j
-        → (p ≤ votedIn v (state j k)) × ((q : ℕ) → 1 ≤ q → q ≤ p → VotedBy j (h + q) (e + (2 * q + 4) * D + 1)))
+        → (h : ℕ) × ((j : ℕ) → Sound R faulty j → p ≤ votedIn v (state j k))
+        × ((q : ℕ) → 1 ≤ q → q ≤ p → (b : ℕ) × ((j : ℕ) → Sound R faulty j → VotedBy j (h + q) b (e + (2 * q + 4) * D + 1)))
 
     -- with B: what a sound station voted for in v is in its log after the tick 2D+1 later, with all its ancestors
     abbrev pub Commits : (ℕ → ℕ) → Type 0
@@ -82,8 +83,15 @@ module _ (R : Run) (v : ℕ) where
         (j : ℕ) → Sound R faulty j → (l h b p m a : ℕ) → Says R j l (toAll (propose v h b p m a)) → Says R j l (toAll (vote v h b j))
         → (k : ℕ) → k < K → event k ≡ commonTick → clock event 0 k ≡ clock event 0 (suc l) + 2 * D → IsPrefix (lineage parentOf h b) (state j (suc k) .log)
 
+    -- so from the tick to e+(2p+6)D+2 on the first p proposals are in every sound log, each with all its ancestors
+    abbrev pub InLogs : (ℕ → ℕ) → Type 0
+    InLogs parentOf =
+        (i e : ℕ) → Sound R faulty i → Entered i e → (p k : ℕ) → k ≤ K → e + (2 * p + 6) * D + 2 ≤ clock event 0 k
+        → (h : ℕ) × ((q : ℕ) → 1 ≤ q → q ≤ p → (b : ℕ) × ((j : ℕ) → Sound R faulty j → IsPrefix (lineage parentOf (h + q) b) (state j k .log)))
+
     pub record GetsOn (parentOf : ℕ → ℕ) : Type 0 where
       pub noBlame : NoBlame
       pub noQuit : NoQuit
       pub inTurn : InTurn
       pub commits : Commits parentOf
+      pub inLogs : InLogs parentOf
