@@ -3,7 +3,7 @@ use Prim.Native.Nat.{ℕ}
 use mathlib.Core.Path.{sym}
 use mathlib.Core.List.{List}
 use Rattle.rules.specs.Limits.{small}
-use Rattle.agreement.specs.Schedule.{Schedule, Run, run}
+use Rattle.agreement.specs.Schedule.{run}
 use Rattle.agreement.specs.Checks.{listed}
 use Rattle.agreement.specs.Examples.{heightOf, parentOf}
 use Rattle.progress.specs.Progress.{GetsOn}

@@ -1,6 +1,6 @@
 -- A sound log grows at its end alone. Assumes nothing.
-use mathlib.Core.Path.{_≡_, subst, subst₂, refl, sym, ap, _∙_}
-use Prim.Native.Nat.{ℕ, zero, suc, _≤_, _<_}
+use mathlib.Core.Path.{_≡_, subst, subst₂, refl, sym, _∙_}
+use Prim.Native.Nat.{ℕ, zero, suc, _≤_}
 use native.Mathlib.Omega.{arith}
 use native.Mathlib.Decide.{decLe}
 use mathlib.Core.List.{List, [], IsPrefix, append-nil}
