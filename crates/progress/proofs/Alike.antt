@@ -1,36 +1,13 @@
--- What request 12 asks and claims of a run holds of another in which sound stations hold and say the same; and what 'possible' is: an
--- offer of a fresh name is taken then, and never else. Assumes nothing.
-use mathlib.Core.Path.{_≡_, subst, refl, sym, ap, _∙_}
+-- What request 12 asks and claims of a run holds of another in which sound stations hold and say the same. Assumes nothing.
+use mathlib.Core.Path.{_≡_, subst, sym, ap, _∙_}
 use Prim.Native.Nat.{ℕ, suc, _+_, _≤_}
-use mathlib.Core.Bool.{true, false, not, _&&_}
+use mathlib.Core.Bool.{false}
 use mathlib.Core.List.{List, IsPrefix, List·Memᴰ}
-use mathlib.Core.Option.{some}
-use lib.Dec.{eqb}
-use Rattle.rules.specs.Messages.{Message, Effect}
+use Rattle.rules.specs.Messages.{Effect}
 use Rattle.rules.specs.Words.{inView, State}
-use Rattle.rules.specs.Inputs.{leads, isOpened, isUsed, top, extendable, above, offered}
-use Rattle.rules.proofs.Tests.{by-option, no-bool}
-use Rattle.rules.proofs.Truths.{and-2, both}
-use Rattle.rules.proofs.Offers.{offer-made}
 use Rattle.agreement.specs.Schedule.{Run, Sound, lineage}
 use Rattle.agreement.proofs.Alike.{other}
 use Rattle.progress.specs.Progress.{possible, votedIn, chief, VotedBy, Entered, Led, GetsOn}
-
--- ---- a host that offers a fresh name whenever one is possible lets no tick begin while one is
-
-pub fresh-taken : (b : ℕ) (s : State) → possible s ≡ true → eqb b 0 ≡ false → isUsed b s ≡ false → (m : Message) × (offered b s ≡ some m)
-unfolding possible offered
-fresh-taken b s p z u =
-    let (lo, x) = and-2 (leads s && isOpened s) _ p in
-    let c : (leads s && isOpened s && not (eqb b 0) && not (isUsed b s)) ≡ true = both (both lo (ap not z)) (ap not u) in
-    by-option (top (s .view) (s .statements)) (λ t. no-bool (sym (rw t at x)))
-    (λ y t. let k : extendable y s ≡ true = rw t at x in (above y b s, rw (c, t, k, offered) refl))
-
-pub taken-possible : (b : ℕ) (s : State) (m : Message) → offered b s ≡ some m → possible s ≡ true
-unfolding possible
-taken-possible b s m e = let (x, t, l, o, _, k, _) = offer-made b s m e in rw (l, o, t, k) refl
-
--- ---- the same states and words
 
 module _ (R : Run) (state : ℕ → ℕ → State) (said : ℕ → ℕ → List Effect) (faulty v K : ℕ)
     (states : (i : ℕ) → Sound R faulty i → (k : ℕ) → R .state i k ≡ state i k) (words : (i : ℕ) → Sound R faulty i → (k : ℕ) → R .said i k ≡ said i k) where

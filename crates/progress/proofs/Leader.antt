@@ -1,5 +1,5 @@
 -- A sound leader never contradicts itself, where nobody forges statements under its number: what any sound station stores of the view it
--- stores itself, nothing of it before the clock of its new-view, and at no moment two that conflict. No timing is used. Assumes nothing.
+-- stores itself, nothing of it before the clock of its new-view, and at no moment two that conflict. It uses no delivery. Assumes nothing.
 use mathlib.Core.Path.{_≡_, subst, refl, sym, ap, _∙_}
 use Prim.Native.Nat.{ℕ, zero, suc, _+_, _*_, _≤_, _<_}
 use native.Mathlib.Omega.{arith}

@@ -13,4 +13,5 @@ pub mod Bound
 pub mod Growth
 pub mod Theorems
 pub mod Alike
+pub mod Offers
 pub mod Examples

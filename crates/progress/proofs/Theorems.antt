@@ -11,6 +11,7 @@ use mathlib.Core.List.{IsPrefix}
 use Rattle.rules.specs.Limits.{Size}
 use Rattle.rules.specs.Messages.{propose, vote, blame, toAll}
 use Rattle.rules.specs.Words.{inView, State}
+use Rattle.rules.proofs.Statements.{Clean}
 use Rattle.rules.proofs.Allowed.{sizes}
 use Rattle.rules.proofs.Kept.{moves-kept}
 use Rattle.rules.proofs.Commits.{begins-trans}
@@ -22,6 +23,7 @@ use Rattle.agreement.proofs.Needed.{to-group}
 use Rattle.agreement.proofs.Until.{not-lt, until-before, at-until, clock-until, says-on, says-back, schedule-until}
 use Rattle.agreement.proofs.Theorems.{sound-run, vote-commits}
 use Rattle.progress.specs.Progress.{possible, votedIn, chief, Prompt, VotedBy, Led, GetsOn}
+use Rattle.progress.proofs.Leader.{leader-clean}
 use Rattle.progress.proofs.Calm.{Calm, in-calm}
 use Rattle.progress.proofs.Heights.{span, span-bound, span-mono}
 use Rattle.progress.proofs.Bound.{turn, calm-all}
@@ -146,6 +148,15 @@ module _ (size : Size) (n D : ℕ) (event : ℕ → Event) (faulty : ℕ) (heigh
                 subst (λ (s : State). possible s ≡ false) (sym same) (led .prompt k d (sym (until-before K event k d) ∙ e) (subst (λ (s : State). s .view ≡ v) same w)))
             | no d ↦ absurd (never-idle commonTick tt (sym (idle-after k (omega arith)) ∙ e))
           ]
+
+  -- a sound leader's own statements never conflict with each other, whatever the faulty ones send and hosts offer: no two statements of
+  -- its view that it stores do
+  pub leader-apart : Premises W faulty heightOf parentOf → RoomTo W faulty K → Sound W faulty (chief W v) → (k : ℕ) → k ≤ K
+      → Clean v (at size n D event (chief W v) k .statements)
+  leader-apart P room ok k l =
+      let S = schedule-until size n D event K faulty heightOf parentOf P room in
+      let Y = to-group size n D E faulty heightOf parentOf (S .premises) (sound-run size n D E faulty heightOf parentOf S) in
+      subst (λ (s : State). Clean v (s .statements)) (at-until size n D event K (chief W v) k l) (leader-clean Y (S .premises .noForgery) v ok k)
 
   -- Theorem P
   pub gets-on : Premises W faulty heightOf parentOf → RoomTo W faulty K → Led W v faulty K → GetsOn W v faulty K parentOf

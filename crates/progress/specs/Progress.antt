@@ -12,8 +12,8 @@ use Rattle.rules.specs.Lists.{keep}
 use Rattle.rules.specs.Sizes.{leader}
 use Rattle.rules.specs.Messages.{propose, vote, blame, toAll}
 use Rattle.rules.specs.Words.{Statement, inView, State}
-use Rattle.rules.specs.Inputs.{leads, isOpened, top, extendable}
-use Rattle.agreement.specs.Schedule.{commonTick, settingsOf, clock, Run, Says, Sound, lineage}
+use Rattle.rules.specs.Inputs.{leads, isOpened, isUsed, top, extendable}
+use Rattle.agreement.specs.Schedule.{Event, idle, commonTick, tickOf, given, offeredTo, settingsOf, clock, Run, Says, Sound, lineage}
 
 -- an offer of a name that nobody has used would be taken
 unfoldable pub possible : State → Bool
@@ -28,6 +28,14 @@ isVoted v x = not (x .isNewView) && eqb (x .view) v && elim (x .voted) [ none �
 unfoldable pub votedIn : ℕ → State → ℕ
 unfolding keep isVoted
 votedIn v s = length (keep (isVoted v) (s .statements))
+
+-- an event of station i: a tick, a message handed over to it, an offer to it
+abbrev pub Concerns : ℕ → Event → Type 0
+Concerns i idle = ⊥
+Concerns i commonTick = Unit {0}
+Concerns i (tickOf j) = i ≡ j
+Concerns i (given j bs) = i ≡ j
+Concerns i (offeredTo j b) = i ≡ j
 
 module _ (R : Run) (v : ℕ) where
   open Run R using (size, n, D, event, state)
@@ -57,6 +65,13 @@ module _ (R : Run) (v : ℕ) where
       pub inside : (firstView ≤ v) × (v ≤ lastView size)
       pub sound : Sound R faulty chief
       pub prompt : (k : ℕ) → k < K → event k ≡ commonTick → state chief k .view ≡ v → possible (state chief k) ≡ false
+
+    -- a host that offers at once: whenever an offer would be taken, the leader's next event is an offer of a name that it has not seen
+    -- used. Its leader is prompt (proofs/Offers.antt).
+    abbrev pub AtOnce : Type 0
+    AtOnce =
+        (k : ℕ) → k < K → state chief k .view ≡ v → possible (state chief k) ≡ true → Concerns chief (event k)
+        → (b : ℕ) × (event k ≡ offeredTo chief b) × (eqb b 0 ≡ false) × (isUsed b (state chief k) ≡ false)
 
     -- ---- what is claimed
 
