@@ -28,12 +28,12 @@ use Rattle.agreement.specs.Checks.{Premise, settingsGood, fewFaulty, nev
 
 -- ---- tests
 
-implies-true : (a : Bool) {b : Bool} → implies a b ≡ true → a ≡ true → b ≡ true
+pub implies-true : (a : Bool) {b : Bool} → implies a b ≡ true → a ≡ true → b ≡ true
 unfolding implies
 implies-true true h e = h
 implies-true false h e = no-bool (sym e)
 
-every-true : (n : ℕ) (p : ℕ → Bool) → every n p ≡ true → (k : ℕ) → k < n → p k ≡ true
+pub every-true : (n : ℕ) (p : ℕ → Bool) → every n p ≡ true → (k : ℕ) → k < n → p k ≡ true
 unfolding every
 every-true zero p h k l = absurd (omega arith)
 every-true (suc n) p h k l =
@@ -107,7 +107,7 @@ module _ (size : Size) (n D : ℕ) (es : List Event) (faulty : ℕ) where
   abbrev R : Run
   R = run size n D E
 
-  listed-idle : (k : ℕ) → length es ≤ k → E k ≡ idle
+  pub listed-idle : (k : ℕ) → length es ≤ k → E k ≡ idle
   unfolding listed
   listed-idle k l = List·getD-eq-default es idle l
 

@@ -12,7 +12,7 @@ use borrow.Author.Tests.{eqb-true, eq-eqb}
 use Rattle.rules.specs.Sizes.{Settings}
 use Rattle.rules.specs.Messages.{Message, read, Effect, committed}
 use Rattle.rules.specs.Words.{State}
-use Rattle.rules.specs.Inputs.{saying, withClock, withLog, blamesOf, blameFull, offered, entersNow}
+use Rattle.rules.specs.Inputs.{saying, withClock, withLog, belowLock, blamesOf, blameFull, offered, entersNow}
 use Rattle.rules.specs.Refusals.{done, running, step, offer}
 use Rattle.rules.proofs.Tests.{by-bool}
 use Rattle.rules.proofs.Searches.{All}
@@ -113,7 +113,7 @@ begun-kept (given j bs) s = kept-refl s
 begun-kept (offeredTo j b) s = kept-refl s
 
 pub begun-orderly : (S : ℕ → Effect → Type 0) (e : Event) (s : State) → Orderly S s → Orderly S (begun e s)
-unfolding begun counted withLog blameFull blamesOf
+unfolding begun counted withLog blameFull blamesOf belowLock
 begun-orderly S idle s i = i
 begun-orderly S commonTick s i =
     let j = clock-orderly S s i in

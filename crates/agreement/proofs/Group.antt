@@ -100,7 +100,7 @@ module _ (X : Group) where
   moves-of i h k = event-moves i (event k) (st i k) (X .common k) (X .runs i h (suc k))
 
   -- what the moves of event k say, station i says at the clock after it
-  said-here : (i : ℕ) (k : ℕ) (o : List Effect) → out size n D event i k ≡ before (event k) (st i k) ++ o → (c : ℕ) → ck (suc k) ≡ c → All (SaidAt i c) o
+  pub said-here : (i : ℕ) (k : ℕ) (o : List Effect) → out size n D event i k ≡ before (event k) (st i k) ++ o → (c : ℕ) → ck (suc k) ≡ c → All (SaidAt i c) o
   said-here i k o e c q = to-all (SaidAt i c) o (λ f m. (k, q, subst (List·Memᴰ f) (sym e) (mem-after (before (event k) (st i k)) o f m)))
 
   -- what holds of the reports and of what the moves say holds of all that is said
@@ -231,10 +231,10 @@ module _ (X : Group) where
 
   -- ---- L8 along the run: what is stored and said is allowed
 
-  good : (i : ℕ) → Ok i → goodSettings (G i) ≡ true
+  pub good : (i : ℕ) → Ok i → goodSettings (G i) ≡ true
   good i ok = settings-alike size n D i (X .settings) (ok .0)
 
-  formed-run : (i : ℕ) → Ok i → (k : ℕ) → WellFormed (st i k)
+  pub formed-run : (i : ℕ) → Ok i → (k : ℕ) → WellFormed (st i k)
   formed-run i ok k = formed-at size n D event (X .lent) i (good i ok) k
 
   -- no statement is stored twice
@@ -263,7 +263,7 @@ module _ (X : Group) where
       (step-held (write m) m u (sent-allowed size n D event (X .lent) i (good i hi) j l m s .0) (blames-length j hj h ∙ ap suc (views-run j hj h))
       (sym (ap (λ (x : Outcome). x .number) z) ∙ X .takes i j hi hj l h m s o e v))
 
-  said-held : (i : ℕ) → Ok i → (l : ℕ) (m : Message) → Says R i l (toAll m) → Held (G i) (st i (suc l)) m
+  pub said-held : (i : ℕ) → Ok i → (l : ℕ) (m : Message) → Says R i l (toAll m) → Held (G i) (st i (suc l)) m
   said-held i ok l m s =
       let (o, q, w) = moves-of i ok l in
       let b = begun (event l) (st i l) in

@@ -19,7 +19,7 @@ use Rattle.rules.proofs.Statements.{once-first}
 use Rattle.rules.proofs.Tallies.{AtLeast, at-least-either}
 use Rattle.rules.proofs.Moves.{counted, logAfter, news, tick-moves}
 use Rattle.rules.proofs.Kept.{in-true, moves-fixed}
-use Rattle.rules.proofs.Orderly.{Voted}
+use Rattle.rules.proofs.Orderly.{propose-high, Voted}
 use Rattle.rules.proofs.Commits.{begins-merge, commits-some, commits-none, Due, due-facts, reports-append, moves-messages}
 use Rattle.rules.proofs.Splits.{dueCommits}
 use Rattle.agreement.specs.Schedule.{Event, idle, commonTick, tickOf, given, offeredTo, happens, ticks, IsCommon, at, out, Linked, lineage, reportsIn, reported, Run, run, OneBegins}
@@ -106,7 +106,7 @@ module _ (X : Group) where
       let ph : s .phase ≡ inView = sym ep ∙ p in
       let vw : x .view ≡ s .view = w ∙ ev in
       let f = once-first (s .statements) x (once-run X i ok k) (subst (List·Memᴰ x) es m) in
-      let (c′, q′, lo, hi, vt) = orderly-run X i ok k .votes ph x x f n vw in
+      let (c′, q′, lo, hi, vt) = orderly-run X i ok k .votes ph x x f (propose-high x (st X i k) n) vw in
       let e : c′ ≡ c = Option·some-injective c′ c (sym q′ ∙ q) in
       let cl = at-clock X i ok k in
       let d : counted s .settings .D ≡ D = ap (λ (g : Settings). g .D) (eg ∙ at-settings X i ok k) in

@@ -19,7 +19,7 @@ use Rattle.rules.proofs.Tallies.{Above}
 use Rattle.rules.proofs.Allowed.{sizes}
 use Rattle.rules.proofs.Moves.{Moves}
 use Rattle.rules.proofs.Kept.{by-phase, moves-kept}
-use Rattle.rules.proofs.Orderly.{Told, Past, past-told, Voted}
+use Rattle.rules.proofs.Orderly.{propose-high, Told, Past, past-told, Voted}
 use Rattle.rules.proofs.Held.{block, held-stored}
 use Rattle.rules.proofs.Votes.{Cast}
 use Rattle.rules.proofs.Locks.{HasAll, Locked, moves-locked}
@@ -38,15 +38,15 @@ module _ (X : Group) where
   pub fits-mask : n ≤ maskBits
   fits-mask = let m = sizes (G X 0) (X .settings) .most in omega arith
 
-  past-of : (i : ℕ) → Ok X i → (k : ℕ) → Past (SaidAt X i) (G X i) (st X i k .view) (st X i k .entry)
+  pub past-of : (i : ℕ) → Ok X i → (k : ℕ) → Past (SaidAt X i) (G X i) (st X i k .view) (st X i k .entry)
   past-of i h k = subst (λ (g : Settings). Past (SaidAt X i) g (st X i k .view) (st X i k .entry)) (at-settings X i h k) (orderly-run X i h k .past)
 
-  quit-of : (i : ℕ) → Ok X i → (k q : ℕ) → st X i k .phase ≡ waiting q → (q ≤ ck X k) × Told (SaidAt X i) (G X i) q (st X i k .view)
+  pub quit-of : (i : ℕ) → Ok X i → (k q : ℕ) → st X i k .phase ≡ waiting q → (q ≤ ck X k) × Told (SaidAt X i) (G X i) q (st X i k .view)
   quit-of i h k q p =
       let r = orderly-run X i h k .quits q p in
       (rw (at-clock X i h k) at (r .1), subst (λ (g : Settings). Told (SaidAt X i) g q (st X i k .view)) (at-settings X i h k) (r .2))
 
-  entry-of : (i : ℕ) → Ok X i → (k : ℕ) → st X i k .entry ≤ ck X k
+  pub entry-of : (i : ℕ) → Ok X i → (k : ℕ) → st X i k .entry ≤ ck X k
   entry-of i h k = rw (at-clock X i h k) at (orderly-run X i h k .order)
 
   -- r, in x's view at moment k0, at the latest before the tick to t + 2D + 1, has voted for the propose x at clock t
@@ -91,7 +91,7 @@ module _ (X : Group) where
         → (c : ℕ) × (c ≤ b) × Voted (SaidAt X s) c s x
     cast-of s hs k b p a v l =
         by-option (first (sameStatement x) (st X s k .statements)) (λ f. no-bool (sym a ∙ first-none (sameStatement x) (st X s k .statements) f)) λ z f.
-        let (c, e, lo, hi, vt) = orderly-run X s hs k .votes p x z f (R .kind) v in
+        let (c, e, lo, hi, vt) = orderly-run X s hs k .votes p x z f (propose-high x (st X s k) (R .kind)) v in
         let cl = at-clock X s hs k in
         (c, omega arith, subst (λ (g : Settings). Voted (SaidAt X s) c (g .own) x) (at-settings X s hs k) vt)
 

@@ -19,6 +19,7 @@ use Rattle.rules.proofs.Statements.{In, same-like, no-conflict-newView}
 use Rattle.rules.proofs.Allowed.{sizes}
 use Rattle.rules.proofs.Moves.{counted, logAfter}
 use Rattle.rules.proofs.Kept.{true-in, moves-fixed, moves-kept, VoteKept, moves-vote}
+use Rattle.rules.proofs.Orderly.{propose-high}
 use Rattle.rules.proofs.Held.{held-stored}
 use Rattle.rules.proofs.Votes.{Cast, Stands}
 use Rattle.rules.proofs.Commits.{commits-some, Due, facts-due}
@@ -33,12 +34,12 @@ use Rattle.agreement.proofs.Logs.{tick-log, counted-same, stored-placed
 
 -- ---- stored statements
 
-found : (x : Statement) (xs : List Statement) → In xs x → (z : Statement) × (first (sameStatement x) xs ≡ some z) × List·Memᴰ z xs
+pub found : (x : Statement) (xs : List Statement) → In xs x → (z : Statement) × (first (sameStatement x) xs ≡ some z) × List·Memᴰ z xs
 found x xs h =
     by-option (first (sameStatement x) xs) (λ f. no-bool (sym h ∙ first-none (sameStatement x) xs f)) (λ z f. (z, f, first-mem (sameStatement x) xs z f))
 
 -- what a search for a statement finds has its kind, view, height and name
-same-fields : (x : Statement) (xs : List Statement) (z : Statement) → first (sameStatement x) xs ≡ some z
+pub same-fields : (x : Statement) (xs : List Statement) (z : Statement) → first (sameStatement x) xs ≡ some z
     → (z .isNewView ≡ x .isNewView) × (z .view ≡ x .view) × (z .height ≡ x .height) × (z .name ≡ x .name)
 same-fields x xs z f =
     let a = same-like x z (first-any (sameStatement x) xs z f .1) in
@@ -82,7 +83,7 @@ module _ (X : Group) where
         | no d ↦ (let q : k ≡ suc l = omega arith in (z, subst (λ (m : ℕ). first (sameStatement x) (st X i m .statements) ≡ some z) q f, e))
       ]
 
-  shown-stored : (r : ℕ) → Ok X r → (k t h b : ℕ) → t + D + 1 ≤ next k → Shown X t h b → any (isBlock h b) (st X r k .statements) ≡ true
+  pub shown-stored : (r : ℕ) → Ok X r → (k t h b : ℕ) → t + D + 1 ≤ next k → Shown X t h b → any (isBlock h b) (st X r k .statements) ≡ true
   unfolding isBlock
   shown-stored r ok k t h b d (j, hj, c, l, (y, e, p, q, s)) =
       let xs = st X r k .statements in
@@ -156,7 +157,7 @@ module _ (X : Group) where
     noted-there =
         let y = cast .stands in
         let (z, f, i) = found w (cast .at .statements) (y .has) in
-        let (c, q, lo, hi, vt) = cast .orderly .votes (y .phase) w z f kind (y .view ∙ sym (y .current)) in
+        let (c, q, lo, hi, vt) = cast .orderly .votes (y .phase) w z f (propose-high w (cast .at) kind) (y .view ∙ sym (y .current)) in
         let now : cast .at .clock ≡ ck X (suc j) = moves-fixed (cast .before) .1 ∙ begun-at X r (S .ok) j in
         record { what = z; finds = f; clock = c; voted = q; early = omega arith }
 

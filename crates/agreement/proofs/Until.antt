@@ -109,7 +109,7 @@ module _ (size : Size) (n D : ℕ) (event : ℕ → Event) (K : ℕ) where
 
   -- ---- what is said
 
-  says-back : (i l : ℕ) (e : Effect) → Says Q i l e → (l < K) × Says R i l e
+  pub says-back : (i l : ℕ) (e : Effect) → Says Q i l e → (l < K) × Says R i l e
   says-back i l e s =
       elim (decLt l K) [
         | yes d ↦ (d, subst (List·Memᴰ e) (out-until i l d) s)

@@ -74,7 +74,7 @@ held-stored g s x h = go (x .isNewView) refl
 
 -- ---- what is handed over is held
 
-statement-held : (x : Statement) (s : State) → In (statement x s .now .statements) x
+pub statement-held : (x : Statement) (s : State) → In (statement x s .now .statements) x
 unfolding statement voting saying quit withPhase stored withTables certificateJoined votedFor
 statement-held x s =
     let a = in-last (s .statements) x in
@@ -129,21 +129,27 @@ pub step-used : (bs : List ℕ) (m : Message) (s : State) → running s ≡ true
 unfolding step heard refused
 step-used bs m s r q a w u = rw (r, q, a, w, step, u, heard) refl
 
--- what was taken is held
-pub step-held : (bs : List ℕ) (m : Message) (s : State) → read bs ≡ some m → length (s .blames) ≡ suc (lastView (s .settings .size))
-    → step bs s .number ≡ 0 → Held (s .settings) (step bs s .next) m
+-- what was taken is allowed, and handled
+pub step-done : (bs : List ℕ) (m : Message) (s : State) → read bs ≡ some m → step bs s .number ≡ 0
+    → (allowed (s .settings) m ≡ true) × (step bs s ≡ done (handled m s))
 unfolding step heard ifRoom refused stopping done
-step-held bs m s q l =
+step-done bs m s q =
     by-bool (running s)
     (λ r.
     by-bool (allowed (s .settings) m)
     (λ a.
     by-bool (ahead m s) (λ w. rw (r, q, a, w, step) (λ e. absurd (omega arith))) λ w.
     by-bool (usedUp m s) (λ u. rw (r, q, a, w, step, u, heard) (λ e. absurd (omega arith))) λ u.
-    by-bool (hasRoom (handled m s .now)) (λ k. rw (r, q, a, w, step, u, heard, k, ifRoom) (λ _. handled-held m s a l))
+    by-bool (hasRoom (handled m s .now)) (λ k. rw (r, q, a, w, step, u, heard, k, ifRoom) (λ _. (refl, refl)))
     (λ k. rw (r, q, a, w, step, u, heard, k, ifRoom) (λ e. absurd (omega arith))))
     (λ a. rw (r, q, a, step) (λ e. absurd (omega arith))))
     (λ r. rw (r, step) (λ e. absurd (omega arith)))
+
+-- what was taken is held
+pub step-held : (bs : List ℕ) (m : Message) (s : State) → read bs ≡ some m → length (s .blames) ≡ suc (lastView (s .settings .size))
+    → step bs s .number ≡ 0 → Held (s .settings) (step bs s .next) m
+unfolding done
+step-held bs m s q l e = let (a, d) = step-done bs m s q e in rw d (handled-held m s a l)
 
 -- ---- what is said to all is held
 

@@ -19,6 +19,7 @@ pub mod Held
 pub mod Views
 pub mod Votes
 pub mod Locks
+pub mod Leads
 pub mod Proper
 pub mod Commits
 pub mod Splits

@@ -1,10 +1,10 @@
--- L2, L3, L5: in a view no two stored statements of it conflict and its blames are no quorum, every stored propose of it is voted
--- for, from the entry on; who quits tells all why; how the station came into its view. S c e: the station said e at clock c. Assumes nothing.
+-- L2, L3, L5: in a view no two stored statements of it conflict and its blames are no quorum, every stored statement of it is voted
+-- for, from the entry on, but a new-view below the lock; who quits tells all why; how the station came into its view. S c e: the station said e at clock c. Assumes nothing.
 use mathlib.Core.Path.{_≡_, subst, refl, sym, ap, _∙_}
 use Prim.Native.Nat.{ℕ, suc, _+_, _≤_, _<_}
 use native.Mathlib.Omega.{arith}
 use native.Mathlib.Decide.{decLt}
-use mathlib.Core.Bool.{true, false}
+use mathlib.Core.Bool.{Bool, true, false, _&&_}
 use mathlib.Core.List.{List, [], _∷_, _++_}
 use mathlib.Core.Logic.{_⊎_, inl, inr}
 use mathlib.Core.Option.{Option, none, some, Option·map, map-eq-some-iff}
@@ -15,7 +15,7 @@ use Rattle.rules.specs.Limits.{firstView, lastView}
 use Rattle.rules.specs.Lists.{first, any, keep, alter}
 use Rattle.rules.specs.Sizes.{Settings, joined, quorum}
 use Rattle.rules.specs.Messages.{vote, blameSet, Effect, toAll}
-use Rattle.rules.specs.Words.{Statement, message, sameStatement, conflict, Certificate, Opener, Tally, certificateOf, inView, waiting, State, fresh}
+use Rattle.rules.specs.Words.{Statement, message, sameStatement, conflict, Certificate, Opener, Tally, certificateOf, opened, certificate, below, inView, waiting, State, fresh}
 use Rattle.rules.specs.Inputs.{Work, saying, _▸_, withPhase, withClock, withTables, withBlames, withLog, entering, isIn, belowLock, noted, votedFor, ballot, voting, stored, blamesOf, blamed, blameFull, entersNow, report, current, pair, inOrder, votingAll}
 use Rattle.rules.proofs.Bounds.{views-some}
 use Rattle.rules.proofs.Tests.{by-bool, no-some, no-bool}
@@ -28,6 +28,22 @@ use Rattle.rules.proofs.Kept.{no-phase, waiting-clock, in-true, true-in
 
 pair-view : (v : ℕ) (xs : List Statement) (p : Statement × Statement) → pair (keep (λ y. eqb (y .view) v) xs) ≡ some p → p .0 .view ≡ v
 pair-view v xs p f = eqb-true (p .0 .view) v (mem-keep (λ (y : Statement). eqb (y .view) v) xs (p .0) (pair-some _ p f .1) .1)
+
+-- ---- what is below the lock
+
+-- a new-view whose certificate ranks below t
+abbrev low : Certificate → Statement → Bool
+low t x = x .isNewView && below (certificate x) t
+
+-- the same statement is below it too
+low-same : (t : Certificate) (x y : Statement) → sameStatement x y ≡ true → low t y ≡ low t x
+unfolding below certificate
+low-same t x y e = ap (low t) (same-like x y e) ∙ by-bool (x .isNewView) (λ q. rw q refl) (λ q. rw q refl)
+
+-- a propose is never below the lock
+pub propose-high : (x : Statement) (s : State) → x .isNewView ≡ false → belowLock x s ≡ false
+unfolding belowLock
+propose-high x s k = rw k refl
 
 -- ---- what a search finds after votes: what it found, or that with the clock noted
 
@@ -61,15 +77,15 @@ module _ (S : ℕ → Effect → Type 0) where
   voted-cong : (c me : ℕ) (x z : Statement) → sameStatement x z ≡ true → Voted c me x → Voted c me z
   voted-cong c me x z e (y, s, m, v) = let l = same-like x z e in (y, sym (same-cong x z y e) ∙ s, m, rw l v)
 
-  -- the table after votes at clock c for ys in xs
-  record After (me c : ℕ) (ys xs after : List Statement) : Type 0 where
+  -- the table after votes at clock c, under the lock t, for ys in xs
+  record After (me c : ℕ) (t : Certificate) (ys xs after : List Statement) : Type 0 where
     pub has : (x : Statement) → any (sameStatement x) after ≡ any (sameStatement x) xs
     pub found : (x : Statement) → Or c (first (sameStatement x) xs) (first (sameStatement x) after)
-    pub voted : (x : Statement) → x .isNewView ≡ false → In ys x
+    pub voted : (x : Statement) → low t x ≡ false → In ys x
         → (first (sameStatement x) after ≡ Option·map (noted c) (first (sameStatement x) xs)) × Voted c me x
 
   voting-after : (y : Statement) (s : State) → All (S (s .clock)) (voting y s .out)
-      → (xs : List Statement) × (ts : List Tally) × (voting y s .now ≡ withTables xs ts s) × After (s .settings .own) (s .clock) (y ∷ []) (s .statements) xs
+      → (xs : List Statement) × (ts : List Tally) × (voting y s .now ≡ withTables xs ts s) × After (s .settings .own) (s .clock) (s .lock) (y ∷ []) (s .statements) xs
   unfolding any withTables saying belowLock votedFor ballot
   voting-after y s h =
       by-bool (belowLock y s)
@@ -82,7 +98,7 @@ module _ (S : ℕ → Effect → Type 0) where
           found = λ x. inl refl;
           voted = λ x k a.
               by-bool (sameStatement x y)
-              (λ q. no-bool (sym (and-2 (y .isNewView) _ l .0) ∙ ap (λ (w : Statement). w .isNewView) (same-like x y q) ∙ k))
+              (λ q. no-bool (sym l ∙ low-same (s .lock) x y q ∙ k))
               (λ q. no-bool (sym (rw (q, any) at a)));
         },
       ))
@@ -107,7 +123,7 @@ module _ (S : ℕ → Effect → Type 0) where
       ))
 
   votingAll-after : (ys : List Statement) (s : State) → All (S (s .clock)) (votingAll ys s .out)
-      → (xs : List Statement) × (ts : List Tally) × (votingAll ys s .now ≡ withTables xs ts s) × After (s .settings .own) (s .clock) ys (s .statements) xs
+      → (xs : List Statement) × (ts : List Tally) × (votingAll ys s .now ≡ withTables xs ts s) × After (s .settings .own) (s .clock) (s .lock) ys (s .statements) xs
   unfolding votingAll withTables saying any _▸_
   votingAll-after [] s h = (s .statements, s .tallies, refl, record { has = λ x. refl; found = λ x. inl refl; voted = λ x k a. no-bool (sym a) })
   votingAll-after (y ∷ ys) s h =
@@ -148,7 +164,7 @@ module _ (S : ℕ → Effect → Type 0) where
   pub record Orderly (s : State) : Type 0 where
     pub clean : s .phase ≡ inView → Clean (s .view) (s .statements)
     pub calm : s .phase ≡ inView → blameFull (s .view) s ≡ false
-    pub votes : s .phase ≡ inView → (x z : Statement) → first (sameStatement x) (s .statements) ≡ some z → x .isNewView ≡ false → x .view ≡ s .view
+    pub votes : s .phase ≡ inView → (x z : Statement) → first (sameStatement x) (s .statements) ≡ some z → belowLock x s ≡ false → x .view ≡ s .view
         → VotedIn s x z
     pub quits : (q : ℕ) → s .phase ≡ waiting q → (s .entry ≤ q) × (q ≤ s .clock) × Told (s .settings) q (s .view)
     pub past : Past (s .settings) (s .view) (s .entry)
@@ -160,7 +176,7 @@ module _ (S : ℕ → Effect → Type 0) where
       record { clean = λ p x y a b v. no-bool (sym a); calm = λ p. rw (getD-replicate {A = ℕ} (suc (lastView (g .size))) 1 0 0 (omega (arith, views-some (g .size)))) (no-quorum g); votes = λ p x z f k v. no-some f; quits = λ q e. no-phase (sym e); past = start; order = omega arith }
 
   pub clock-orderly : (s : State) → Orderly s → Orderly (withClock (s .clock + 1) s)
-  unfolding withClock blameFull blamesOf
+  unfolding withClock blameFull blamesOf belowLock
   clock-orderly s i =
       record {
         clean = i .clean;
@@ -186,18 +202,19 @@ module _ (S : ℕ → Effect → Type 0) where
       }
 
   -- a new statement of another view, or a new-view that is not voted for
-  votes-append : (s : State) (w : Statement) → Orderly s → s .phase ≡ inView → (w .view ≡ s .view → w .isNewView ≡ true) → (x z : Statement)
-      → first (sameStatement x) (s .statements ++ w ∷ []) ≡ some z → x .isNewView ≡ false → x .view ≡ s .view → VotedIn s x z
+  votes-append : (s : State) (w : Statement) → Orderly s → s .phase ≡ inView → (w .view ≡ s .view → belowLock w s ≡ true) → (x z : Statement)
+      → first (sameStatement x) (s .statements ++ w ∷ []) ≡ some z → belowLock x s ≡ false → x .view ≡ s .view → VotedIn s x z
+  unfolding belowLock
   votes-append s w i p n x z f k v = go (first-append (sameStatement x) (s .statements) w z f)
     where
       go : (first (sameStatement x) (s .statements) ≡ some z) ⊎ ((first (sameStatement x) (s .statements) ≡ none) × (sameStatement x w ≡ true) × (z ≡ w)) → VotedIn s x z
       go (inl e) = i .votes p x z e k v
       go (inr e) =
           let l = same-like x w (e .1) in
-          no-bool (sym (n (ap (λ (y : Statement). y .view) l ∙ v)) ∙ ap (λ (y : Statement). y .isNewView) l ∙ k)
+          no-bool (sym (n (ap (λ (y : Statement). y .view) l ∙ v)) ∙ low-same (s .lock) x w (e .1) ∙ k)
 
   votes-cast : (s : State) (w : Statement) → Orderly s → s .phase ≡ inView → All (S (s .clock)) (ballot w s) → (x z : Statement)
-      → first (sameStatement x) (alter (sameStatement w) (noted (s .clock)) (s .statements ++ w ∷ [])) ≡ some z → x .isNewView ≡ false → x .view ≡ s .view
+      → first (sameStatement x) (alter (sameStatement w) (noted (s .clock)) (s .statements ++ w ∷ [])) ≡ some z → belowLock x s ≡ false → x .view ≡ s .view
       → VotedIn s x z
   unfolding noted ballot
   votes-cast s w i p h x z f k v =
@@ -243,7 +260,7 @@ module _ (S : ℕ → Effect → Type 0) where
 
   entering-orderly : (s : State) → Orderly s → entersNow s ≡ true → blameFull (s .view + 1) s ≡ false → pair (current (arrived s)) ≡ none
       → All (S (s .clock)) (votingAll (inOrder (current (arrived s))) (arrived s) .out) → Orderly (votingAll (inOrder (current (arrived s))) (arrived s) .now)
-  unfolding withTables saying entering current noted blameFull blamesOf
+  unfolding withTables saying entering current noted blameFull blamesOf belowLock
   entering-orderly s i e c f h =
       let (X, T, q, a) = votingAll-after (inOrder (current (arrived s))) (arrived s) h in
       let n = s .view + 1 in
@@ -277,7 +294,7 @@ module _ (S : ℕ → Effect → Type 0) where
       record {
         clean = λ p. clean-append (s .view) (s .statements) x (i .clean p) (λ v. c);
         calm = i .calm;
-        votes = λ p. votes-append s x i p (λ v. and-2 (x .isNewView) _ l .0);
+        votes = λ p. votes-append s x i p (λ v. l);
         quits = i .quits;
         past = i .past;
         order = i .order;

@@ -199,7 +199,7 @@ below-true t u e = go (or-2 (ltb (t .view) (u .view)) _ e)
         let h = ltb-true (t .height) (u .height) (a .1) in
         inr (sym v, omega arith)
 
-higher-true : (t b : Certificate) → higher t b ≡ true → Above t b
+pub higher-true : (t b : Certificate) → higher t b ≡ true → Above t b
 unfolding higher
 higher-true t b e = go (or-2 (below b t) _ e)
   where
@@ -207,7 +207,7 @@ higher-true t b e = go (or-2 (below b t) _ e)
     go (inl p) = below-true b t p
     go (inr p) = not-below t b (not-true (below t b) (and-2 (not (below t b)) _ p .0))
 
-higher-false : (t b : Certificate) → higher t b ≡ false → Above b t
+pub higher-false : (t b : Certificate) → higher t b ≡ false → Above b t
 unfolding higher
 higher-false t b e = not-below b t (or-not (below b t) _ e .0)
 

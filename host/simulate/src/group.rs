@@ -47,6 +47,8 @@ pub struct Plan {
     pub lateness: u32,
     /// How many names a leader's host has to offer in a view.
     pub names: u32,
+    /// Whether a sound leader's host offers a name after every call, until one is refused.
+    pub prompt: bool,
     pub seed: u64,
 }
 
@@ -156,7 +158,7 @@ impl<P: Program> Group<P> {
 
     /// One common tick and all that happens before the next.
     fn tick(&mut self) -> Result<(), Breach> {
-        self.watch.before_tick(self.clock, &self.stations);
+        self.watch.before_tick(self.clock, &self.stations)?;
         self.clock += 1;
         self.trace.last = self.clock;
         for station in 0..self.plan.n {
@@ -204,8 +206,23 @@ impl<P: Program> Group<P> {
         Ok(())
     }
 
-    /// A call, with all that the others see of it.
+    /// A call, and the offers that a prompt host makes after it.
     fn call(&mut self, station: u8, call: Call) -> Result<(), Breach> {
+        self.act(station, call)?;
+        let leads = |group: &Self| {
+            group.plan.leader(group.stations[usize::from(station)].view()) == station
+        };
+        if self.plan.prompt && self.plan.is_sound(station) && leads(self) {
+            while {
+                let name = self.spare_name();
+                self.act(station, Call::Offered(&name))? == 0
+            } {}
+        }
+        Ok(())
+    }
+
+    /// A call, with all that the others see of it; its number.
+    fn act(&mut self, station: u8, call: Call) -> Result<u32, Breach> {
         let program = &mut self.stations[usize::from(station)];
         let before = (program.view(), program.phase());
         let answer = match call {
@@ -224,7 +241,8 @@ impl<P: Program> Group<P> {
         self.watch.see(&deed, &self.stations[usize::from(station)])?;
         let letters = self.letters(&deed);
         self.trace.see(&deed, &letters, self.stations[usize::from(station)].lock());
-        self.send(letters)
+        self.send(letters)?;
+        Ok(number)
     }
 
     /// The letters that a deed brings about.

@@ -6,7 +6,8 @@
 //! The kinds are those of stations 1, 2, ..: sound, silent, equivocating, late, splitting, planting, rude,
 //! wild. The program is `proved` or `second`. With `--large` every station has the large limits; with
 //! `--envelopes` the letters travel in relay envelopes, which changes nothing of a run. The exit is 0 exactly when
-//! demand 3 held.
+//! demand 3 held, and request 12 in the views whose leader is sound and prompt (half of the groups of
+//! `--many`).
 
 use programs::{Program, Proved, Second};
 use second::random::Random;
@@ -112,8 +113,8 @@ fn one<P: Program>(asked: &Asked) -> Result<(), String> {
         return Err("at most f of n = 2f+1 stations may be faulty".into());
     }
     let (size, n, d, seed) = (asked.size, asked.n, asked.d, asked.seed);
-    let (delays, lateness, names) = (Delays::Longest, 3, u32::MAX);
-    let plan = Plan { size, n, d, faults, delays, lateness, names, seed };
+    let (delays, lateness, names, prompt) = (Delays::Longest, 3, u32::MAX, false);
+    let plan = Plan { size, n, d, faults, delays, lateness, names, prompt, seed };
     let mut group = group::<P>(asked, plan);
     let outcome = group.run_to(asked.ticks);
     if let Some(path) = &asked.svg {
@@ -140,7 +141,7 @@ fn many<P: Program>(asked: &Asked, runs: u64) -> Result<(), String> {
     println!("seed {seed}");
     let mut random = Random::new(seed);
     let (mut commits, mut quits, mut ahead, mut used_up) = (0, 0, 0, 0);
-    let (mut calls, mut full, mut overtaken) = (0, 0, 0);
+    let (mut calls, mut full, mut overtaken, mut led) = (0, 0, 0, 0);
     let mut envelopes = 0;
     for run in 1..=runs {
         let (plan, ticks) = random_plan(size, &mut random);
@@ -158,9 +159,10 @@ fn many<P: Program>(asked: &Asked, runs: u64) -> Result<(), String> {
         used_up += group.watch.used_up;
         calls += group.watch.calls;
         envelopes += group.envelopes.unwrap_or(0);
+        led += group.watch.progress.views();
     }
     println!(
-        "{} program, {runs} groups of size {size:?} ({full} until a store was full, {overtaken} until a sound vote got 12): {calls} calls, {quits} quits, {commits} commits, {ahead} refusals of messages too far ahead and {used_up} of votes with 12 by sound stations, demand 3 held",
+        "{} program, {runs} groups of size {size:?} ({full} until a store was full, {overtaken} until a sound vote got 12): {calls} calls, {quits} quits, {commits} commits, {ahead} refusals of messages too far ahead and {used_up} of votes with 12 by sound stations, {led} views with a prompt sound leader, demand 3 and request 12 held",
         P::TITLE
     );
     tell_envelopes(asked, envelopes);
@@ -182,5 +184,6 @@ fn random_plan(size: Size, random: &mut Random) -> (Plan, u32) {
     let (names, lateness) = (random.pick(&[1, 2, 3, 40]), 1 + random.below(3) as u32);
     // The larger the stores, the longer: 120 D ticks with the small limits.
     let ticks = 15 * size.statements() as u32 / 16 * d;
-    (Plan { size, n, d, faults, delays, lateness, names, seed: random.number() }, ticks)
+    let (seed, prompt) = (random.number(), random.one_in(2));
+    (Plan { size, n, d, faults, delays, lateness, names, prompt, seed }, ticks)
 }

@@ -1,8 +1,10 @@
 //! Demand 3, checked as a run goes on: of two sound logs one begins the other, and a sound station
 //! that votes for a propose at clock t and is in that view when the tick to t+2D+1 begins has the
-//! block in its log after it. And the premises, which hold the faulty stations.
+//! block in its log after it. And request 12, by `progress`, and the premises, which hold the faulty
+//! stations.
 
 use crate::group::{Deed, Letter, Plan, is_expected, is_used_up};
+use crate::progress::Progress;
 use programs::Program;
 use station::{Effect, Message, Name, Phase, Refusal};
 use std::collections::{HashMap, HashSet};
@@ -13,6 +15,8 @@ use std::fmt;
 pub enum Breach {
     /// Demand 3 is broken.
     Demand(String),
+    /// A view with a prompt sound leader doesn't get on.
+    Progress(String),
     /// The schedule is none of 01's: the simulation is at fault.
     Premise(String),
     /// A sound station has no record free: it would count among the f from here on.
@@ -25,6 +29,7 @@ impl fmt::Display for Breach {
     fn fmt(&self, f: &mut fmt::Formatter<'_>) -> fmt::Result {
         match self {
             Breach::Demand(how) => write!(f, "demand 3 is broken: {how}"),
+            Breach::Progress(how) => write!(f, "request 12 is broken: {how}"),
             Breach::Premise(how) => write!(f, "the schedule is none of 01's: {how}"),
             Breach::Full => f.write_str("a station has no record free"),
             Breach::UsedUp => f.write_str("a sound station's vote was refused with 12"),
@@ -60,6 +65,7 @@ pub struct Watch {
     due: Vec<Voted>,
     /// The longest sound log.
     log: Vec<Name>,
+    pub progress: Progress,
     pub commits: u64,
     pub quits: u64,
     /// Messages of faulty stations that were refused as too far ahead.
@@ -72,6 +78,7 @@ pub struct Watch {
 impl Watch {
     pub fn new(plan: Plan) -> Watch {
         Watch {
+            progress: Progress::new(plan.clone()),
             plan,
             said: HashSet::new(),
             statements: Vec::new(),
@@ -88,7 +95,8 @@ impl Watch {
     }
 
     /// Looks for votes whose last tick begins, while their station is still in their view.
-    pub fn before_tick<P: Program>(&mut self, clock: u32, stations: &[P]) {
+    pub fn before_tick<P: Program>(&mut self, clock: u32, stations: &[P]) -> Result<(), Breach> {
+        self.progress.before_tick(clock).map_err(Breach::Progress)?;
         let d = self.plan.d;
         let (ripe, votes) = self.votes.iter().partition(|vote| vote.clock + 2 * d == clock);
         self.votes = votes;
@@ -97,6 +105,7 @@ impl Watch {
             let station = &stations[usize::from(vote.station)];
             (station.view(), station.phase()) == (vote.view, Phase::InView)
         });
+        Ok(())
     }
 
     /// Looks that they are in the logs now.
@@ -121,6 +130,7 @@ impl Watch {
         self.calls += 1;
         self.quits += u64::from(deed.before.1 == Phase::InView && deed.after.1 != Phase::InView);
         self.answered(deed)?;
+        self.progress.see(deed).map_err(Breach::Progress)?;
         self.ahead += u64::from(deed.number == Refusal::Ahead.number());
         self.used_up += u64::from(deed.number == Refusal::UsedUp.number());
         self.note_said(deed);
@@ -156,6 +166,7 @@ impl Watch {
             if let (Message::Vote { view, height, name, .. }, true) = (message, on_propose) {
                 let (station, clock) = (deed.station, deed.clock);
                 self.votes.push(Voted { station, clock, view, height, name });
+                self.progress.voted(station, view);
             }
             on_propose = matches!(message, Message::Propose { .. });
         }

@@ -10,7 +10,7 @@ fn plan(n: u8, d: u32, faulty: &[Fault], delays: Delays, seed: u64) -> Plan {
     for (station, fault) in (1..).zip(faulty) {
         faults[station] = Some(*fault);
     }
-    Plan { size: Size::Small, n, d, faults, delays, lateness: 3, names: 3, seed }
+    Plan { size: Size::Small, n, d, faults, delays, lateness: 3, names: 3, prompt: false, seed }
 }
 
 /// Every kind of faulty leader, with delays at their bounds: logs agree, and blocks are committed.
@@ -182,4 +182,34 @@ fn a_delay_bound_that_is_too_small_splits_the_logs() {
 fn a_station_that_never_commits_is_found() {
     let how = breach::<Wrong<false>>(|seed| plan(3, 2, &[], Delays::Longest, seed));
     assert!(how.is_some_and(|how| how.contains("not")), "the vote lasts, the log lacks it");
+}
+
+/// A plan whose sound leaders are offered a name as soon as one is wanted.
+fn prompt(n: u8, d: u32, faulty: &[Fault], delays: Delays, seed: u64) -> Plan {
+    Plan { prompt: true, ..plan(n, d, faulty, delays, seed) }
+}
+
+/// After a faulty leader a sound and prompt one gets on: request 12, which every run looks at.
+#[test]
+fn prompt_leaders_get_on() {
+    for fault in Fault::ALL {
+        for delays in [Delays::Longest, Delays::Bounds, Delays::Any] {
+            for seed in 0..4 {
+                let mut group = Group::<Proved>::new(prompt(3, 2, &[fault], delays, seed));
+                match group.run_to(120) {
+                    Ok(()) | Err(Breach::Full) => {}
+                    Err(breach) => panic!("{fault}, {delays:?}, seed {seed}: {breach}"),
+                }
+                assert!(group.watch.progress.views() > 0, "{fault}, seed {seed}");
+            }
+        }
+    }
+}
+
+/// Stations whose D is half the network's blame a leader who is in time.
+#[test]
+fn stations_that_blame_too_early_are_found() {
+    let mut group = Group::<Wrong<true>>::new(prompt(3, 4, &[Fault::Silent], Delays::Longest, 1));
+    let outcome = group.run_to(200);
+    assert!(matches!(outcome, Err(Breach::Progress(_))), "{outcome:?}");
 }

@@ -1,0 +1,17 @@
+pub mod Tick
+pub mod New
+pub mod Blames
+pub mod Entries
+pub mod Marks
+pub mod Leader
+pub mod Calm
+pub mod Opening
+pub mod Heights
+pub mod Rungs
+pub mod Ballots
+pub mod Bound
+pub mod Growth
+pub mod Theorems
+pub mod Alike
+pub mod Offers
+pub mod Examples
