@@ -4,6 +4,7 @@ use crate::text::{self, Line};
 use programs::words;
 use programs::{Program, Second};
 use second::replay::Input;
+use second::{choose, envelope};
 use station::{Effect, Effects, Size};
 use std::fmt::Write;
 
@@ -48,6 +49,8 @@ impl Teller {
             Line::Input(input) => self.input(number, &input),
             Line::Log => self.log(number),
             Line::State => self.state(number),
+            Line::Envelope(bytes) => self.envelope(number, &bytes),
+            Line::Choose(first, other) => self.choose(number, &first, &other),
         }
     }
 
@@ -144,6 +147,29 @@ impl Teller {
         for (height, name) in (1..).zip(log) {
             self.print(format_args!("  {}", words::effect(Effect::Committed { height, name })));
         }
+    }
+
+    /// Every message of an envelope is handed over, in order.
+    fn envelope(&mut self, number: usize, bytes: &[u8]) {
+        let Some(places) = envelope::read(bytes) else {
+            return self.answered(number, "envelope", 14, &[]);
+        };
+        self.print(format_args!("line {number}: envelope: 0 done, {} messages", places.len()));
+        for (start, len) in places {
+            self.input(number, &Input::Step(bytes[start..start + len].to_vec()));
+        }
+    }
+
+    /// Which of two reports is taken, in a group of the store's size; nothing is allowed where there is no store.
+    fn choose(&mut self, number: usize, first: &[u8], other: &[u8]) {
+        let n = self.station.as_ref().map_or(0, |station| station.station().settings().stations().into());
+        let taken = choose(0, n, first, other);
+        let words = match taken {
+            [] => "neither",
+            _ if std::ptr::eq(taken.as_ptr_range().end, first.as_ptr_range().end) => "the first",
+            _ => "the second",
+        };
+        self.print(format_args!("line {number}: choose: {words}"));
     }
 
     fn display(&mut self, number: usize) {

@@ -15,6 +15,8 @@ pub enum Line {
     Ticks(u64),
     Log,
     State,
+    Envelope(Vec<u8>),
+    Choose(Vec<u8>, Vec<u8>),
 }
 
 /// The script of a run.
@@ -31,7 +33,8 @@ pub fn write(inputs: &[Input]) -> String {
     script
 }
 
-/// The run of a script, or the line that is none of it. `log` and `state` change nothing.
+/// The run of a script, or the line that is none of it. `log`, `state` and `choose` change nothing, and
+/// envelopes are not unpacked here.
 pub fn read(script: &[u8]) -> Result<Vec<Input>, String> {
     let mut inputs = Vec::new();
     for (number, bytes) in lines(script) {
@@ -41,7 +44,8 @@ pub fn read(script: &[u8]) -> Result<Vec<Input>, String> {
         match said {
             Line::Input(input) => inputs.push(input),
             Line::Ticks(count) => inputs.extend((0..count).map(|_| Input::Tick)),
-            Line::Blank | Line::Log | Line::State => {}
+            Line::Blank | Line::Log | Line::State | Line::Choose(..) => {}
+            Line::Envelope(_) => return Err(format!("line {number} is an envelope")),
         }
     }
     Ok(inputs)
@@ -74,6 +78,8 @@ pub fn line(bytes: &[u8]) -> Option<Line> {
         ["display"] => Line::Input(Input::Display),
         ["log"] => Line::Log,
         ["state"] => Line::State,
+        ["envelope", hex] => Line::Envelope(replay::bytes(hex)?),
+        ["choose", first, other] => Line::Choose(replay::bytes(first)?, replay::bytes(other)?),
         [kind, ref words @ ..] => Line::Input(Input::Step(message(kind, words)?.encode())),
     })
 }
