@@ -84,7 +84,7 @@ votingAll-ballots (y ∷ ys) s =
 
 module _ {R : Outside} where
   move-ballots : (s t : State) (o : List Effect) → Move R s t o → Ballots o
-  move-ballots s t o (joins m u g c) = free-ballots [] tt
+  move-ballots s t o (joins n m u g c) = free-ballots [] tt
   move-ballots s t o (stores x g f) = free-ballots [] tt
   move-ballots s t o (passes x g f c l) = free-ballots [] tt
   move-ballots s t o (casts x g f c l) = ballot-ballots x s

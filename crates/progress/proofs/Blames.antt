@@ -139,7 +139,7 @@ event-says i (tickOf j) s c = absurd c
 event-says i (given j bs) s c =
     let B = Overdue (given j bs) s in
     by-bool (eqb i j)
-    (λ q. rw (q, happens) (λ r. by-step (λ o. All (Blaming B) (o .out)) s (λ k. tt) bs (λ m f a. room-mute B s (handled m s) (handled-mute B m s))))
+    (λ q. rw (q, happens) (λ r. by-step (λ o. All (Blaming B) (o .out)) s (λ k. tt) bs (λ m f a u. room-mute B s (handled m s) (handled-mute B m s))))
     (λ q. rw (q, happens) (λ r. tt))
 event-says i (offeredTo j b) s c =
     let B = Overdue (offeredTo j b) s in
@@ -289,7 +289,7 @@ event-blames i (tickOf j) s c = absurd c
 event-blames i (given j bs) s c =
     by-bool (eqb i j)
     (λ q. rw (q, happens) (λ r v a h. by-step (λ o. running (o .next) ≡ true → bit (blamesOf v (o .next)) a ≡ 1 → (bit (blamesOf v s) a ≡ 1) ⊎ Accused i (given j bs) s (step bs s .out) v a) s (λ k r h. inl h) bs
-    (λ m f w. room-left (λ t. bit (blamesOf v t) a ≡ 1 → (bit (blamesOf v s) a ≡ 1) ⊎ Accused i (given j bs) s (step bs s .out) v a) s (handled m s) (λ h. go (eqb-true i j q) m f w v a (handled-blames m s v a h))) r h))
+    (λ m f w u. room-left (λ t. bit (blamesOf v t) a ≡ 1 → (bit (blamesOf v s) a ≡ 1) ⊎ Accused i (given j bs) s (step bs s .out) v a) s (handled m s) (λ h. go (eqb-true i j q) m f w v a (handled-blames m s v a h))) r h))
     (λ q. rw (q, happens) (λ r v a h. inl h))
   where
     go : i ≡ j → (m : Message) → read bs ≡ some m → allowed (s .settings) m ≡ true → (v a : ℕ) → (bit (blamesOf v s) a ≡ 1) ⊎ Names m v a

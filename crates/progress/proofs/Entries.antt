@@ -33,7 +33,7 @@ votingAll-entry (y ∷ ys) s =
 module _ {R : Outside} where
   move-entry : (s t : State) (o : List Effect) → Move R s t o → Going s t
   unfolding withTables withPhase withBlames withLog entering stored votedFor blamed
-  move-entry s t o (joins m u g c) = inl (refl, refl, refl)
+  move-entry s t o (joins n m u g c) = inl (refl, refl, refl)
   move-entry s t o (stores x g f) = inl (refl, refl, refl)
   move-entry s t o (passes x g f c l) = inl (refl, refl, refl)
   move-entry s t o (casts x g f c l) = inl (refl, refl, refl)

@@ -6,11 +6,12 @@ use native.Mathlib.Omega.{arith}
 use mathlib.Core.Bool.{true, false, _&&_}
 use mathlib.Core.List.{List, [], _∷_, List·Memᴰ, List·Memᴰ·head, List·Memᴰ·tail}
 use mathlib.Core.Logic.{_⊎_, inl, inr}
+use mathlib.Core.Option.{none}
 use lib.Dec.{eqb, ltb}
 use borrow.Author.Tests.{lt-ltb, eqb-true}
 use Rattle.rules.specs.Sizes.{Settings, leader, only, quorum}
 use Rattle.rules.specs.Messages.{status, Effect, toOne}
-use Rattle.rules.specs.Words.{Statement, Certificate, Tally, certificateOf, opened, ownBlock, certificate, sameBlock, grown, join, joinCertificate, certified, higher, highest, genesis, State, fresh}
+use Rattle.rules.specs.Words.{Statement, Certificate, Opener, Tally, certificateOf, opened, ownBlock, certificate, sameBlock, grown, join, joinCertificate, certified, higher, highest, genesis, State, fresh}
 use Rattle.rules.specs.Inputs.{saying, _▸_, withPhase, withTables, withBlames, withLog, entering, belowLock, votedFor, stored, tallied, blamed, handled, nextLock, report, current, inOrder, votingAll}
 use Rattle.rules.proofs.Tests.{by-bool}
 use Rattle.rules.proofs.Truths.{and-2}
@@ -27,10 +28,10 @@ Marked g c ts = (u : Tally) × List·Memᴰ u ts × (u .view ≡ c .view) × (u 
 marked-tail : (g : Settings) (c : Certificate) (t : Tally) (ts : List Tally) → Marked g c ts → Marked g c (t ∷ ts)
 marked-tail g c t ts (u, m, v, h, q) = (u, List·Memᴰ·tail m, v, h, q)
 
-join-marked : (g : Settings) (c t : Certificate) (us : List Tally) → Marked g c us → Marked g c (join t us)
+join-marked : (g : Settings) (c : Certificate) (k : Opener) (t : Certificate) (us : List Tally) → Marked g c us → Marked g c (join k t us)
 unfolding join grown
-join-marked g c t [] (w, m, v, h, q) = (w, List·Memᴰ·tail m, v, h, q)
-join-marked g c t (u ∷ us) (w, List·Memᴰ·head e, v, h, q) =
+join-marked g c k t [] (w, m, v, h, q) = (w, List·Memᴰ·tail m, v, h, q)
+join-marked g c k t (u ∷ us) (w, List·Memᴰ·head e, v, h, q) =
     by-bool (sameBlock t (certificateOf u))
     (λ s. rw (s, join) (
       grown u (t .mask),
@@ -40,24 +41,24 @@ join-marked g c t (u ∷ us) (w, List·Memᴰ·head e, v, h, q) =
       quorum-left g (u .mask) (t .mask) (subst (λ (x : Tally). quorum g (x .mask) ≡ true) e q),
     ))
     (λ s. rw (s, join) (w, List·Memᴰ·head e, v, h, q))
-join-marked g c t (u ∷ us) (w, List·Memᴰ·tail m, v, h, q) =
+join-marked g c k t (u ∷ us) (w, List·Memᴰ·tail m, v, h, q) =
     by-bool (sameBlock t (certificateOf u)) (λ s. rw (s, join) (w, List·Memᴰ·tail m, v, h, q))
-    (λ s. rw (s, join) (marked-tail g c u (join t us) (join-marked g c t us (w, m, v, h, q))))
+    (λ s. rw (s, join) (marked-tail g c u (join k t us) (join-marked g c k t us (w, m, v, h, q))))
 
 -- what joins with a quorum is certified
-joined-marked : (g : Settings) (t : Certificate) (us : List Tally) → quorum g (t .mask) ≡ true → Marked g t (join t us)
+joined-marked : (g : Settings) (k : Opener) (t : Certificate) (us : List Tally) → quorum g (t .mask) ≡ true → Marked g t (join k t us)
 unfolding join grown
-joined-marked g t [] q = (opened t, List·Memᴰ·head refl, refl, refl, q)
-joined-marked g t (u ∷ us) q =
+joined-marked g k t [] q = (opened k t, List·Memᴰ·head refl, refl, refl, q)
+joined-marked g k t (u ∷ us) q =
     by-bool (sameBlock t (certificateOf u))
     (λ s.
     let (v, h, b) = block-eq t (certificateOf u) s in
     rw (s, join) (grown u (t .mask), List·Memᴰ·head refl, sym v, sym h, quorum-right g (u .mask) (t .mask) q))
-    (λ s. rw (s, join) (marked-tail g t u (join t us) (joined-marked g t us q)))
+    (λ s. rw (s, join) (marked-tail g t u (join k t us) (joined-marked g k t us q)))
 
-certificate-marked : (g : Settings) (c t : Certificate) (us : List Tally) → Marked g c us → Marked g c (joinCertificate t us)
+certificate-marked : (g : Settings) (c : Certificate) (k : Opener) (t : Certificate) (us : List Tally) → Marked g c us → Marked g c (joinCertificate k t us)
 unfolding joinCertificate
-certificate-marked g c t us m = by-bool (eqb (t .view) 0) (λ e. rw (e, joinCertificate) m) (λ e. rw (e, joinCertificate) (join-marked g c t us m))
+certificate-marked g c k t us m = by-bool (eqb (t .view) 0) (λ e. rw (e, joinCertificate) m) (λ e. rw (e, joinCertificate) (join-marked g c k t us m))
 
 -- the highest certificate of an earlier view ranks at or above it
 pub marked-above : (g : Settings) (v : ℕ) (c : Certificate) (ts : List Tally) → c .view < v → Marked g c ts → Above (highest g v ts) c
@@ -82,7 +83,7 @@ pub status-marked : (g : Settings) (h b c m : ℕ) (s : State) → 1 ≤ c → q
 unfolding handled tallied saying withTables joinCertificate
 status-marked g h b c m s l q =
     let t : Certificate = record { view = c; height = h; name = b; mask = m } in
-    by-bool (eqb c 0) (λ e. let z = eqb-true c 0 e in absurd (omega arith)) (λ e. rw (e, joinCertificate) (joined-marked g t (s .tallies) q))
+    by-bool (eqb c 0) (λ e. let z = eqb-true c 0 e in absurd (omega arith)) (λ e. rw (e, joinCertificate) (joined-marked g none t (s .tallies) q))
 
 -- ---- along the moves
 
@@ -92,11 +93,11 @@ KeepsMarks s t = (g : Settings) (c : Certificate) → Marked g c (s .tallies) �
 
 stored-marks : (x : Statement) (s : State) → KeepsMarks s (stored x s)
 unfolding stored withTables
-stored-marks x s g c m = join-marked g c (ownBlock x 0) (joinCertificate (certificate x) (s .tallies)) (certificate-marked g c (certificate x) (s .tallies) m)
+stored-marks x s g c m = join-marked g c none (ownBlock x 0) (joinCertificate none (certificate x) (s .tallies)) (certificate-marked g c none (certificate x) (s .tallies) m)
 
 voted-marks : (x : Statement) (s : State) → KeepsMarks s (votedFor x s)
 unfolding votedFor withTables
-voted-marks x s g c m = join-marked g c (ownBlock x (only (s .settings .own))) (s .tallies) m
+voted-marks x s g c m = join-marked g c none (ownBlock x (only (s .settings .own))) (s .tallies) m
 
 votingAll-marks : (ys : List Statement) (s : State) → KeepsMarks s (votingAll ys s .now)
 unfolding votingAll saying _▸_
@@ -108,7 +109,7 @@ votingAll-marks (y ∷ ys) s g c m =
 module _ {R : Outside} where
   move-marks : (s t : State) (o : List Effect) → Move R s t o → KeepsMarks s t
   unfolding withTables withPhase withBlames withLog entering blamed
-  move-marks s t o (joins m u g c) h q k = certificate-marked h q u (s .tallies) k
+  move-marks s t o (joins n m u g c) h q k = certificate-marked h q n u (s .tallies) k
   move-marks s t o (stores x g f) h q k = stored-marks x s h q k
   move-marks s t o (passes x g f c l) h q k = stored-marks x s h q k
   move-marks s t o (casts x g f c l) h q k = voted-marks x (stored x s) h q (stored-marks x s h q k)
@@ -158,7 +159,7 @@ module _ (S : ℕ → Effect → Type 0) where
 
   move-based : {R : Outside} (s t : State) (o : List Effect) → Move R s t o → All (S (s .clock)) o → Based s → Based t
   unfolding withTables withPhase withBlames withLog entering stored votedFor blamed
-  move-based s t o (joins m u g c) h i = based-on s t refl refl refl refl (move-marks s t o (joins m u g c)) i
+  move-based s t o (joins n m u g c) h i = based-on s t refl refl refl refl (move-marks s t o (joins n m u g c)) i
   move-based s t o (stores x g f) h i = based-on s t refl refl refl refl (move-marks s t o (stores x g f)) i
   move-based s t o (passes x g f c l) h i = based-on s t refl refl refl refl (move-marks s t o (passes x g f c l)) i
   move-based s t o (casts x g f c l) h i = based-on s t refl refl refl refl (move-marks s t o (casts x g f c l)) i

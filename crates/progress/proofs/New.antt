@@ -58,7 +58,7 @@ event-change i (given j bs) s c =
     by-bool (eqb i j)
     (λ q. rw (q, happens)
     (by-step (λ o. running (o .next) ≡ true → Change i (given j bs) s (o .next)) s (λ k r. inl (λ x h. h)) bs
-    (λ m f a. room-left (Change i (given j bs) s) s (handled m s) (go (eqb-true i j q) m f a (handled-adds m s)))))
+    (λ m f a u. room-left (Change i (given j bs) s) s (handled m s) (go (eqb-true i j q) m f a (handled-adds m s)))))
     (λ q. rw (q, happens) (λ r. inl (λ x h. h)))
   where
     go : i ≡ j → (m : Message) → read bs ≡ some m → allowed (s .settings) m ≡ true → Adds m (s .statements) (handled m s .now .statements)
