@@ -1,0 +1,3 @@
+pub mod Passing
+pub mod Showing
+pub mod Accepted
