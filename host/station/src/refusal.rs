@@ -40,11 +40,13 @@ pub enum Refusal {
     Ahead = 11,
     /// No blank slot left in the journal, or a slot that replay can't read past.
     Journal = 13,
+    /// A slip that is none, or a name that is not logged.
+    Slip = 15,
 }
 
 impl Refusal {
     /// Every refusal, in the order of the numbers.
-    pub const ALL: [Refusal; 12] = [
+    pub const ALL: [Refusal; 13] = [
         Refusal::Length,
         Refusal::Store,
         Refusal::Stopped,
@@ -57,6 +59,7 @@ impl Refusal {
         Refusal::Settings,
         Refusal::Ahead,
         Refusal::Journal,
+        Refusal::Slip,
     ];
 
     /// The number that 01 or 02 gives it.
@@ -89,6 +92,7 @@ impl Refusal {
             Refusal::Settings => "the settings are bad",
             Refusal::Ahead => "the message is more than one view ahead",
             Refusal::Journal => "the journal has no blank slot, or one that can't be read",
+            Refusal::Slip => "the bytes are no slip, or the block is not logged",
         }
     }
 
@@ -117,6 +121,7 @@ impl Refusal {
             Refusal::Journal => {
                 "make a full one longer; with a damaged one the station counts among the f faulty"
             }
+            Refusal::Slip => "trust no chain on it; ask a station that has the block in its log",
         }
     }
 }
