@@ -132,8 +132,8 @@ module _ (s : State) (w : wellFormed s ≡ true) where
   at-height h k =
       let p = isLink (suc h) (loggedAt l (suc h)) (loggedAt l h) in
       let a : any p xs ≡ true =
-          ap₂ (λ (m n : ℕ). any (isLink (suc m) (loggedAt l (suc h)) n) xs) (sym (zero-add h)) (sym (logged-before l h))
-          ∙ ap (λ (m : ℕ). any (isLink (suc (0 + h)) m (before 0 l h)) xs) (logged-suc l h) ∙ linked-at xs 0 0 l h (formed .formed .tables .log) (omega arith) in
+      ap₂ (λ (m n : ℕ). any (isLink (suc m) (loggedAt l (suc h)) n) xs) (sym (zero-add h)) (sym (logged-before l h))
+      ∙ ap (λ (m : ℕ). any (isLink (suc (0 + h)) m (before 0 l h)) xs) (logged-suc l h) ∙ linked-at xs 0 0 l h (formed .formed .tables .log) (omega arith) in
       by-option (first p xs) (λ q. no-bool (sym a ∙ first-none p xs q)) (λ x q. (x, q))
 
   -- the chain from a height down

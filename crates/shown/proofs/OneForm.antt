@@ -56,10 +56,10 @@ module _ (g : Settings) (q : goodSettings g ≡ true) where
       let b = entry-parts g y (j .0) .0 in
       let t : entryBytes x ++ entriesBytes xs ≡ entryBytes y ++ entriesBytes ys = sym (entries-cons x xs) ∙ e ∙ entries-cons y ys in
       let r : some (bare x) ≡ some (bare y) =
-          sym (entry-back x a (fits g q x (i .0) (m .0) (m .1)) [] (entriesBytes xs)) ∙ ap (λ (s : List ℕ). entryAt s 0) t ∙ entry-back y b (fits g q y (j .0) (n .0) (n .1)) [] (entriesBytes ys) in
+      sym (entry-back x a (fits g q x (i .0) (m .0) (m .1)) [] (entriesBytes xs)) ∙ ap (λ (s : List ℕ). entryAt s 0) t ∙ entry-back y b (fits g q y (j .0) (n .0) (n .1)) [] (entriesBytes ys) in
       let k : message x ≡ message y = bare-message x a ∙ ap message (Option·some-injective (bare x) (bare y) r) ∙ sym (bare-message y b) in
       let d : entriesBytes xs ≡ entriesBytes ys =
-          sym (drop-at (entryBytes x) (entriesBytes xs) 100 (length-entry x a)) ∙ ap (drop 100) t ∙ drop-at (entryBytes y) (entriesBytes ys) 100 (length-entry y b) in
+      sym (drop-at (entryBytes x) (entriesBytes xs) 100 (length-entry x a)) ∙ ap (drop 100) t ∙ drop-at (entryBytes y) (entriesBytes ys) 100 (length-entry y b) in
       ap₂ _∷_ k (same-entries xs ys (i .1) (j .1) (m .2) (n .2) d)
 
   -- a slip is named as its top, and has entries alone

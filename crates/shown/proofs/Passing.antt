@@ -87,8 +87,8 @@ module _ (g : Settings) (b : ℕ) (xs : List Statement) (h : b < 256 ^ 32) where
       let l : length slip ≡ 35 + length (entriesBytes xs) = ap length name-shape ∙ omega (arith, length-append (unbe 32 b) (entriesBytes xs), length-unbe 32 b) in
       let i : isField slip 0 0x40 32 ≡ true = sym (field-test slip 0 0x40 32 (omega (arith, l))) ∙ eq-eqb (number slip 0 3) (head 0x40 32) (ap (λ (t : List ℕ). number t 0 3) name-shape ∙ named-head (unbe 32 b ++ entriesBytes xs)) in
       let u : number slip 3 32 ≡ b =
-          ap (λ (t : List ℕ). number t 3 32) name-shape ∙ number-append-right (0x40 ∷ 0x00 ∷ 0x20 ∷ []) (unbe 32 b ++ entriesBytes xs) 0 32
-          ∙ number-append-left (unbe 32 b) (entriesBytes xs) 0 32 (omega (arith, length-unbe 32 b)) ∙ ap (number (unbe 32 b) 0) (sym (length-unbe 32 b)) ∙ sym (be-number (unbe 32 b)) ∙ be-unbe 32 b h in
+      ap (λ (t : List ℕ). number t 3 32) name-shape ∙ number-append-right (0x40 ∷ 0x00 ∷ 0x20 ∷ []) (unbe 32 b ++ entriesBytes xs) 0 32
+      ∙ number-append-left (unbe 32 b) (entriesBytes xs) 0 32 (omega (arith, length-unbe 32 b)) ∙ ap (number (unbe 32 b) 0) (sym (length-unbe 32 b)) ∙ sym (be-number (unbe 32 b)) ∙ be-unbe 32 b h in
       rw (i, judged, u)
 
 module _ (x : Statement) (e : x .isNewView ≡ false) where
@@ -115,7 +115,7 @@ module _ (x : Statement) (e : x .isNewView ≡ false) where
       let s = pre ++ (entryBytes x ++ r) in
       let t : entryBytes x ++ r ≡ 0x41 ∷ 0x00 ∷ 0x61 ∷ (w ++ r) = ap (_++ r) shape in
       let n : number s (length pre) 3 ≡ head 0x41 97 =
-          ap (λ (k : ℕ). number s k 3) (sym (add-zero (length pre))) ∙ number-append-right pre (entryBytes x ++ r) 0 3 ∙ ap (λ (l : List ℕ). number l 0 3) t ∙ framed (w ++ r) in
+      ap (λ (k : ℕ). number s k 3) (sym (add-zero (length pre))) ∙ number-append-right pre (entryBytes x ++ r) 0 3 ∙ ap (λ (l : List ℕ). number l 0 3) t ∙ framed (w ++ r) in
       let l : length s ≡ length pre + (100 + length r) = length-append pre (entryBytes x ++ r) ∙ ap (length pre +_) (length-append (entryBytes x) r ∙ ap (_+ length r) length-entry) in
       let i : isField s (length pre) 0x41 97 ≡ true = sym (field-test s (length pre) 0x41 97 (omega (arith, l))) ∙ eq-eqb (number s (length pre) 3) (head 0x41 97) n in
       let d : take 97 (drop (length pre + 3) s) ≡ w = ap (take 97) (drop-append-add pre (entryBytes x ++ r) 3 ∙ ap (drop 3) t) ∙ take-at w r 97 length-message in

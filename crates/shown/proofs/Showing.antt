@@ -54,7 +54,7 @@ module _ (s : List ℕ) (b : Bytes s) where
       let w : held ≡ write (message x) = write-read held (message x) (bytes-all held (bytes-take (drop (at + 3) s) (bytes-drop s b (at + 3)) 97)) (p .1) in
       let z : at + 3 + 97 ≡ at + 100 = omega arith in
       let d : drop (at + 3) s ≡ write (message x) ++ drop (at + 100) s =
-          sym (take-append-drop 97 (drop (at + 3) s)) ∙ ap₂ _++_ w (drop-drop 97 (at + 3) s ∙ ap (λ (k : ℕ). drop k s) z) in
+      sym (take-append-drop 97 (drop (at + 3) s)) ∙ ap₂ _++_ w (drop-drop 97 (at + 3) s ∙ ap (λ (k : ℕ). drop k s) z) in
       (p .0, first-three at 0x410061 (omega arith) (f .0) ∙ ap (λ (t : List ℕ). 0x41 ∷ 0x00 ∷ 0x61 ∷ t) d ∙ ap (_++ drop (at + 100) s) (sym (shape x (p .0))))
 
 -- ---- from a place down
