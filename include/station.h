@@ -21,6 +21,7 @@
  *   12  vote that would open a tally, by an author who has opened 16                         nothing changes
  *   13  journal: no slot left, no input, or a slot that stops a replay                       see the journal's calls
  *   14  envelope: no good one, or one that can't be made                                     nothing changes
+ *   15  slip: the first bad place as count; or a name that is not logged                     nothing changes
  *
  * Order: 1, 2, 3, then 4, 5, 11, 12, 6 for messages; 9, 6 for offers; 8, 7, 6 for ticks. A fresh store: 1, then 10. The display:
  * 1, then 2.
@@ -115,6 +116,18 @@ uint64_t envelope_read(const uint8_t *envelope, size_t envelope_len, uint8_t *li
  * the envelope's length. Refusal 1 for a list whose length isn't a multiple of 8, or an out buffer below ENVELOPE_MOST_BYTES; 14,
  * with nothing written, for a place outside the bytes, one without a readable message, or more than 8,192 bytes in all. */
 uint64_t envelope_write(const uint8_t *bytes, size_t bytes_len, const uint8_t *list, size_t list_len, uint8_t *out, size_t out_len);
+
+/* Slips (docs/SLIPS.md): a block name, 40 00 20 (hex) and its 32 bytes, then the proposes from that block down to height 1,
+ * each 41 00 61 and its 97 bytes. A slip shows a chain, it doesn't show a commit. */
+
+/* Checks a slip in a group of this kind (0 with the small limits, 4 with the large ones) with n stations. Done: the count is
+ * the number of entries. Refusal 10 for a kind or an n that isn't good; 15 with the first bad place as count, counted from
+ * the top, which is place 0. Nothing is written. */
+uint64_t slip_check(uint64_t kind, uint64_t n, const uint8_t *slip, size_t slip_len);
+
+/* Writes the slip of a logged block of this name of 32 bytes. Done: the count of bytes written. Refusals 1 and 2; 15 with
+ * count 0, and nothing written, for a name that is not logged. The store is only read. */
+uint64_t slip_write(const uint8_t *store, size_t store_len, const uint8_t *name, size_t name_len, uint8_t *out, size_t out_len);
 
 #ifdef __cplusplus
 }

@@ -13,24 +13,21 @@ use borrow.Author.Tests.{lt-ltb, le-ltb, eq-eqb, ne-eqb}
 use Rattle.fields.specs.Places.{Bytes}
 use Rattle.rules.specs.Lists.{unbe}
 use Rattle.rules.specs.Messages.{Message, newView, propose, vote, blame, blameSet, status, field, width, tagsOf, rowOf, table, kind, values, writes, write, read, allowed}
-use Rattle.rules.specs.Limits.{small, large, leastDelay}
-use Rattle.rules.specs.Sizes.{Settings, goodSettings}
+use Rattle.rules.specs.Sizes.{Settings}
 use Rattle.rules.specs.Words.{Certificate, below, message}
 use Rattle.rules.proofs.Bytes as rules
 use Rattle.rules.proofs.ReadBack.{write-read}
 use Rattle.rules.proofs.Tests.{by-bool, by-option, no-some}
 use types.Run.{OneOf, miss}
 use denote.Enum.Declared.{tagOf}
-use Rattle.settings.specs.Made.{made}
-use Rattle.settings.specs.declared.Size.the-variants.{Small, Large}
-use Rattle.settings.specs.declared.Made.{Made}
 use Rattle.wire.proofs.Message.{the-type}
 use Rattle.wire.specs.declared.Message as messages
 use Rattle.wire.specs.declared.Message.the-variants.{Stated, Vote, Blame, BlameSet, Status}
 use Rattle.wire.specs.Meaning.{messageOf, statementOf}
 use Rattle.outgoing.proofs.Writing.{length-write}
-use Rattle.choose.specs.Meaning.{groupOf, Rank}
-use Rattle.choose.specs.Choose.{sizeOfKind, stations, group, reported, report, taken, takenOf, Part, certificatePart, emptyPart, chosen}
+use Rattle.groups.specs.Groups.{group}
+use Rattle.choose.specs.Meaning.{Rank}
+use Rattle.choose.specs.Choose.{reported, report, taken, takenOf, Part, certificatePart, emptyPart, chosen}
 
 -- ---- which one is taken
 
@@ -106,18 +103,6 @@ other-kind (BlameSet v m) k = refl
 other-kind (Status h b c m) k = absurd (miss (0 ∷ 1 ∷ 2 ∷ 3 ∷ []) 4 tt k)
 
 -- ---- the group
-
-pub group-small : (n : ℕ) {r : Made} → r ≡ made n leastDelay 0 Small → groupOf r ≡ group 0 n
-unfolding group sizeOfKind made
-group-small n e = rw e (by-bool (goodSettings (stations n small)) (λ q. rw (q, group)) (λ q. rw (q, group)))
-
-pub group-large : (n : ℕ) {r : Made} → r ≡ made n leastDelay 0 Large → groupOf r ≡ group 4 n
-unfolding group sizeOfKind made
-group-large n e = rw e (by-bool (goodSettings (stations n large)) (λ q. rw (q, group)) (λ q. rw (q, group)))
-
-pub group-other : (k n : ℕ) → (k ≡ 0 → ⊥) → (k ≡ 4 → ⊥) → none ≡ group k n
-unfolding group sizeOfKind
-group-other k n a b = rw (ne-eqb k 0 a, group, sizeOfKind, ne-eqb k 4 b)
 
 pub group-bad : (k n : ℕ) (a b : List ℕ) → group k n ≡ none → 0 ≡ takenOf k n a b
 unfolding takenOf

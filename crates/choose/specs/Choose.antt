@@ -5,23 +5,10 @@ use mathlib.Core.List.{List, []}
 use mathlib.Core.Option.{Option, none, some}
 use lib.ListN.{drop}
 use lib.Dec.{eqb}
-use Rattle.rules.specs.Limits.{Size, small, large, leastDelay}
 use Rattle.rules.specs.Messages.{Message, newView, propose, vote, blame, blameSet, status, read, allowed}
-use Rattle.rules.specs.Sizes.{Settings, goodSettings}
+use Rattle.rules.specs.Sizes.{Settings}
 use Rattle.rules.specs.Words.{Certificate, below}
-
--- a kind of group: 0 goes by the small limits, 4 by the large ones, no other is good
-unfoldable pub sizeOfKind : ℕ → Option Size
-sizeOfKind k = elim (eqb k 0) [ true ↦ some small | false ↦ elim (eqb k 4) [ true ↦ some large | false ↦ none ] ]
-
--- a group of n stations; a status is held against neither the delay nor the own number
-abbrev pub stations : ℕ → Size → Settings
-stations n z = record { n = n; D = leastDelay; own = 0; size = z }
-
-unfoldable pub group : ℕ → ℕ → Option Settings
-unfolding sizeOfKind goodSettings
-group k n =
-    elim (sizeOfKind k) [ none ↦ none | some z ↦ elim (goodSettings (stations n z)) [ true ↦ some (stations n z) | false ↦ none ] ]
+use Rattle.groups.specs.Groups.{group}
 
 -- the certificate that a status reports; a message of another kind is no report
 unfoldable pub reported : Message → Option Certificate

@@ -2,20 +2,11 @@
 use Prim.Native.Nat.{ℕ}
 use mathlib.Core.Path.{_≡_}
 use mathlib.Core.Option.{Option, none, some}
-use Rattle.rules.specs.Sizes as sizes
 use Rattle.rules.specs.Words.{Certificate}
-use Rattle.settings.specs.Made.{settingsOf}
-use Rattle.settings.specs.declared.Made.{Made}
-use Rattle.settings.specs.declared.Made.the-variants.{Good, Bad}
 use Rattle.choose.specs.declared.Report.{Report}
 use Rattle.choose.specs.declared.Report.the-variants.{Certified, Nothing}
 use Rattle.choose.specs.declared.Choice.{Choice}
 use Rattle.choose.specs.declared.Choice.the-variants.{First, Second, Neither}
-
--- good settings, or none
-abbrev pub groupOf : Made → Option sizes.Settings
-groupOf (Good g) = some (settingsOf g)
-groupOf Bad = none
 
 -- the number of each choice: 1 the first's part, 2 the second's, 0 the empty part
 abbrev pub numberOf : Choice → ℕ

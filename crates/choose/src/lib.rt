@@ -1,13 +1,12 @@
 // Two reports, and the certificate part of the one with the higher rank: a part of one of two lent slices, no byte copied.
 use settings::Made;
 use settings::Settings;
-use settings::Size;
 use wire::Message;
 use wire::Read;
 ghost use mathlib.Core.Path.{_≡_};
 ghost use Rattle.settings.specs.Made.{settingsOf};
-ghost use Rattle.choose.specs.Choose.{group, report, taken as takenIn, takenOf, chosen};
-ghost use Rattle.choose.specs.Meaning.{groupOf, numberOf, Ranks};
+ghost use Rattle.choose.specs.Choose.{report, taken as takenIn, takenOf, chosen};
+ghost use Rattle.choose.specs.Meaning.{numberOf, Ranks};
 
 // What a message reports: the rank of its certificate; or it is no report.
 pub enum Report {
@@ -20,17 +19,6 @@ pub enum Choice {
     First,
     Second,
     Neither,
-}
-
-// The settings that a kind of group and a number of stations go with, if both are good. A status is held against neither the delay nor the own number.
-fn group_of(kind: u64, n: u64) -> Made
-    ensures { λ r. ⌜ groupOf r ≡ group kind n ⌝ }
-{
-    match kind {
-        0 => Settings::new(n, Settings::LEAST_DELAY, 0, Size::Small),
-        4 => Settings::new(n, Settings::LEAST_DELAY, 0, Size::Large),
-        _ => Made::Bad,
-    }
 }
 
 // What a message reports: any bytes, any settings.
@@ -82,7 +70,7 @@ fn decide(settings: Settings, first: &[u8], second: &[u8]) -> Choice
 fn taken(kind: u64, n: u64, first: &[u8], second: &[u8]) -> Choice
     ensures { λ r. ⌜ numberOf r ≡ takenOf kind n (now (first .entry)) (now (second .entry)) ⌝ }
 {
-    let Made::Good(settings) = group_of(kind, n) else {
+    let Made::Good(settings) = groups::group_of(kind, n) else {
         return Choice::Neither;
     };
     decide(settings, first, second)

@@ -13,7 +13,7 @@ use store::Station;
 mod blames;
 mod form;
 mod header;
-mod log;
+pub mod log;
 mod marks;
 mod openers;
 mod statements;

@@ -12,7 +12,7 @@ ghost use Rattle.formed.specs.Lent.{Counts, Place, isLink};
 use fields::Name;
 
 // Whether statement i is the propose of this height, name and parent.
-fn links(store: &[u8], i: usize, height: u32, name: Name, parent: Name) -> bool
+pub fn links(store: &[u8], i: usize, height: u32, name: Name, parent: Name) -> bool
     requires { ⌜ (length (now store) ≡ storeLength (sizeIn (now store))) × (i < mostStatements (sizeIn (now store))) ⌝ }
     ensures { λ r. ⌜ r ≡ isLink height (nameOf name) (nameOf parent) (statementAt (now (store .entry)) i) ⌝ }
 {

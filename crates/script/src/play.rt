@@ -66,16 +66,19 @@ fn given(store: &mut Store, number: u64, what: What, bytes: &[u8]) {
         What::Message => message(store, number, bytes),
         What::Offer => offer(store, number, bytes),
         What::Envelope => relay::hand_over(store, number, bytes),
-        What::Slip => later(number),
+        What::Slip => slip(store, number, bytes),
         What::Choose { first } => choose(store, number, bytes, first),
     }
 }
 
-// What this program can't do yet.
-fn later(number: u64) {
+// The slip of a logged block, in hex, which changes nothing.
+fn slip(store: &Store, number: u64, name: &[u8]) {
+    let mut out = show::out_buffer();
+    let answer = slip_writer::slip_write(store, name, &mut out);
     let mut page = io::buffer();
-    let started = show::start(&mut page, 0, number, b"not yet\n");
-    page::finish(&page, started);
+    let started = show::start(&mut page, 0, number, b"slip");
+    let end = show::slip(&mut page, started, answer, &out);
+    page::finish(&page, end);
 }
 
 // Which of two status messages is to be built on, in a group of as many stations as the store's.

@@ -13,6 +13,15 @@ pub fn first(page: &mut Page, at: usize, out: &[u8], count: usize) -> usize {
     all(page, at, &out[..count])
 }
 
+// The first bytes of an out buffer in hex, and the end of the line.
+pub fn bytes(page: &mut Page, at: usize, out: &[u8], count: usize) -> usize {
+    if out.len() < count {
+        return at;
+    }
+    let shown = page::bytes(page, at, &out[..count]);
+    page::put(page, shown, b'\n')
+}
+
 // All fields.
 fn all(page: &mut Page, at: usize, out: &[u8]) -> usize {
     let mut end = at;

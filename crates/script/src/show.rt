@@ -60,6 +60,7 @@ pub fn reason(page: &mut Page, at: usize, refusal: u64) -> usize {
             b" the vote's author has opened as many tallies as one may\n",
         ),
         14 => page::say(page, at, b" no good envelope\n"),
+        15 => page::say(page, at, b" no slip: the name is not logged\n"),
         _ => page::say(page, at, b"\n"),
     }
 }
@@ -85,6 +86,18 @@ pub fn answer(page: &mut Page, at: usize, answer: u64, out: &Out) -> usize {
     let counted = spell::number(page, at, b": 0 done, ", count);
     let told = page::say(page, counted, b" bytes\n");
     sent::first(page, told, out, count as usize)
+}
+
+// An answer that is a slip: a refusal, or its bytes in hex.
+pub fn slip(page: &mut Page, at: usize, answer: u64, out: &Out) -> usize {
+    let number = refusal(answer);
+    if number != 0 {
+        return refused(page, at, number);
+    }
+    let count = answer % UNIT;
+    let counted = spell::number(page, at, b": 0 done, ", count);
+    let told = page::say(page, counted, b" bytes\n  slip: ");
+    sent::bytes(page, told, out, count as usize)
 }
 
 // What is wrong with a line.

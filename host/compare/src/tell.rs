@@ -5,7 +5,7 @@ use programs::words;
 use programs::{Program, Second};
 use second::replay::Input;
 use second::{choose, envelope};
-use station::{Effect, Effects, Size};
+use station::{Effect, Effects, Name, Size};
 use std::fmt::Write;
 
 /// Bytes of a propose on the wall display.
@@ -51,6 +51,7 @@ impl Teller {
             Line::State => self.state(number),
             Line::Envelope(bytes) => self.envelope(number, &bytes),
             Line::Choose(first, other) => self.choose(number, &first, &other),
+            Line::Slip(name) => self.slip(number, name),
         }
     }
 
@@ -170,6 +171,18 @@ impl Teller {
             _ => "the second",
         };
         self.print(format_args!("line {number}: choose: {words}"));
+    }
+
+    /// The slip of a logged block.
+    fn slip(&mut self, number: usize, name: Name) {
+        let Some(station) = &self.station else {
+            return self.answered(number, "slip", 2, &[]);
+        };
+        let Some(slip) = station.station().slip(second::Name::from_bytes(name)) else {
+            return self.answered(number, "slip", 15, &[]);
+        };
+        self.print(format_args!("line {number}: slip: 0 done, {} bytes", slip.len()));
+        self.print(format_args!("  slip: {}", words::hex(&slip)));
     }
 
     fn display(&mut self, number: usize) {

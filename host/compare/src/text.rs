@@ -17,6 +17,7 @@ pub enum Line {
     State,
     Envelope(Vec<u8>),
     Choose(Vec<u8>, Vec<u8>),
+    Slip(Name),
 }
 
 /// The script of a run.
@@ -33,7 +34,7 @@ pub fn write(inputs: &[Input]) -> String {
     script
 }
 
-/// The run of a script, or the line that is none of it. `log`, `state` and `choose` change nothing, and
+/// The run of a script, or the line that is none of it. `log`, `state`, `choose` and `slip` change nothing, and
 /// envelopes are not unpacked here.
 pub fn read(script: &[u8]) -> Result<Vec<Input>, String> {
     let mut inputs = Vec::new();
@@ -44,7 +45,7 @@ pub fn read(script: &[u8]) -> Result<Vec<Input>, String> {
         match said {
             Line::Input(input) => inputs.push(input),
             Line::Ticks(count) => inputs.extend((0..count).map(|_| Input::Tick)),
-            Line::Blank | Line::Log | Line::State | Line::Choose(..) => {}
+            Line::Blank | Line::Log | Line::State | Line::Choose(..) | Line::Slip(_) => {}
             Line::Envelope(_) => return Err(format!("line {number} is an envelope")),
         }
     }
@@ -79,6 +80,11 @@ pub fn line(bytes: &[u8]) -> Option<Line> {
         ["log"] => Line::Log,
         ["state"] => Line::State,
         ["envelope", hex] => Line::Envelope(replay::bytes(hex)?),
+        ["slip", ref words @ ..] => {
+            let mut words = Words(words);
+            let name = words.name("name")?;
+            words.0.is_empty().then_some(Line::Slip(name))?
+        }
         ["choose", first, other] => Line::Choose(replay::bytes(first)?, replay::bytes(other)?),
         [kind, ref words @ ..] => Line::Input(Input::Step(message(kind, words)?.encode())),
     })

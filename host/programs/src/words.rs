@@ -93,7 +93,8 @@ pub fn name(name: Name) -> String {
     if name == GENESIS { "0".into() } else { hex(&name).trim_start_matches('0').into() }
 }
 
-fn stations(mask: u16) -> String {
+/// The stations of a mask.
+pub fn stations(mask: u16) -> String {
     let stations = (0..16).filter(|station| mask >> station & 1 == 1);
     let words: Vec<String> = stations.map(|station: u16| station.to_string()).collect();
     if words.is_empty() { "-".into() } else { words.join("+") }

@@ -4,7 +4,8 @@
 //!
 //! `settings` has the limits, `words` the records, `wire` the messages, `station` what a message and
 //! an offer do, `tick` what a tick does, `display` what the wall display shows,
-//! `report` chooses between two reports, `journal` keeps inputs through power cuts, `envelope` bundles messages. `replay` reads recorded runs, `scripts` makes new ones.
+//! `report` chooses between two reports, `journal` keeps inputs through power cuts, `envelope` bundles messages,
+//! `slip` checks and writes slips. `replay` reads recorded runs, `scripts` makes new ones.
 
 #![forbid(unsafe_code)]
 
@@ -17,6 +18,7 @@ pub mod replay;
 mod report;
 pub mod scripts;
 pub mod settings;
+pub mod slip;
 pub mod station;
 mod tick;
 pub mod wire;

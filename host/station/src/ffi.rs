@@ -41,6 +41,15 @@ mod declared {
             second: *const u8,
             second_len: usize,
         ) -> u64;
+        pub fn slip_check(kind: u64, n: u64, slip: *const u8, slip_len: usize) -> u64;
+        pub fn slip_write(
+            store: *const u8,
+            store_len: usize,
+            name: *const u8,
+            name_len: usize,
+            out: *mut u8,
+            out_len: usize,
+        ) -> u64;
         pub fn journal_put(
             slot: *mut u8,
             slot_len: usize,
@@ -133,6 +142,25 @@ pub fn display(store: &[u8], out: &mut [u8]) -> u64 {
 pub fn choose(kind: u64, n: u64, first: &[u8], second: &[u8]) -> u64 {
     unsafe {
         declared::status_choose(kind, n, first.as_ptr(), first.len(), second.as_ptr(), second.len())
+    }
+}
+
+/// Whether some bytes are a slip. Count: its entries; of refusal 15 the first bad place.
+pub fn slip_check(kind: u64, n: u64, slip: &[u8]) -> u64 {
+    unsafe { declared::slip_check(kind, n, slip.as_ptr(), slip.len()) }
+}
+
+/// The slip of a logged block, which leaves the store as it is.
+pub fn slip_write(store: &[u8], name: &[u8], out: &mut [u8]) -> u64 {
+    unsafe {
+        declared::slip_write(
+            store.as_ptr(),
+            store.len(),
+            name.as_ptr(),
+            name.len(),
+            out.as_mut_ptr(),
+            out.len(),
+        )
     }
 }
 

@@ -44,6 +44,8 @@ pub enum Refusal {
     Journal = 13,
     /// No good relay envelope, or one that can't be made.
     Envelope = 14,
+    /// A slip that is none, or a name that is not logged.
+    Slip = 15,
 }
 
 impl Refusal {
@@ -63,6 +65,7 @@ impl Refusal {
         Refusal::UsedUp,
         Refusal::Journal,
         Refusal::Envelope,
+        Refusal::Slip,
     ];
 
     /// The number that 01 or 02 gives it.
@@ -97,6 +100,7 @@ impl Refusal {
             Refusal::UsedUp => "the vote's author has opened as many tallies as one may",
             Refusal::Journal => "the journal has no blank slot, or one that can't be read",
             Refusal::Envelope => "it is no good envelope, or none can be made of these messages",
+            Refusal::Slip => "the bytes are no slip, or the block is not logged",
         }
     }
 
@@ -131,6 +135,7 @@ impl Refusal {
             Refusal::Envelope => {
                 "drop a bad one: its relay is faulty, or the link damages bytes; make one of fewer messages"
             }
+            Refusal::Slip => "trust no chain on it; ask a station that has the block in its log",
         }
     }
 }

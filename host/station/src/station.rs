@@ -263,6 +263,15 @@ impl Station {
         display::read(&out[..count])
     }
 
+    /// The slip of a logged block, for [`Slip::check`](crate::Slip::check); a stopped station has
+    /// them too. Refusal: 15.
+    pub fn slip(&self, name: &Name) -> Result<Vec<u8>, Refusal> {
+        let mut out = vec![0; self.size.out_length()];
+        let count = answer(ffi::slip_write(&self.store, name, &mut out))?;
+        out.truncate(count);
+        Ok(out)
+    }
+
     /// Whether it leads its view: "The leader of view v is v mod n."
     pub fn is_leader(&self) -> bool {
         self.view() % self.stations() == self.own()

@@ -1,6 +1,6 @@
 -- `choose::taken` meets its contract: by the group. Assumes nothing.
 use mathlib.Core.Path.{sym, ap, _∙_}
-use Rattle.choose.specs.Meaning.{groupOf}
+use Rattle.groups.specs.Meaning.{groupOf}
 use Rattle.choose.proofs.Laws.{group-bad, group-good}
 use borrow.Author.Needs.{needs}
 use Rattle.choose.proofs.taken.Statement.{statement}

@@ -1,8 +1,8 @@
--- `choose::group_of` meets its contract: by the kind. Assumes nothing.
-use Rattle.choose.proofs.Laws.{group-small, group-large, group-other}
+-- `groups::group_of` meets its contract: by the kind. Assumes nothing.
+use Rattle.groups.proofs.Laws.{group-small, group-large, group-other}
 use borrow.Author.Needs.{needs}
-use Rattle.choose.proofs.group_of.Statement.{statement}
-use Rattle.choose.proofs.group_of.Tie as tie
+use Rattle.groups.proofs.group_of.Statement.{statement}
+use Rattle.groups.proofs.group_of.Tie as tie
 
 new-requires : tie.Need-new-requires
 new-requires c κs = search needs

@@ -1,0 +1,4 @@
+pub mod Passing
+pub mod Showing
+pub mod Accepted
+pub mod OneForm

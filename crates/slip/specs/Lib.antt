@@ -1,0 +1,4 @@
+pub mod Slips
+pub mod Heads
+pub mod Meaning
+pub mod Examples
