@@ -140,7 +140,10 @@ impl Writer {
         }
         for _ in 1..self.size.tallies() / self.size.statements() {
             let (name, mask) = (self.name(), self.everyone());
-            self.step(Kind::Other, Message::Status { height: 1, name, certificate_view: view, mask });
+            self.step(
+                Kind::Other,
+                Message::Status { height: 1, name, certificate_view: view, mask },
+            );
         }
     }
 

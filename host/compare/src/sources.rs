@@ -147,7 +147,10 @@ pub fn limits(size: Size) -> Runs {
         ("a leader without a tally", of(1, [open(1), ticks(6)])),
         ("an offer without a statement", of(1, [led(), ahead(room - 1), offer(), ticks(1)])),
         ("an offer without a tally", of(1, [led(), open(0), offer(), ticks(1)])),
-        ("an offer whose tally is there", of(1, [led(), statuses(0..tallies - 1), offer(), ticks(6)])),
+        (
+            "an offer whose tally is there",
+            of(1, [led(), statuses(0..tallies - 1), offer(), ticks(6)]),
+        ),
         ("every view", of(0, [views(size), ticks(30), past(size)])),
         ("too early", of(2, [too_early()])),
         ("rude neighbours", of(2, [rude(), statuses(100..tallies + 100), rude(), ticks(1)])),

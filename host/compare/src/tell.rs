@@ -163,7 +163,10 @@ impl Teller {
 
     /// Which of two reports is taken, in a group of the store's size; nothing is allowed where there is no store.
     fn choose(&mut self, number: usize, first: &[u8], other: &[u8]) {
-        let n = self.station.as_ref().map_or(0, |station| station.station().settings().stations().into());
+        let n = self
+            .station
+            .as_ref()
+            .map_or(0, |station| station.station().settings().stations().into());
         let taken = choose(0, n, first, other);
         let words = match taken {
             [] => "neither",

@@ -19,7 +19,8 @@ fn slip(random: &mut Random, n: u64) -> Vec<u8> {
     for (place, high) in (1..=height).rev().enumerate() {
         let here = place == wrong / 3;
         let kind = if here { random.below(9) } else { 99 };
-        let view = random.pick(&[1, 2, 3, 32, if here { 33 } else { 4 }, if here { 257 } else { 5 }]);
+        let view =
+            random.pick(&[1, 2, 3, 32, if here { 33 } else { 4 }, if here { 257 } else { 5 }]);
         let message = Message::Propose {
             view,
             height: if kind == 0 { random.pick(&[0, high + 1, 65_536]) } else { high },
@@ -80,7 +81,14 @@ fn cut_after_every_byte() {
     bytes.extend([128; 32]);
     for high in (1..=128u32).rev() {
         let parent = if high == 1 { GENESIS } else { [high as u8 - 1; 32] };
-        bytes.extend(entry(Message::Propose { view: 1, height: high, name: [high as u8; 32], parent, mask: 3, author: 1 }));
+        bytes.extend(entry(Message::Propose {
+            view: 1,
+            height: high,
+            name: [high as u8; 32],
+            parent,
+            mask: 3,
+            author: 1,
+        }));
     }
     assert_eq!(ffi::slip_check(0, 3, &bytes), 128);
     for length in 0..bytes.len() {
@@ -101,10 +109,18 @@ fn written(size: Size, seed: u64) -> usize {
         let parent = *names.last().expect("genesis");
         // sometimes another one of that name first, which the log passes over
         if random.below(4) == 0 {
-            let other = Message::Propose { view: 2, height, name, parent: if height == 1 { GENESIS } else { [9; 32] }, mask: 3, author: 2 };
+            let other = Message::Propose {
+                view: 2,
+                height,
+                name,
+                parent: if height == 1 { GENESIS } else { [9; 32] },
+                mask: 3,
+                author: 2,
+            };
             assert_eq!(proved.step(&other.encode()).number, second.step(&other.encode()).number);
         }
-        let message = Message::Propose { view: 1, height, name, parent, mask: 3, author: 1 }.encode();
+        let message =
+            Message::Propose { view: 1, height, name, parent, mask: 3, author: 1 }.encode();
         assert_eq!(proved.step(&message).number, second.step(&message).number);
         for _ in 0..random.below(3) {
             assert_eq!(proved.tick().number, second.tick().number);

@@ -3,7 +3,7 @@
 use station::{Cause, Effect, Effects, GENESIS, Message, Name, Phase};
 
 /// The reasons of 01's "When the desk says no", and of 02's numbers.
-const REASONS: [&str; 12] = [
+const REASONS: [&str; 15] = [
     "store not of its exact length, offered name not 32 bytes, or out buffer too short",
     "store not well formed",
     "already stopped",
@@ -16,6 +16,9 @@ const REASONS: [&str; 12] = [
     "bad settings for a fresh store",
     "more than one view ahead of the view held or last quit",
     "the vote's author has opened as many tallies as one may",
+    "a record of the journal is missing, repeated or can't be read",
+    "no good envelope",
+    "no slip: the name is not logged",
 ];
 
 /// What a refusal of a station says.

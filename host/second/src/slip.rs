@@ -52,7 +52,11 @@ fn places(settings: &Settings, slip: &[u8]) -> Result<u64, u64> {
         place += 1;
     }
     // "extra"
-    if rest.is_empty() { Ok(place) } else { Err(place) }
+    if rest.is_empty() {
+        Ok(place)
+    } else {
+        Err(place)
+    }
 }
 
 /// The value of a field with this head, and what stands behind it.

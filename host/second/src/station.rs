@@ -45,7 +45,7 @@ pub struct Station {
     pub(crate) voted: Vec<Voted>,
     pub(crate) tallies: Vec<Tally>,
     /// Who opened each tally: nobody, or the author of a vote.
-    openers: Vec<Option<u8>>,
+    pub(crate) openers: Vec<Option<u8>>,
     /// The blame mask of each view, and one for view 0 that nobody joins.
     pub(crate) blames: Vec<u16>,
     /// The block of height h is entry h-1.

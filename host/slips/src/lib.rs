@@ -23,7 +23,8 @@ pub struct Told {
 
 /// The slip of an input, in hex or raw: a slip begins with the byte 40, which no hex does.
 pub fn bytes(input: &[u8]) -> Vec<u8> {
-    let digits: Vec<u8> = input.iter().copied().filter(|byte| !byte.is_ascii_whitespace()).collect();
+    let digits: Vec<u8> =
+        input.iter().copied().filter(|byte| !byte.is_ascii_whitespace()).collect();
     let is_hex = digits.len() % 2 == 0 && digits.iter().all(u8::is_ascii_hexdigit);
     if !is_hex {
         return input.to_vec();
@@ -65,7 +66,8 @@ fn accepted(slip: &Slip<'_>, n: u64, said: &mut String) {
             unreachable!("a checked slip has proposes alone")
         };
         let name = hex(&name[..6]);
-        writeln!(said, "{place:5} {height:6} {view:4} {author:6}  {name}..  {}", stations(mask)).unwrap();
+        writeln!(said, "{place:5} {height:6} {view:4} {author:6}  {name}..  {}", stations(mask))
+            .unwrap();
     }
 }
 

@@ -14,7 +14,14 @@ fn name(height: u32) -> Name {
 }
 
 fn propose(height: u32) -> Message {
-    Message::Propose { view: 1, height, name: name(height), parent: name(height - 1), mask: 3, author: 1 }
+    Message::Propose {
+        view: 1,
+        height,
+        name: name(height),
+        parent: name(height - 1),
+        mask: 3,
+        author: 1,
+    }
 }
 
 fn slip_of(block: Name, entries: &[Message]) -> Vec<u8> {
@@ -58,23 +65,48 @@ fn a_good_one() {
 #[test]
 fn each_kind_of_bad_place() {
     let mut other_kind = good(3);
-    let vote = Message::NewView { view: 2, height: 2, name: name(2), certificate_view: 1, mask: 3, author: 2 };
+    let vote = Message::NewView {
+        view: 2,
+        height: 2,
+        name: name(2),
+        certificate_view: 1,
+        mask: 3,
+        author: 2,
+    };
     other_kind[138..138 + 69].copy_from_slice(&vote.encode());
-    let minority = Message::Propose { view: 1, height: 2, name: name(2), parent: name(1), mask: 1, author: 1 };
+    let minority =
+        Message::Propose { view: 1, height: 2, name: name(2), parent: name(1), mask: 1, author: 1 };
     let cases: [(Vec<u8>, u32, &str); 9] = [
         (vec![], 0, "there is no name"),
         (slip_of(name(3), &[]), 0, "there: nothing, an entry is missing"),
         (slip_of(GENESIS, &[]), 0, "there: nothing, an entry is missing"),
-        (slip_of(name(4), &[propose(3), propose(2), propose(1)]), 0, "there: height 3 view 1 leader 1 name a3a3a3a3a3a3.. mask 0+1\nnot allowed, or not the block that stands above it asks for"),
-        (slip_of(name(3), &[propose(3), minority, propose(1)]), 1, "there: height 2 view 1 leader 1 name a2a2a2a2a2a2.. mask 0\nnot allowed, or not the block that stands above it asks for"),
-        (slip_of(name(3), &[propose(3), propose(1)]), 1, "there: height 1 view 1 leader 1 name a1a1a1a1a1a1.. mask 0+1\nnot allowed, or not the block that stands above it asks for"),
+        (
+            slip_of(name(4), &[propose(3), propose(2), propose(1)]),
+            0,
+            "there: height 3 view 1 leader 1 name a3a3a3a3a3a3.. mask 0+1\nnot allowed, or not the block that stands above it asks for",
+        ),
+        (
+            slip_of(name(3), &[propose(3), minority, propose(1)]),
+            1,
+            "there: height 2 view 1 leader 1 name a2a2a2a2a2a2.. mask 0\nnot allowed, or not the block that stands above it asks for",
+        ),
+        (
+            slip_of(name(3), &[propose(3), propose(1)]),
+            1,
+            "there: height 1 view 1 leader 1 name a1a1a1a1a1a1.. mask 0+1\nnot allowed, or not the block that stands above it asks for",
+        ),
         (slip_of(name(3), &[propose(3), propose(2)]), 2, "there: nothing, an entry is missing"),
         (good(3)[..300].to_vec(), 2, "there: bytes that are no entry"),
-        ([good(3), good(1)[35..].to_vec()].concat(), 3, "there: height 1 view 1 leader 1 name a1a1a1a1a1a1.. mask 0+1\nnot allowed, or not the block that stands above it asks for"),
+        (
+            [good(3), good(1)[35..].to_vec()].concat(),
+            3,
+            "there: height 1 view 1 leader 1 name a1a1a1a1a1a1.. mask 0+1\nnot allowed, or not the block that stands above it asks for",
+        ),
     ];
     for (slip, place, there) in cases {
         let length = slip.len();
-        let expected = format!("refused: 15, no slip, bad at place {place} of {length} bytes\n{there}\n{END}");
+        let expected =
+            format!("refused: 15, no slip, bad at place {place} of {length} bytes\n{there}\n{END}");
         assert_eq!(said(&slip), (false, expected));
     }
     assert!(said(&other_kind).1.contains("bad at place 1"));
@@ -91,7 +123,8 @@ fn one_of_128_entries() {
 #[test]
 fn fifteen_stations_fit_a_line() {
     let mask = 0x7fff;
-    let entry = Message::Propose { view: 1, height: 1, name: name(1), parent: GENESIS, mask, author: 1 };
+    let entry =
+        Message::Propose { view: 1, height: 1, name: name(1), parent: GENESIS, mask, author: 1 };
     let told = tell(Size::Large, 15, &slip_of(name(1), &[entry])).expect("a group of fifteen");
     assert!(told.is_accepted && told.said.lines().all(|line| line.len() <= 80), "{}", told.said);
 }
@@ -118,7 +151,12 @@ fn cut_short_at_every_byte() {
         let place = length.saturating_sub(35) / 100;
         let said = String::from_utf8(output.stdout).expect("text");
         assert_eq!(output.status.code(), Some(1), "{length}");
-        assert!(said.starts_with(&format!("refused: 15, no slip, bad at place {place} of {length} bytes\n")), "{said}");
+        assert!(
+            said.starts_with(&format!(
+                "refused: 15, no slip, bad at place {place} of {length} bytes\n"
+            )),
+            "{said}"
+        );
         assert!(said.ends_with(END), "{said}");
     }
 }

@@ -36,12 +36,23 @@ fn timed(slip: &[u8], height: u32, check: fn(u64, u64, &[u8]) -> u64) -> f64 {
 /// A slip of so many entries.
 fn slip(height: u32) -> Vec<u8> {
     let name = |height: u32| -> Name {
-        if height == 0 { GENESIS } else { std::array::from_fn(|byte| (height as usize * 7 + byte) as u8 | 1) }
+        if height == 0 {
+            GENESIS
+        } else {
+            std::array::from_fn(|byte| (height as usize * 7 + byte) as u8 | 1)
+        }
     };
     let mut bytes = [&[0x40, 0, 32][..], &name(height)].concat();
     for high in (1..=height).rev() {
         bytes.extend([0x41, 0, 97]);
-        let message = Message::Propose { view: 1, height: high, name: name(high), parent: name(high - 1), mask: 3, author: 1 };
+        let message = Message::Propose {
+            view: 1,
+            height: high,
+            name: name(high),
+            parent: name(high - 1),
+            mask: 3,
+            author: 1,
+        };
         bytes.extend(message.encode());
     }
     bytes
