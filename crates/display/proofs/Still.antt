@@ -90,7 +90,7 @@ stays-on s t p c e (inr w) = inr (p ∙ w ∙ ap waiting (sym c))
 
 move-stays : {d : List Shown} (s t : State) (o : List Effect) → Move nobody s t o → Stays d s → Stays d t
 unfolding withTables withPhase withBlames entering stored votedFor blamed
-move-stays s t o (joins m u g c) k = stays-on s t refl refl (joined-shown s _) k
+move-stays s t o (joins j m u g c) k = stays-on s t refl refl (joined-shown s _) k
 move-stays s t o (stores x g f) k = stays-on s t refl refl (stored-shown s x (g .1)) k
 move-stays s t o (passes x g f c l) k = stays-on s t refl refl (stored-shown s x (g .1)) k
 move-stays s t o (casts x g f c l) k = stays-on s t refl refl (voted-shown (stored x s) x (own-new-view s x (g .0)) ∙ stored-shown s x (g .1)) k
