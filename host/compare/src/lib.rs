@@ -32,7 +32,7 @@ pub struct Met {
     pub inputs: u64,
     pub runs: u64,
     /// How often each number was answered.
-    pub numbers: [u64; 12],
+    pub numbers: [u64; 13],
     /// How many messages to all, messages to one, and commits there were.
     pub effects: [u64; 3],
 }

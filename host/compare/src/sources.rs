@@ -313,7 +313,7 @@ mod tests {
     use programs::Second;
 
     /// How often each number is answered in a run.
-    fn numbers(size: Size, inputs: &[Input]) -> [u64; 12] {
+    fn numbers(size: Size, inputs: &[Input]) -> [u64; 13] {
         let mut met = Met::default();
         assert_eq!(run::<Second>(size, Fixed::new(inputs), &mut met).1, None);
         met.numbers
