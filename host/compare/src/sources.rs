@@ -153,7 +153,10 @@ pub fn limits(size: Size) -> Runs {
         ),
         ("every view", of(0, [views(size), ticks(30), past(size)])),
         ("too early", of(2, [too_early()])),
-        ("rude neighbours", of(2, [rude(), statuses(100..tallies + 100), rude(), ticks(1)])),
+        (
+            "rude neighbours, and one status too many",
+            of(2, [rude(), statuses(100..tallies + 100), rude(), ticks(1)]),
+        ),
     ]
 }
 
@@ -330,6 +333,7 @@ mod tests {
                 let bad = match title {
                     "every view" => (2, 0),
                     "too early" => (3, 25),
+                    "rude neighbours, and one status too many" => (1, 1),
                     _ => (0, 0),
                 };
                 assert_eq!((found[5], found[11]), bad, "{size:?}: {title}");

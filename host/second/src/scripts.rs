@@ -89,6 +89,8 @@ pub struct Script {
     limits: Limits,
     random: Random,
     style: Style,
+    /// Whether station 0 votes for made-up names, again and again.
+    is_rude: bool,
     run: Run,
     /// Events so far.
     count: usize,
@@ -118,9 +120,9 @@ impl Iterator for Script {
 impl Script {
     pub fn new(limits: Limits, seed: u64) -> Script {
         let mut random = Random::new(seed);
-        let style = random.pick(&STYLES);
+        let (style, is_rude) = (random.pick(&STYLES), seed % 8 == 7);
         let run = Run::new(limits);
-        Script { limits, random, style, run, count: 0, ticks: 0, names: 0, after_stop: 0 }
+        Script { limits, random, style, is_rude, run, count: 0, ticks: 0, names: 0, after_stop: 0 }
     }
 
     /// The station as it stands after the last event.
@@ -214,6 +216,9 @@ impl Script {
             }
             Move::BlameSet => {
                 Message::BlameSet { view: self.view(station), mask: self.quorum(settings) }
+            }
+            _ if self.is_rude && self.random.one_in(2) => {
+                Message::Vote { block: self.made_up(station), author: 0 }
             }
             _ => Message::Vote { block: self.block(station), author: self.author(settings) },
         }

@@ -39,16 +39,19 @@ fn only_faulty_messages_are_too_far_ahead() {
 }
 
 /// Two rude neighbours of five vote for invented names without end, far more than a store has tallies: from the
-/// seventeenth on each is refused with 12, and the group goes on.
+/// seventeenth on each is refused with 12, and the group gets as far as with silent ones.
 #[test]
 fn rude_neighbours_stop_nobody() {
-    let plan = plan(5, 2, &[Fault::Rude, Fault::Rude], Delays::Longest, 1);
-    let (size, ticks) = (plan.size, 200);
-    let mut group = Group::<Proved>::new(plan);
+    let rude = plan(5, 2, &[Fault::Rude, Fault::Rude], Delays::Longest, 1);
+    let (size, ticks) = (rude.size, 200);
+    let mut group = Group::<Proved>::new(rude);
     assert_eq!(group.run_to(ticks), Ok(()));
     assert!(3 * 2 * ticks as usize > size.tallies());
     assert!(group.watch.used_up > 3 * (3 * 2 * u64::from(ticks) - 3 * 2 * 16 - 60));
-    assert!(group.watch.log().len() >= 20);
+    let silent = plan(5, 2, &[Fault::Silent, Fault::Silent], Delays::Longest, 1);
+    let mut calm = Group::<Proved>::new(silent);
+    assert_eq!(calm.run_to(ticks), Ok(()));
+    assert!(group.watch.log().len() >= calm.watch.log().len());
 }
 
 /// The late leader's block is committed by one station alone in view 1, and by all after that.
@@ -197,7 +200,7 @@ fn prompt_leaders_get_on() {
             for seed in 0..4 {
                 let mut group = Group::<Proved>::new(prompt(3, 2, &[fault], delays, seed));
                 match group.run_to(120) {
-                    Ok(()) | Err(Breach::Full) => {}
+                    Ok(()) | Err(Breach::Full | Breach::UsedUp) => {}
                     Err(breach) => panic!("{fault}, {delays:?}, seed {seed}: {breach}"),
                 }
                 assert!(group.watch.progress.views() > 0, "{fault}, seed {seed}");

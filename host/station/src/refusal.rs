@@ -166,12 +166,12 @@ mod tests {
 
     #[test]
     fn numbers_are_those_of_01_and_02() {
-        for (number, refusal) in (1..=11).chain([13, 14]).zip(Refusal::ALL) {
+        for (number, refusal) in (1..=15).zip(Refusal::ALL) {
             assert_eq!(refusal.number(), number);
             assert_eq!(Refusal::from_number(number), Some(refusal));
             assert!(refusal.to_string().starts_with(&format!("refusal {number}: ")));
         }
-        for number in [0, 12, 15] {
+        for number in [0, 16] {
             assert_eq!(Refusal::from_number(number), None);
         }
     }

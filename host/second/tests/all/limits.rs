@@ -4,12 +4,12 @@
 use crate::common::*;
 use second::{Limits, Phase};
 
-/// Opens tallies of the next view until there are so many.
+/// Opens tallies of the next view, by statuses, until there are so many.
 fn fill_tallies(bench: &mut Bench, count: usize) {
     let view = bench.station.view() + 1;
     let mut number = 1000;
     while bench.station.tallies().len() < count {
-        bench.step(&vote(view, 1, name(number), 0));
+        bench.step(&status(1, name(number), view, 0b011));
         number += 1;
     }
 }
@@ -28,7 +28,7 @@ fn fill_statements(bench: &mut Bench, count: usize) {
 
 #[test]
 fn one_tally_too_many_is_refused_and_a_join_is_not() {
-    for (limits, room) in [(Limits::SMALL, 256), (Limits::LARGE, 1024)] {
+    for (limits, room) in [(Limits::SMALL, 512), (Limits::LARGE, 1024)] {
         let mut bench = Bench::of(limits, 3, 1, 0);
         fill_tallies(&mut bench, room);
         bench.step(&vote(2, 1, name(1000), 1));

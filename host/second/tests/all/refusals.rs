@@ -173,7 +173,7 @@ fn number_6_stops_the_station() {
         let mut bench = Bench::of(limits, 3, 1, 0);
         let room = limits.tallies as u16;
         for number in 0..room {
-            bench.step(&vote(2, 1, name(number), 1));
+            bench.step(&status(1, name(number), 2, 0b011));
         }
         bench.refused_step(6, &vote(2, 1, name(room), 1));
         bench.refused(3, Call::Tick);
@@ -312,9 +312,35 @@ fn number_11_comes_between_5_and_6() {
     bench.refused_step(5, &blame(3, 3));
     bench.refused_step(5, &propose(3, 1, name(1), ZERO, 0b010, 0));
     for number in 0..Limits::SMALL.tallies as u16 {
-        bench.step(&vote(1, 1, name(number + 1), 0));
+        bench.step(&status(1, name(number + 1), 1, 0b011));
     }
     bench.refused_step(11, &vote(3, 1, name(0), 0));
     bench.refused_step(6, &vote(2, 1, name(0), 0));
     bench.refused_step(3, &vote(3, 1, name(0), 0));
+}
+
+/// "Each author open at most 16 by vote messages. The seventeenth is refused with new number 12, changing
+/// nothing", tested after 5 and 11, and before 6.
+#[test]
+fn number_12_is_the_seventeenth_of_an_author() {
+    for limits in ROWS {
+        let mut bench = Bench::of(limits, 3, 1, 1);
+        for number in 0..16 {
+            bench.step(&vote(1, 1, name(number), 0));
+        }
+        bench.refused_step(12, &vote(1, 1, name(16), 0));
+        bench.refused_step(11, &vote(3, 1, name(16), 0));
+        // a tally that is there takes any vote, and others may still open some
+        bench.step(&vote(1, 1, name(15), 0));
+        bench.step(&vote(1, 1, name(16), 2));
+        bench.step(&vote(1, 1, name(16), 0));
+        for number in 17..=limits.tallies as u16 {
+            bench.step(&status(1, name(number), 1, 0b011));
+            if bench.station.tallies().len() == limits.tallies {
+                break;
+            }
+        }
+        bench.refused_step(12, &vote(1, 1, name(5000), 0));
+        bench.refused_step(6, &vote(1, 1, name(5000), 2));
+    }
 }

@@ -58,7 +58,7 @@ fn scripts_reach_every_answer_and_every_outgoing_kind() {
         }
         views.extend(script.station().map(Station::view));
     }
-    assert!(answers.into_iter().eq([0, 1, 3, 4, 5, 6, 7, 9, 11]));
+    assert!(answers.into_iter().eq([0, 1, 3, 4, 5, 6, 7, 9, 11, 12]));
     let all = (1..=5).map(|kind| (0x10, kind)).chain([(0x11, 6), (0x12, 0)]);
     assert!(sent.into_iter().eq(all));
     assert!(views.contains(&1) && views.iter().any(|&view| view > 20));
