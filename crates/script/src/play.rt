@@ -89,16 +89,20 @@ fn choose(store: &Store, number: u64, bytes: &[u8], first: usize) {
     page::finish(&page, end);
 }
 
-// The choice in words.
+// The choice in words, and the certificate part of the one that is taken.
 fn chosen(page: &mut Page, at: usize, n: u64, bytes: &[u8], first: usize) -> usize {
     if bytes.len() < first {
         return at;
     }
-    match choose::status_choose(0, n, &bytes[..first], &bytes[first..]) {
-        1 => page::say(page, at, b": the first\n"),
-        2 => page::say(page, at, b": the second\n"),
-        _ => page::say(page, at, b": neither\n"),
-    }
+    let one = &bytes[..first];
+    let other = &bytes[first..];
+    let told = match choose::status_choose(0, n, one, other) {
+        1 => page::say(page, at, b": the first # "),
+        2 => page::say(page, at, b": the second # "),
+        _ => page::say(page, at, b": neither # "),
+    };
+    let shown = page::bytes(page, told, choose::choose(0, n, one, other));
+    page::put(page, shown, b'\n')
 }
 
 // A message is handed over.

@@ -168,12 +168,14 @@ impl Teller {
             .as_ref()
             .map_or(0, |station| station.station().settings().stations().into());
         let taken = choose(0, n, first, other);
-        let words = match taken {
-            [] => "neither",
-            _ if std::ptr::eq(taken.as_ptr_range().end, first.as_ptr_range().end) => "the first",
-            _ => "the second",
+        let said: String = match taken {
+            [] => "neither # -".into(),
+            _ if std::ptr::eq(taken.as_ptr_range().end, first.as_ptr_range().end) => {
+                format!("the first # {}", words::hex(taken))
+            }
+            _ => format!("the second # {}", words::hex(taken)),
         };
-        self.print(format_args!("line {number}: choose: {words}"));
+        self.print(format_args!("line {number}: choose: {said}"));
     }
 
     /// The slip of a logged block.

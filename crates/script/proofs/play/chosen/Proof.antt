@@ -9,17 +9,17 @@ use Rattle.script.proofs.play.chosen.Tie as tie
 returns : tie.Need-returns
 returns c = search needs
 
-slice-aggregate-status-choose : tie.Need-slice-aggregate-status-choose
-slice-aggregate-status-choose c = sym (length-take-le _ _ (omega (arith, c .before .if1 .left)))
+slice-aggregate-one : tie.Need-slice-aggregate-one
+slice-aggregate-one c = sym (length-take-le _ _ (omega (arith, c .before .if1 .left)))
 
-sub-status-choose : tie.Need-sub-status-choose
-sub-status-choose c = search needs
+sub-other : tie.Need-sub-other
+sub-other c = search needs
 
-part-status-choose-start : tie.Need-part-status-choose-start
-part-status-choose-start c = search needs
+part-other-start : tie.Need-part-other-start
+part-other-start c = search needs
 
-part-status-choose-end : tie.Need-part-status-choose-end
-part-status-choose-end c = search needs
+part-other-end : tie.Need-part-other-end
+part-other-end c = search needs
 
 status-choose-requires : tie.Need-status-choose-requires
 status-choose-requires c κs = search needs
@@ -42,24 +42,27 @@ slice-aggregate-say-3 c = search needs
 say-requires-3 : tie.Need-say-requires-3
 say-requires-3 c κs = search needs
 
+choose-requires : tie.Need-choose-requires
+choose-requires c κs = search needs
+
+bytes-requires : tie.Need-bytes-requires
+bytes-requires c κs = search needs
+
+put-requires : tie.Need-put-requires
+put-requires c κs = search needs
+
 returns-2 : tie.Need-returns-2
 returns-2 c = search needs
-
-returns-3 : tie.Need-returns-3
-returns-3 c = search needs
-
-returns-4 : tie.Need-returns-4
-returns-4 c = search needs
 
 pub chosen-spec : {M : Type 1} → statement M
 chosen-spec =
     tie.close
     (tie.spec
     returns
-    slice-aggregate-status-choose
-    sub-status-choose
-    part-status-choose-start
-    part-status-choose-end
+    slice-aggregate-one
+    sub-other
+    part-other-start
+    part-other-end
     status-choose-requires
     slice-aggregate-say
     say-requires
@@ -67,6 +70,7 @@ chosen-spec =
     say-requires-2
     slice-aggregate-say-3
     say-requires-3
-    returns-2
-    returns-3
-    returns-4)
+    choose-requires
+    bytes-requires
+    put-requires
+    returns-2)
