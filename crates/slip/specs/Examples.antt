@@ -1,6 +1,6 @@
 -- Slips, damaged ones, and what a slip does not show, evaluated together under a single claim. Assumes nothing.
 use mathlib.Core.Path.{_≡_, refl}
-use Prim.Native.Nat.{ℕ, suc, _+_, _*_, _^_}
+use Prim.Native.Nat.{ℕ, suc, _+_, _*_, _%_, _^_}
 use mathlib.Core.Bool.{Bool, true, false, _&&_, not}
 use mathlib.Core.List.{List, [], _∷_, _++_}
 use mathlib.Core.Option.{none}
@@ -15,6 +15,11 @@ use Rattle.slip.specs.Slips.{isSlip, slipBytes, entryBytes, checked}
 -- an entry of view v: its height, its name, its parent, voted for by stations 0 and 1
 of : ℕ → ℕ → ℕ → ℕ → Statement
 of v h b p = record { isNewView = false; view = v; height = h; name = b; link = p; mask = 3; author = elim (eqb v 2) [ true ↦ 2 | false ↦ 1 ]; voted = none }
+
+-- one of the view after the last with the small limits, by its leader
+late : Statement
+late =
+    record { isNewView = false; view = suc lastViewSmall; height = 1; name = 71; link = 0; mask = 3; author = suc lastViewSmall % 3; voted = none }
 
 mask : ℕ → Statement → Statement
 mask m x = record { isNewView = false; view = x .view; height = x .height; name = x .name; link = x .link; mask = m; author = x .author; voted = none }
@@ -51,7 +56,7 @@ unfolding told slipBytes isSlip group
 right b xs = eqb (told (slipBytes b xs)) (length xs) && isSlip (group 0) b xs
 
 examples : List Bool
-unfolding told bad wrong right good one two three of mask slipBytes entryBytes write checked
+unfolding told bad wrong right good one two three of late mask slipBytes entryBytes write checked
 examples =
     -- "such a slip always passes", at each height, across views, and certified by all
     right 71 (one ∷ []) ∷ right 72 (two ∷ one ∷ []) ∷ right 73 good ∷ right 73 (mask 7 three ∷ mask 5 two ∷ mask 6 one ∷ [])
@@ -73,7 +78,7 @@ examples =
     ∷ wrong 1 73 (three ∷ mask 1 two ∷ mask 1 one ∷ []) ∷ wrong 0 99 (three ∷ mask 1 two ∷ one ∷ [])
     -- a kind or an n that isn't good; the large limits go on to later views
     ∷ eqb (checked 1 3 (slipBytes 73 good)) (10 * 2 ^ 32) ∷ eqb (checked 0 4 (slipBytes 73 good)) (10 * 2 ^ 32) ∷ eqb (checked 0 17 []) (10 * 2 ^ 32) ∷ eqb (checked 4 3 (slipBytes 73 good)) 3
-    ∷ eqb (checked 4 3 (slipBytes 71 (of 34 1 71 0 ∷ []))) 1 ∷ bad 0 (slipBytes 71 (of 34 1 71 0 ∷ []))
+    ∷ eqb (checked 4 3 (slipBytes 71 (late ∷ []))) 1 ∷ bad 0 (slipBytes 71 (late ∷ []))
     ∷ []
 
 -- "A slip shows a chain, it doesn't show a commit". Station 1 is faulty and proposes 77 and 78 in its view, so stations 0 and 2

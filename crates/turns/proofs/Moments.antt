@@ -1,5 +1,5 @@
 -- When the parts of a tick are due, by the numbers of a loaded station. Assumes nothing.
-use Prim.Native.Nat.{ℕ, _+_, _-_, _*_, _≤_, _<_}
+use Prim.Native.Nat.{ℕ, _+_, _-_, _*_, _^_, _≤_, _<_}
 use mathlib.Core.Path.{_≡_, refl, sym, ap, _∙_}
 use mathlib.Core.Bool.{Bool, true, false, not, _&&_}
 use mathlib.Core.List.{List}
@@ -83,7 +83,7 @@ votes-few s =
     keep-length (λ x. not (x .isNewView) && eqb (x .view) (s .view) && elim (x .voted) [ none ↦ false | some c ↦ true ]) (s .statements)
 
 -- so the wait is a small number
-pub short-wait : (m d : ℕ) → m ≤ mostStatementsLarge → d ≤ mostDelay → (2 * m + 6) * d + 2 ≤ 10_300_002
+pub short-wait : (m d : ℕ) → m ≤ mostStatementsLarge → d ≤ mostDelay → (2 * m + 6) * d + 2 ≤ 2 ^ 32
 short-wait m d f l = let h : (2 * m + 6) * d ≤ (2 * m + 6) * mostDelay = mul-le-mul-left (2 * m + 6) l in omega arith
 
 -- ---- by the loaded numbers
