@@ -1,11 +1,12 @@
 #!/bin/bash
 # The C face, for stores of both lengths: every call and every refusal number, stores that are not well formed, and
-# recorded runs replayed, also on damaged stores; recorded pairs of reports; and relay envelopes.
+# recorded runs replayed, also on damaged stores; recorded pairs of reports; relay envelopes; slips; and the journal, with
+# power cuts after any byte.
 set -euo pipefail
 cd "$(dirname "$0")/.."
 tools/archive >/dev/null
 mkdir -p target/tests
-for test in calls stores replay reports envelopes; do
+for test in calls stores replay reports envelopes slips journal; do
     cc -std=c11 -O2 -Wall -Wextra -Werror -o "target/tests/$test" "tests/$test.c" target/archive/libstation.a
 done
 target/tests/calls
@@ -16,3 +17,5 @@ target/tests/replay -l host/second/tests/data/large/*.txt
 target/tests/replay -l -d 1 host/second/tests/data/large/*.txt
 target/tests/reports host/second/tests/data/reports.txt
 target/tests/envelopes
+target/tests/slips
+target/tests/journal
