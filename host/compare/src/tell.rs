@@ -75,7 +75,7 @@ impl Teller {
             Input::Tick => station.tick(),
             Input::Step(message) => station.step(message),
             Input::Offer(name) => station.offer(name),
-            Input::Display => unreachable!("a display is told apart"),
+            Input::Display | Input::Certified { .. } => unreachable!("a question is told apart"),
         };
         (answer.number, answer.out.to_vec())
     }
@@ -86,7 +86,7 @@ impl Teller {
             Input::Tick => "tick",
             Input::Step(_) => "message",
             Input::Offer(_) => "offer",
-            Input::Display => "display",
+            Input::Display | Input::Certified { .. } => unreachable!("a question is told apart"),
         };
         let (refusal, out) = self.answer(input);
         self.answered(number, what, refusal, &out);
