@@ -10,7 +10,8 @@ use Rattle.rules.specs.Lists.{be}
 use Rattle.rules.specs.Words.{reachedOf}
 use Rattle.rules.specs.WellFormed.{wellFormed}
 use Rattle.rules.proofs.Tests.{and-left}
-use Rattle.fields.specs.Places.{Bytes}
+use Rattle.fields.specs.Places.{number, Bytes}
+use Rattle.wire.proofs.Reading.{be-number}
 use Rattle.store.specs.Layout.{storeLength, sizeIn}
 use Rattle.store.specs.Decode.{reachedNumber, tallies, stateFrom, stateOf, hasForm, Form}
 use Rattle.formed.proofs.Whole.{formed-decoded, unformed-decoded}
@@ -46,6 +47,8 @@ module _ (b : List ℕ) (view height : ℕ) (name : List ℕ) where
       pub has-form : Bytes b → not w ≡ false → Form b
       has-form h t = record { bytes = h; form = and-left (hasForm b) (wellFormed (stateOf b)) (sym g ∙ not-false w t) }
 
-      pub tells : {r k : ℕ} → not w ≡ false → k ≡ be name → r ≡ reachedNumber (reachedOf (asked view height k) (tallies b)) → r ≡ certifiedCalled b view height name
+      pub tells : {r k : ℕ} → not w ≡ false → k ≡ number name 0 32 → r ≡ reachedNumber (reachedOf (asked view height k) (tallies b)) → r ≡ certifiedCalled b view height name
       unfolding certifiedCalled stateOf stateFrom
-      tells t e p = rw (proper, certifiedCalled, formed-decoded b w g (not-false w t), ← e) p
+      tells {k = k} t e p =
+          let named : k ≡ be name = e ∙ ap (number name 0) (sym m) ∙ sym (be-number name) in
+          rw (proper, certifiedCalled, formed-decoded b w g (not-false w t), ← named) p

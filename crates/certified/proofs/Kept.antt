@@ -1,5 +1,5 @@
 -- The clock of a block's tally, by where a search finds it; none for a block that no record can have. Assumes nothing.
-use Prim.Native.Nat.{ℕ, zero, suc, _^_, _≤_, _<_}
+use Prim.Native.Nat.{ℕ, zero, suc, _+_, _^_, _≤_, _<_}
 use mathlib.Core.Path.{_≡_, refl, sym, ap, _∙_}
 use mathlib.Core.Bool.{true, false}
 use mathlib.Core.List.{List}
@@ -56,7 +56,7 @@ module _ {b : List ℕ} (k : Form b) (t : Certificate) where
       (λ q.
       let (v, h, _) = block-eq t (certificateOf (tallyAt b j)) q in
       let at = placeOf tallyTable (sizeIn b) j in
-      elim l [ inl m ↦ absurd (omega (arith, number-lt b (k .bytes) _ 4)) | inr m ↦ absurd (omega (arith, number-lt b (k .bytes) _ 4)) ])
+      elim l [ inl m ↦ absurd (omega (arith, number-lt b (k .bytes) (at + 0) 4)) | inr m ↦ absurd (omega (arith, number-lt b (k .bytes) (at + 4) 4)) ])
       (λ q. q)
 
   pub kept-outside : (256 ^ 4 ≤ t .view) ⊎ (256 ^ 4 ≤ t .height) → 0 ≡ reachedNumber (reachedOf t (tallies b))
