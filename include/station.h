@@ -23,8 +23,8 @@
  *   14  envelope: no good one, or one that can't be made                                     nothing changes
  *   15  slip: the first bad place as count; or a name that is not logged                     nothing changes
  *
- * Order: 1, 2, 3, then 4, 5, 11, 12, 6 for messages; 9, 6 for offers; 8, 7, 6 for ticks. A fresh store: 1, then 10. Calls that
- * only read the store: 1, then 2.
+ * Order: 1, 2, 3, then 4, 5, 11, 12, 6 for messages; 9, 6 for offers; 8, 7, 6 for ticks. A fresh store: 1, then 10. The display
+ * and when a block was certified: 1, then 2.
  */
 #ifndef STATION_H
 #define STATION_H
@@ -96,10 +96,10 @@ uint64_t journal_replay(const uint8_t *journal, size_t journal_len, uint8_t *sto
  * only read. Refusals 1 and 2. */
 uint64_t station_display(const uint8_t *store, size_t store_len, uint8_t *out, size_t out_len);
 
-/* When was it certified? The tally of a block (view, height, name of 32 bytes) keeps the clock at which it first had f+1 voters
- * in this store. Done: the count is one more than that clock; 0 where it has fewer voters, where there is no such tally, for
- * genesis in view 0 and for numbers that no tally has. The store is only read. Refusals 1, for the store's length or the name's,
- * and 2. */
+/* When was it certified? Done: the count is one more than the clock at which the tally of this block (view, height, name of 32
+ * bytes) first had f+1 voters in this store; 0 where it has fewer, where there is no such tally, for genesis in view 0, and for
+ * numbers out of range. A stopped station is answered as any. The store is only read. Refusals 1 (also for a name not of 32
+ * bytes) and 2. */
 uint64_t station_certified(const uint8_t *store, size_t store_len, uint64_t view, uint64_t height, const uint8_t *name, size_t name_len);
 
 /* Two status messages, of which a new leader's host often holds two: whose certificate part to take, in a group of this
