@@ -46,6 +46,9 @@ impl Teller {
             Line::Input(Input::Tick) => self.ticks(number, 1),
             Line::Ticks(count) => self.ticks(number, count),
             Line::Input(Input::Display) => self.display(number),
+            Line::Input(Input::Certified { view, height, name }) => {
+                self.certified(number, view, height, &name);
+            }
             Line::Input(input) => self.input(number, &input),
             Line::Log => self.log(number),
             Line::State => self.state(number),
@@ -204,6 +207,18 @@ impl Teller {
             let field = words::hex(field);
             self.print(format_args!("  shown: height {height} name {name}, {left} # {field}"));
         }
+    }
+
+    /// When a block was certified.
+    fn certified(&mut self, number: usize, view: u64, height: u64, name: &[u8]) {
+        let Some(station) = &self.station else {
+            return self.answered(number, "certified", 2, &[]);
+        };
+        let said = match station.station().certified(view, height, name) {
+            Ok(Some(clock)) => format!("at clock {clock}"),
+            _ => "none".into(),
+        };
+        self.print(format_args!("line {number}: certified: {said}"));
     }
 
     fn state(&mut self, number: usize) {
