@@ -16,19 +16,21 @@ use Rattle.fields.specs.Names.{nameOf}
 use Rattle.outgoing.specs.Wrote.{wrote}
 use Rattle.outgoing.specs.Wrote as written
 use Rattle.outgoing.proofs.Writing.{length-wrote}
-use Rattle.lines.specs.Words.{bytes, word, rest, noWord, pairs, isBytes}
-use Rattle.lines.specs.Script.{Got, got, wrong, onto, reads, fieldOf, freshened, ticked, alone, hex, slipped, chosen, Meaning, blank, fresh, tick, given, message, log, state, display, bad, meant, spoken, Order, orders, ordered, lineOf}
-use Rattle.lines.specs.Places.{Lists, placed, Field, ended, readsAt}
+use Rattle.text.specs.Words.{bytes, word, rest, noWord, pairs, isBytes}
+use Rattle.parts.specs.Fields.{Got, got, wrong, onto, reads, fieldOf}
+use Rattle.lines.specs.Script.{freshened, ticked, alone, hex, slipped, chosen, Meaning, blank, fresh, tick, given, message, log, state, display, bad, meant, spoken, Order, orders, ordered, lineOf}
+use Rattle.text.specs.Places.{Lists, placed}
+use Rattle.parts.specs.Places.{Field, ended, readsAt}
 use Rattle.lines.specs.Answers.{answer, fill, left, filled, Reads, Says, HexAt, hexPlace, HexRead}
-use Rattle.lines.specs.declared.Flaw.{Flaw}
-use Rattle.lines.specs.declared.Flaw.the-variants as flaw
+use Rattle.parts.specs.declared.Flaw.{Flaw}
+use Rattle.parts.specs.declared.Flaw.the-variants as flaw
 use Rattle.lines.specs.declared.What.{What}
 use Rattle.lines.specs.declared.What.the-variants.{Message, Slip, Choose}
 use Rattle.lines.specs.declared.Line.{Line}
 use Rattle.lines.specs.declared.Line.the-variants.{Blank, Fresh, Tick, Bytes, Log, State, Display, Bad}
-use Rattle.lines.specs.declared.parts.Place.{Place}
-use Rattle.lines.specs.declared.parts.Place.the-variants.{At, Wrong}
-use Rattle.lines.proofs.Fields.{small-is, ends-none, ends-extra}
+use Rattle.parts.specs.declared.Place.{Place}
+use Rattle.parts.specs.declared.Place.the-variants.{At, Wrong}
+use Rattle.parts.proofs.Fields.{small-is, ends-none, ends-extra}
 use Rattle.lines.proofs.Messages.{by-kind, made-of}
 
 -- ---- first words

@@ -5,10 +5,10 @@ use Prim.Native.Nat.{_-_, _^_}
 use Prim.Native.String.{String}
 use Rattle.rules.specs.Lists.{unbe}
 use Rattle.rules.specs.Messages.{newView, propose, vote, blame, blameSet, status, write}
-use Rattle.lines.specs.Words.{bytes}
+use Rattle.text.specs.Words.{bytes}
 use Rattle.lines.specs.Script.{Meaning, blank, fresh, tick, given, message, offer, log, display, bad, lineOf}
 use Rattle.lines.specs.declared.What.the-variants.{Envelope, Slip, Choose}
-use Rattle.lines.specs.declared.Flaw.the-variants.{Word, Missing, Extra, Number, Hex, Name, Mask}
+use Rattle.parts.specs.declared.Flaw.the-variants.{Word, Missing, Extra, Number, Hex, Name, Mask}
 
 meant : String → Meaning
 unfolding lineOf bytes

@@ -1,34 +1,20 @@
 // What a line of a script means, read from its bytes. docs/SCRIPT.md has the form, specs/Script.antt says it exactly.
 use fields::Name;
 use kinds::Heard;
+use parts::Flaw;
 use parts::Place;
+use text::values;
 ghost use mathlib.Core.Path.{_≡_};
 ghost use Prim.Native.Nat.{_≤_};
 ghost use mathlib.Core.List.{[]};
 ghost use lib.ListN.{length, drop};
 ghost use Rattle.rules.specs.Lists.{unbe};
 ghost use Rattle.fields.specs.Names.{nameOf};
-ghost use Rattle.lines.specs.Places.{Inside, readsAt};
+ghost use Rattle.parts.specs.Places.{Inside, readsAt};
 ghost use Rattle.lines.specs.Script.{lineOf, given, meant, spoken, freshened, ticked, hex, hexed, alone, slipped, chosen};
 ghost use Rattle.lines.specs.Answers.{Reads, Says, HexAt, HexRead, askedOf};
 
 mod kinds;
-mod parts;
-mod text;
-mod values;
-
-// What is wrong with a line: the first word is unknown; a word is missing; a word is too many; a number, hex, a name or a mask isn't
-// one, or is too large for its field; the bytes have no room.
-pub enum Flaw {
-    Word,
-    Missing,
-    Extra,
-    Number,
-    Hex,
-    Name,
-    Mask,
-    Long,
-}
 
 // What the bytes of a line are: a message, an offered name, an envelope, the name of a slip, or two messages, the first of so many bytes.
 pub enum What {

@@ -1,7 +1,7 @@
 -- `lines::read_line` meets its contract: by its first word. Assumes nothing.
-use Rattle.lines.proofs.Runs.{word-none, word-some}
+use Rattle.text.proofs.Runs.{word-none, word-some}
 use Rattle.lines.proofs.Replies.{says-blank, says-bad, unchanged, reads-as, line-blank, line-order, meansOf, meanings, means-other, means-spoken}
-use Rattle.lines.specs.Words.{rest, bytes}
+use Rattle.text.specs.Words.{rest, bytes}
 use Rattle.lines.specs.Script.{orders}
 use Prim.Native.Nat.{ℕ}
 use mathlib.Core.Path.{_≡_, refl, ap, _∙_}
