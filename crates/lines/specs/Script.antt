@@ -13,7 +13,7 @@ use Rattle.parts.specs.Fields.{Got, got, wrong, reads}
 use Rattle.parts.specs.declared.Flaw.{Flaw}
 use Rattle.parts.specs.declared.Flaw.the-variants as flaw
 use Rattle.lines.specs.declared.What.{What}
-use Rattle.lines.specs.declared.What.the-variants.{Message, Offer, Envelope, Slip, Choose}
+use Rattle.lines.specs.declared.What.the-variants.{Message, Offer, Envelope, Slip, Certified, Choose}
 
 -- one word of bytes in hex, and then no word
 unfoldable pub hex : List ℕ → Got
@@ -92,6 +92,11 @@ unfoldable pub slipped : List ℕ → Meaning
 unfolding meant reads unbe
 slipped s = meant (λ vs. given Slip (unbe 32 (getD vs 0 0))) (reads (4 ∷ []) s)
 
+-- a view and a height, and a name as its 32 bytes
+unfoldable pub certified : List ℕ → Meaning
+unfolding meant reads unbe
+certified s = meant (λ vs. given (Certified (getD vs 0 0) (getD vs 1 0)) (unbe 32 (getD vs 2 0))) (reads (2 ∷ 3 ∷ 4 ∷ []) s)
+
 -- a first word, and what it makes of the words behind it
 pub record Order : Type 0 where
   pub first : List ℕ
@@ -102,7 +107,7 @@ unfolding bytes
 order t f = record { first = bytes t; means = f }
 
 unfoldable pub orders : List Order
-unfolding order spoken freshened ticked alone hexed chosen slipped
+unfolding order spoken freshened ticked alone hexed chosen slipped certified
 orders =
     order "new-view" (spoken 1)
     ∷ order "propose" (spoken 2)
@@ -120,6 +125,7 @@ orders =
     ∷ order "envelope" (hexed Envelope)
     ∷ order "choose" chosen
     ∷ order "slip" slipped
+    ∷ order "certified" certified
     ∷ []
 
 -- the order of a first word, "a line that is none of these is said to be so"
