@@ -47,7 +47,8 @@ module _ (b : List ℕ) (view height : ℕ) (name : List ℕ) where
       pub has-form : Bytes b → not w ≡ false → Form b
       has-form h t = record { bytes = h; form = and-left (hasForm b) (wellFormed (stateOf b)) (sym g ∙ not-false w t) }
 
-      pub tells : {r k : ℕ} → not w ≡ false → k ≡ number name 0 32 → r ≡ reachedNumber (reachedOf (asked view height k) (tallies b)) → r ≡ certifiedCalled b view height name
+      pub tells : {r k : ℕ} → not w ≡ false → k ≡ number name 0 32 → r ≡ reachedNumber (reachedOf (asked view height k) (tallies b))
+          → r ≡ certifiedCalled b view height name
       unfolding certifiedCalled stateOf stateFrom
       tells {k = k} t e p =
           let named : k ≡ be name = e ∙ ap (number name 0) (sym m) ∙ sym (be-number name) in

@@ -8,6 +8,7 @@ use crate::stored::Store;
 use lines::Line;
 use lines::What;
 use page::Page;
+use parts::Flaw;
 
 // Plays a line, and says whether it was one. The bytes of any line of 4,096 have room.
 pub fn line(store: &mut Store, line: &[u8], number: u64) -> bool {
@@ -68,6 +69,7 @@ fn given(store: &mut Store, number: u64, what: What, bytes: &[u8]) {
         What::Envelope => relay::hand_over(store, number, bytes),
         What::Slip => slip(store, number, bytes),
         What::Choose { first } => choose(store, number, bytes, first),
+        What::Certified { .. } => show::bad(number, Flaw::Word),
     }
 }
 

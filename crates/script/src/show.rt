@@ -4,8 +4,8 @@ ghost use lib.ListN.{length};
 ghost use Rattle.rules.specs.Limits.{leastOutSmall};
 use crate::sent;
 use crate::spell;
-use lines::Flaw;
 use page::Page;
+use parts::Flaw;
 use settings::Settings;
 
 // An out buffer of the least length that a station takes.

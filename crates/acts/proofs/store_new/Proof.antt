@@ -40,9 +40,13 @@ join-found-requires c κs =
     let joined = c .before .before .before .before .join-certified in
     let t = blockOf (certificate .result) in
     let u = blockOf (c .own-block .result) in
-    let e = voter-block x 0 (c .own-block .ensures) in
-    (joined .ensures .form, own-fits b x (start .pre .1) t (withVoters 0 u) (certificate .ensures) e (start .pre .2) (joined .ensures), own-found b x (start .pre .1) t u (certificate .ensures) (c .own-block .ensures) (start .pre .2) (joined .ensures),
-      certified-clock b x (start .pre .1) t u (certificate .ensures) (c .own-block .ensures) (start .pre .2) (joined .ensures) (start .pre .3), tt)
+    let e = voter-block x 0 (c .own-block .ensures) in (
+      joined .ensures .form,
+      own-fits b x (start .pre .1) t (withVoters 0 u) (certificate .ensures) e (start .pre .2) (joined .ensures),
+      own-found b x (start .pre .1) t u (certificate .ensures) (c .own-block .ensures) (start .pre .2) (joined .ensures),
+      certified-clock b x (start .pre .1) t u (certificate .ensures) (c .own-block .ensures) (start .pre .2) (joined .ensures) (start .pre .3),
+      tt,
+    )
 
 append-statement-requires : tie.Need-append-statement-requires
 unfolding blockOf
