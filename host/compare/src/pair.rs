@@ -98,10 +98,13 @@ fn same_state<P: Program>(size: Size, tested: &P, second: &Second) -> Result<(),
     Ok(())
 }
 
-/// Asks both when one tally was certified, which of them goes by the inputs; in turn also for what no
-/// tally has, and by a name that is too short.
+/// Asks both, after every fourth input, when one tally was certified, which of them goes by the inputs;
+/// in turn also for what no tally has, and by a name that is too short.
 fn ask<P: Program>(tested: &P, second: &Second, turn: usize) -> Result<(), String> {
-    let tallies = second.station().tallies();
+    if !turn.is_multiple_of(4) {
+        return Ok(());
+    }
+    let (turn, tallies) = (turn / 4, second.station().tallies());
     if tallies.is_empty() {
         return same_clock(tested, second, 0, 0, &GENESIS);
     }
