@@ -77,6 +77,15 @@ static uint64_t ticks(int count)
 
 static uint64_t display(void) { return station_display(store, row->store, out, row->out); }
 
+/* When a block was certified: its name has the number in its last four bytes. */
+static uint64_t certified(uint64_t view, uint64_t height, uint32_t name)
+{
+    uint8_t bytes[32] = { 0 };
+    for (int k = 0; k < 4; k++)
+        bytes[31 - k] = (uint8_t)(name >> 8 * k);
+    return station_certified(store, row->store, view, height, bytes, 32);
+}
+
 static int64_t left(size_t i) /* the ticks left of a propose on the display */
 {
     uint64_t value = 0;
@@ -116,6 +125,7 @@ static void store_lengths(void)
         wrong += station_step(store, length, name, 0, out, sizeof out) != refusal(1);
         wrong += station_offer(store, length, name, 32, out, sizeof out) != refusal(1);
         wrong += station_display(store, length, out, sizeof out) != refusal(1);
+        wrong += station_certified(store, length, 1, 1, name, 32) != refusal(1);
     }
     EXPECT(wrong == 0 && untouched());
 }
@@ -140,6 +150,10 @@ static void lengths(void) /* 1 */
     EXPECT(wrong == 0);
     EXPECT(station_offer(store, row->store, name, 31, out, row->out) == refusal(1));
     EXPECT(station_offer(store, row->store, name, 33, out, row->out) == refusal(1));
+    for (size_t length = 0; length <= 33; length++)
+        EXPECT(station_certified(store, row->store, 1, 1, name, length) == (length == 32 ? 0 : refusal(1)));
+    EXPECT(station_certified(store, row->old, 1, 1, name, 32) == refusal(1));
+    EXPECT(station_tick(store, row->old, out, row->out) == refusal(1));
     EXPECT(untouched());
     EXPECT(station_tick(store, row->store, out, sizeof out) == 0);
 }
@@ -154,6 +168,9 @@ static void not_well_formed(void) /* 2 */
         EXPECT(station_step(store, row->store, name, 32, out, row->out) == refusal(2));
         EXPECT(station_offer(store, row->store, name, 32, out, row->out) == refusal(2));
         EXPECT(station_display(store, row->store, out, row->out) == refusal(2));
+        EXPECT(station_certified(store, row->store, 1, 1, name, 32) == refusal(2));
+        EXPECT(station_certified(store, row->store, UINT64_MAX, UINT64_MAX, name, 32) == refusal(2));
+        EXPECT(station_certified(store, row->store, 1, 1, name, 31) == refusal(1));
         EXPECT(untouched());
     }
 }
@@ -291,6 +308,40 @@ static void shown(void)
     EXPECT(blame_set(1, 3) == 19 && display() == 0);
 }
 
+/* One more than the clock at which f+1 voters were first there, whatever brought them; 0 for all else. The store is only read. */
+static void when(void)
+{
+    fresh(0);
+    EXPECT(certified(1, 0, 0) == 0 && certified(0, 0, 0) == 0);
+    EXPECT(vote(1, 1, 77, 1) == 0 && certified(1, 1, 77) == 0);
+    EXPECT(status(1, 5, 99, 6) == 0 && certified(1, 5, 99) == 1);
+    EXPECT(status(0, 0, 0, 0) == 0 && certified(0, 0, 0) == 0);
+    EXPECT(ticks(3) == 0);
+    EXPECT(propose(1, 2, 79, 78, 1) == 160 && certified(1, 1, 78) == 4 && certified(1, 2, 79) == 0);
+    EXPECT(vote(1, 1, 77, 1) == 0 && certified(1, 1, 77) == 0);
+    EXPECT(ticks(1) == 0 && vote(1, 1, 77, 2) == 0 && certified(1, 1, 77) == 5);
+    EXPECT(vote(1, 2, 79, 2) == 0 && certified(1, 2, 79) == 5);
+    EXPECT(ticks(1) == 0 && vote(1, 1, 77, 0) == 0 && vote(1, 2, 79, 1) == 0 && status(1, 5, 99, 7) == 0);
+    keep();
+    EXPECT(certified(1, 1, 77) == 5 && certified(1, 1, 78) == 4 && certified(1, 2, 79) == 5 && certified(1, 5, 99) == 1);
+    EXPECT(certified(2, 1, 77) == 0 && certified(1, 2, 77) == 0 && certified(1, 1, 79) == 0 && certified(0, 1, 77) == 0);
+    EXPECT(certified(1 + ((uint64_t)1 << 32), 1, 77) == 0 && certified(1, 1 + ((uint64_t)1 << 32), 77) == 0);
+    EXPECT(certified(UINT64_MAX, 1, 77) == 0 && certified(1, UINT64_MAX, 77) == 0);
+    EXPECT(untouched());
+    /* what a tick joins has the new clock: the own votes of an entry, and that of a leader */
+    EXPECT(propose(2, 1, 80, 0, 2) == 0 && vote(2, 1, 80, 2) == 0 && blame_set(1, 6) == 19);
+    EXPECT(ticks(2) == 0 && certified(2, 1, 80) == 0 && STATION_REFUSAL(tick()) == 0 && certified(2, 1, 80) == 9);
+    fresh(1);
+    EXPECT(vote(1, 0, 0, 0) == 0 && ticks(4) == 0 && certified(1, 0, 0) == 0 && tick() == 132 && certified(1, 0, 0) == 6);
+    /* a stopped station tells it too */
+    memcpy(store + 16, "\xee\x6b\x28\x00", 4);
+    EXPECT(tick() == refusal(8) && certified(1, 0, 0) == 6);
+    /* at the last clock */
+    fresh(2);
+    memcpy(store + 16, "\xee\x6b\x28\x00", 4);
+    EXPECT(status(1, 1, 77, 3) == 0 && certified(1, 1, 77) == 4000000001);
+}
+
 static void settings(void) /* 10 */
 {
     fresh(0);
@@ -318,6 +369,7 @@ static void every(void)
     clock_end();
     offers();
     shown();
+    when();
     settings();
 }
 

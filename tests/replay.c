@@ -4,9 +4,9 @@
 
    With -l the stores are large ones, else small.
    A run is lines `fresh N D OWN`, `tick`, `step HEX`, `offer HEX`, `display`, each followed by `= NUMBER HEX`, the refusal
-   number and the bytes written (`-` for none). Every call is made twice, on equal stores and on out buffers of other lengths and
+   number and the bytes written (`-` for none), or `certified VIEW HEIGHT HEX`, followed by `= NUMBER COUNT`. Every call is made twice, on equal stores and on out buffers of other lengths and
    contents; looked at are the answer, the bytes written, that nothing else is written, and that a refusal but 6, 7 and 8
-   leaves the store, as a display does. With -d every call is made first on a copy of the store with some bytes damaged: the answer must be 2
+   leaves the store, as a question does. With -d every call is made first on a copy of the store with some bytes damaged: the answer must be 2
    and change nothing, or keep the same rules. The last line is 'N inputs, M differ'; the exit is 0 exactly when M is 0. */
 #include <stdint.h>
 #include <stdio.h>
@@ -18,8 +18,8 @@
 enum { MARGIN = 64, LONGER = 1000, LINE = 1 << 18 };
 
 struct input {
-    char what; /* f t s o d */
-    uint64_t n, d, own;
+    char what; /* f t s o d c */
+    uint64_t n, d, own, view, height;
     uint8_t bytes[LINE / 2];
     size_t length;
 };
@@ -67,6 +67,7 @@ static uint64_t call(struct place *p, const struct input *in)
     case 'f': return station_fresh(p->store, row->store, in->n, in->d, in->own);
     case 't': return station_tick(p->store, row->store, p->out, p->out_length);
     case 's': return station_step(p->store, row->store, in->bytes, in->length, p->out, p->out_length);
+    case 'c': return station_certified(p->store, row->store, in->view, in->height, in->bytes, in->length);
     case 'd': return station_display(p->store, row->store, p->out, p->out_length);
     default: return station_offer(p->store, row->store, in->bytes, in->length, p->out, p->out_length);
     }
@@ -94,6 +95,8 @@ static const char *made(struct place *p, const struct input *in, size_t out_leng
         return "a refusal with a count";
     if (in->what == 'f' && count != 0)
         return "a fresh store with a count";
+    if (in->what == 'c')
+        count = 0; /* a number, and no bytes written */
     if (count > row->out)
         return "too many bytes";
     if (!all(p->out + count, sizeof p->out - count, fill))
@@ -103,8 +106,8 @@ static const char *made(struct place *p, const struct input *in, size_t out_leng
     int same = memcmp(stored, p->store, row->store) == 0;
     if (number != 0 && (number < 6 || number > 8) && !same)
         return "a refusal that changes the store";
-    if (in->what == 'd' && !same)
-        return "a display that changes the store";
+    if ((in->what == 'd' || in->what == 'c') && !same)
+        return "a question that changes the store";
     if (number >= 6 && number <= 8 && same)
         return "a stop that leaves the store";
     return NULL;
@@ -125,7 +128,8 @@ static const char *on_damaged(const struct input *in)
     return wrong;
 }
 
-static const char *checked(const struct input *in, uint64_t number, size_t count)
+/* Whether a call answers this number and count, and writes so many bytes. */
+static const char *checked(const struct input *in, uint64_t number, uint64_t count, size_t written)
 {
     uint64_t one, two;
     const char *wrong;
@@ -140,7 +144,9 @@ static const char *checked(const struct input *in, uint64_t number, size_t count
         return "two calls, two answers";
     if (one >> 32 != number)
         return "another number";
-    if ((one & 0xffffffff) != count || memcmp(first.out, wanted, count) != 0 || memcmp(second.out, wanted, count) != 0)
+    if ((one & 0xffffffff) != count)
+        return "another count";
+    if (memcmp(first.out, wanted, written) != 0 || memcmp(second.out, wanted, written) != 0)
         return "other bytes";
     return NULL;
 }
@@ -161,7 +167,9 @@ static int replay(const char *name)
             sscanf(line, "fresh %lu %lu %lu", &in.n, &in.d, &in.own);
         else if (line[0] == 's' || line[0] == 'o')
             in.length = unhex(strchr(line, ' ') + 1, in.bytes);
-        if (strchr("ftsod", line[0])) {
+        else if (line[0] == 'c' && sscanf(line, "certified %lu %lu", &in.view, &in.height) == 2)
+            in.length = unhex(strrchr(line, ' ') + 1, in.bytes);
+        if (strchr("ftsodc", line[0])) {
             in.what = line[0];
             continue;
         }
@@ -169,7 +177,8 @@ static int replay(const char *name)
             continue;
         char *rest;
         uint64_t want = strtoull(line + 2, &rest, 10);
-        const char *wrong = checked(&in, want, unhex(rest + 1, wanted));
+        size_t written = in.what == 'c' ? 0 : unhex(rest + 1, wanted);
+        const char *wrong = checked(&in, want, in.what == 'c' ? strtoull(rest + 1, NULL, 10) : written, written);
         inputs++;
         if (wrong) {
             printf("%s:%lu: %s\n", name, number, wrong);

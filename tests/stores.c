@@ -5,7 +5,7 @@
 
 #include "rows.h"
 
-enum { STATEMENTS = 68, STATEMENT = 80, TALLY = 43, MASK = 2, NAME = 32 };
+enum { STATEMENTS = 68, STATEMENT = 80, TALLY = 47, MASK = 2, NAME = 32 };
 
 static uint8_t good[STATION_STORE_LENGTH_LARGE + 1], store[sizeof good], kept[sizeof good];
 static uint8_t out[STATION_OUT_LENGTH_LARGE];
@@ -52,6 +52,9 @@ static void statement(int i, uint64_t view, uint64_t height, uint64_t name, int 
     put(at + 76, 4, vote);
 }
 
+static int count(int mask) { return (mask & 1) + (mask >> 1 & 1) + (mask >> 2 & 1); }
+
+/* One that first had two of three voters at clock 3, if it has them. */
 static void tally(int i, uint64_t view, uint64_t height, uint64_t name, int mask)
 {
     size_t at = tallies + TALLY * (size_t)i;
@@ -59,6 +62,7 @@ static void tally(int i, uint64_t view, uint64_t height, uint64_t name, int mask
     put(at + 4, 4, height);
     put(at + 32, 8, name);
     put(at + 40, 2, (uint64_t)mask);
+    put(at + 43, 4, count(mask) >= 2 ? 4 : 0);
 }
 
 /* tallies 3 to 2 + count, each opened by station 0 */
@@ -103,6 +107,7 @@ static void every(void)
     answers(4, row->store, "a good store");
     answers(1, row->store - 1, "one byte short");
     answers(1, row->store + 1, "one byte long");
+    answers(1, row->old, "of the length before tallies kept a clock");
     answers(1, 0, "no byte");
     memset(store, 0, row->store), bad("all zero");
     memset(store, 0xff, row->store), bad("all FF");
@@ -124,6 +129,13 @@ static void every(void)
     put(tallies + 42, 1, 2), answers(4, row->store, "a tally opened by one of its voters");
     put(tallies + 42, 1, 3), bad("a tally opened by a station that is no voter of it");
     put(tallies + 42, 1, 4), bad("a tally opened by station n");
+    put(tallies + 43, 4, 0), bad("a quorum without a clock");
+    put(tallies + 43, 4, 10), answers(4, row->store, "a quorum at the present clock");
+    put(tallies + 43, 4, 11), bad("a quorum after the present clock");
+    put(tallies + 43, 4, 0xffffffff), bad("a quorum at no clock");
+    put(tallies + 43, 4, 1), answers(4, row->store, "a quorum at clock 0");
+    put(tallies + 2 * TALLY + 43, 4, 1), bad("a clock without a quorum");
+    put(tallies + 2 * TALLY + 40, 2, 6), bad("one voter more and no clock");
     opened(16), counts(2, 19, 1), answers(4, row->store, "sixteen tallies of one author");
     opened(17), counts(2, 20, 1), bad("seventeen tallies of one author");
     put(blames, 2, 8), bad("blame mask with a bit at n");

@@ -39,7 +39,7 @@ pub fn of(input: &Input) -> (u64, &[u8]) {
         Input::Tick => (1, &[]),
         Input::Offer(name) => (2, name),
         Input::Step(message) => (3, message),
-        Input::Display => unreachable!("a display is no input"),
+        Input::Display | Input::Certified { .. } => unreachable!("a question is no input"),
     }
 }
 

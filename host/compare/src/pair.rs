@@ -3,7 +3,7 @@
 use crate::Met;
 use programs::{Answer, Program, Second, shown};
 use second::replay::Input;
-use station::{Effect, Effects, Size};
+use station::{Effect, Effects, GENESIS, Size};
 
 /// A program under test beside the second one, with the limits of a size. Before the first good
 /// `fresh` there is neither.
@@ -11,11 +11,13 @@ pub struct Pair<P> {
     size: Size,
     tested: Option<P>,
     second: Option<Second>,
+    /// Inputs so far.
+    taken: usize,
 }
 
 impl<P: Program> Pair<P> {
     pub fn new(size: Size) -> Pair<P> {
-        Pair { size, tested: None, second: None }
+        Pair { size, tested: None, second: None, taken: 0 }
     }
 
     pub fn second(&self) -> Option<&second::Station> {
@@ -25,14 +27,19 @@ impl<P: Program> Pair<P> {
     /// Takes an input to both; or how they differ.
     pub fn take(&mut self, input: &Input, met: &mut Met) -> Result<(), String> {
         met.inputs += 1;
+        self.taken += 1;
         if let Input::Fresh { n, d, own } = *input {
             return self.fresh(n, d, own, met);
         }
         let (Some(tested), Some(second)) = (&mut self.tested, &mut self.second) else {
             return Ok(());
         };
-        if *input == Input::Display {
-            return same_state(self.size, tested, second);
+        match input {
+            Input::Display => return same_state(self.size, tested, second),
+            Input::Certified { view, height, name } => {
+                return same_clock(tested, second, *view, *height, name);
+            }
+            _ => {}
         }
         let (got, wanted) = (answer(tested, input), answer(second, input));
         if got != wanted {
@@ -40,7 +47,8 @@ impl<P: Program> Pair<P> {
             return Err(format!("{} answers {got}, second {wanted}", P::TITLE));
         }
         met.count(wanted);
-        same_state(self.size, tested, second)
+        same_state(self.size, tested, second)?;
+        ask(tested, second, self.taken)
     }
 
     fn fresh(&mut self, n: u64, d: u64, own: u64, met: &mut Met) -> Result<(), String> {
@@ -67,7 +75,7 @@ impl<P: Program> Pair<P> {
 fn answer<'a, P: Program>(program: &'a mut P, input: &Input) -> Answer<'a> {
     match input {
         Input::Fresh { .. } => unreachable!("a fresh start is no call on a station"),
-        Input::Display => unreachable!("a display changes nothing, and is part of the state"),
+        Input::Display | Input::Certified { .. } => unreachable!("a question is answered apart"),
         Input::Tick => program.tick(),
         Input::Step(message) => program.step(message),
         Input::Offer(name) => program.offer(name),
@@ -86,6 +94,44 @@ fn same_state<P: Program>(size: Size, tested: &P, second: &Second) -> Result<(),
     }
     if tested.display() != second.display() {
         return Err("the displays differ".into());
+    }
+    Ok(())
+}
+
+/// Asks both, after every fourth input, when one tally was certified, which of them goes by the inputs;
+/// in turn also for what no tally has, and by a name that is too short.
+fn ask<P: Program>(tested: &P, second: &Second, turn: usize) -> Result<(), String> {
+    if !turn.is_multiple_of(4) {
+        return Ok(());
+    }
+    let (turn, tallies) = (turn / 4, second.station().tallies());
+    if tallies.is_empty() {
+        return same_clock(tested, second, 0, 0, &GENESIS);
+    }
+    let second::Block { view, height, name } = tallies[turn % tallies.len()].block;
+    let (view, height, name) = (u64::from(view), u64::from(height), name.to_bytes());
+    match turn % 16 {
+        0 => same_clock(tested, second, view | 1 << 32, height, &name),
+        1 => same_clock(tested, second, view, height | 1 << 32, &name),
+        2 => same_clock(tested, second, view + 1, height, &name),
+        3 => same_clock(tested, second, view, height + 1, &name),
+        4 => same_clock(tested, second, view, height, &name[1..]),
+        _ => same_clock(tested, second, view, height, &name),
+    }
+}
+
+fn same_clock<P: Program>(
+    tested: &P,
+    second: &Second,
+    view: u64,
+    height: u64,
+    name: &[u8],
+) -> Result<(), String> {
+    let got = tested.certified(view, height, name);
+    let wanted = second.certified(view, height, name);
+    if got != wanted {
+        let title = P::TITLE;
+        return Err(format!("certified {view} {height}: {title} answers {got}, second {wanted}"));
     }
     Ok(())
 }

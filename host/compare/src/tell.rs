@@ -46,6 +46,9 @@ impl Teller {
             Line::Input(Input::Tick) => self.ticks(number, 1),
             Line::Ticks(count) => self.ticks(number, count),
             Line::Input(Input::Display) => self.display(number),
+            Line::Input(Input::Certified { view, height, name }) => {
+                self.certified(number, view, height, &name);
+            }
             Line::Input(input) => self.input(number, &input),
             Line::Log => self.log(number),
             Line::State => self.state(number),
@@ -75,7 +78,7 @@ impl Teller {
             Input::Tick => station.tick(),
             Input::Step(message) => station.step(message),
             Input::Offer(name) => station.offer(name),
-            Input::Display => unreachable!("a display is told apart"),
+            Input::Display | Input::Certified { .. } => unreachable!("a question is told apart"),
         };
         (answer.number, answer.out.to_vec())
     }
@@ -86,7 +89,7 @@ impl Teller {
             Input::Tick => "tick",
             Input::Step(_) => "message",
             Input::Offer(_) => "offer",
-            Input::Display => "display",
+            Input::Display | Input::Certified { .. } => unreachable!("a question is told apart"),
         };
         let (refusal, out) = self.answer(input);
         self.answered(number, what, refusal, &out);
@@ -204,6 +207,18 @@ impl Teller {
             let field = words::hex(field);
             self.print(format_args!("  shown: height {height} name {name}, {left} # {field}"));
         }
+    }
+
+    /// When a block was certified.
+    fn certified(&mut self, number: usize, view: u64, height: u64, name: &[u8]) {
+        let Some(station) = &self.station else {
+            return self.answered(number, "certified", 2, &[]);
+        };
+        let said = match station.station().certified(view, height, name) {
+            Ok(Some(clock)) => format!("at clock {clock}"),
+            _ => "none".into(),
+        };
+        self.print(format_args!("line {number}: certified: {said}"));
     }
 
     fn state(&mut self, number: usize) {

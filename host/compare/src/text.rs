@@ -85,6 +85,12 @@ pub fn line(bytes: &[u8]) -> Option<Line> {
             let name = words.name("name")?;
             words.0.is_empty().then_some(Line::Slip(name))?
         }
+        ["certified", ref words @ ..] => {
+            let mut words = Words(words);
+            let (view, height) = (words.four("view")?.into(), words.four("height")?.into());
+            let name = words.name("name")?.to_vec();
+            words.0.is_empty().then_some(Line::Input(Input::Certified { view, height, name }))?
+        }
         ["choose", first, other] => Line::Choose(replay::bytes(first)?, replay::bytes(other)?),
         [kind, ref words @ ..] => Line::Input(Input::Step(message(kind, words)?.encode())),
     })

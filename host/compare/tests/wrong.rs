@@ -17,6 +17,8 @@ const DEAF: u32 = 2;
 const FORGETFUL: u32 = 3;
 /// It shows one tick less than is left.
 const HASTY: u32 = 4;
+/// It tells the clock before the one at which a block was certified.
+const EARLY: u32 = 5;
 
 impl<const HOW: u32> Program for Wrong<HOW> {
     const TITLE: &'static str = "wrong";
@@ -71,6 +73,14 @@ impl<const HOW: u32> Program for Wrong<HOW> {
         display
     }
 
+    fn certified(&self, view: u64, height: u64, name: &[u8]) -> u64 {
+        let answer = self.station.certified(view, height, name);
+        match HOW == EARLY && (2..1 << 32).contains(&answer) {
+            true => answer - 1,
+            false => answer,
+        }
+    }
+
     fn shown(&self) -> Vec<u8> {
         self.station.shown()
     }
@@ -120,6 +130,15 @@ fn a_hasty_display_is_found() {
     let lines: Vec<&str> = script.lines().collect();
     assert_eq!(lines.len(), 2);
     assert!(lines[0].starts_with("fresh ") && lines[1].starts_with("message 01000102"));
+}
+
+/// A tick, and what certifies a block after it. Which tally is asked about goes by the inputs, so that
+/// some more may be left.
+#[test]
+fn an_early_clock_is_found() {
+    let script = found::<Wrong<EARLY>>();
+    assert!(script.contains("tick"), "{script}");
+    assert!(script.lines().count() <= 30, "{script}");
 }
 
 #[test]

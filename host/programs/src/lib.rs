@@ -35,6 +35,8 @@ pub trait Program: Sized {
     fn lock(&self) -> Lock;
     fn log(&self) -> Vec<Name>;
     fn display(&self) -> Vec<Shown>;
+    /// When a block was certified, as the call answers: refusal * 2^32 + count.
+    fn certified(&self, view: u64, height: u64, name: &[u8]) -> u64;
 
     /// Its state as the bytes of a store, but for what only one of the programs shows.
     fn shown(&self) -> Vec<u8>;

@@ -58,6 +58,10 @@ impl Program for Proved {
         self.station.display()
     }
 
+    fn certified(&self, view: u64, height: u64, name: &[u8]) -> u64 {
+        ffi::certified(self.station.store(), view, height, name)
+    }
+
     fn shown(&self) -> Vec<u8> {
         let mut store = self.station.store().to_vec();
         shown::hide(self.station.size(), &mut store);

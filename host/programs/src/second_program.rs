@@ -77,6 +77,13 @@ impl Program for Second {
             .collect()
     }
 
+    fn certified(&self, view: u64, height: u64, name: &[u8]) -> u64 {
+        match self.station.certified(view, height, name) {
+            Ok(clock) => clock.map_or(0, |clock| u64::from(clock) + 1),
+            Err(number) => u64::from(number) << 32,
+        }
+    }
+
     fn shown(&self) -> Vec<u8> {
         shown::store_of(self.size, &self.station)
     }

@@ -23,10 +23,12 @@ pub fn store_of(size: Size, station: &Station) -> Vec<u8> {
     header(station, &mut store);
     statements(station, &mut store);
     store.resize(size.tallies_at(), 0);
-    for (tally, opener) in station.tallies().iter().zip(station.openers()) {
+    let kept = station.openers().iter().zip(station.reached());
+    for (tally, (opener, reached)) in station.tallies().iter().zip(kept) {
         block(&tally.block, &mut store);
         store.extend(tally.mask.to_be_bytes());
         store.push(opener.map_or(0, |author| author + 1));
+        store.extend(reached.map_or(0, |clock| clock + 1).to_be_bytes());
     }
     store.resize(size.blames_at(), 0);
     for view in 1..=size.views() {

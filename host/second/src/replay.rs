@@ -1,5 +1,6 @@
 //! Recorded runs of one station: `fresh N D OWN`, `tick`, `step HEX`, `offer HEX` or `display`, each
-//! followed by `= CODE HEXOUT`, with `-` for no bytes and lines of `#` to people. Read, written and replayed.
+//! followed by `= CODE HEXOUT`, with `-` for no bytes, or `certified VIEW HEIGHT HEXNAME`, followed by
+//! `= CODE COUNT`; and lines of `#` to people. Read, written and replayed.
 
 use crate::settings::Limits;
 use crate::station::Station;
@@ -18,13 +19,20 @@ pub enum Input {
     Offer(Vec<u8>),
     /// The wall display, which changes nothing.
     Display,
+    /// When a block was certified, which changes nothing either.
+    Certified {
+        view: u64,
+        height: u64,
+        name: Vec<u8>,
+    },
 }
 
-/// What comes back: 01's number, and the bytes written.
+/// What comes back: 01's number, and the bytes written; of a call that writes none, its count.
 #[derive(Clone, Debug, Default, PartialEq, Eq)]
 pub struct Answer {
     pub code: u32,
     pub out: Vec<u8>,
+    pub count: Option<u32>,
 }
 
 /// One input with its answer, and the line it stood in.
@@ -54,7 +62,7 @@ impl Run {
 
     /// The answer to one input; none if there is no station yet.
     pub fn answer(&mut self, input: &Input) -> Option<Answer> {
-        let mut out = Vec::new();
+        let (mut out, mut count) = (Vec::new(), None);
         let code = match input {
             Input::Fresh { n, d, own } => self.fresh(*n, *d, *own),
             Input::Tick => self.station.as_mut()?.tick(&mut out),
@@ -64,8 +72,14 @@ impl Run {
                 self.station.as_ref()?.show(&mut out);
                 0
             }
+            Input::Certified { view, height, name } => {
+                let answer = self.station.as_ref()?.certified(*view, *height, name);
+                // 0 for none, else one more than the clock
+                count = Some(answer.map_or(0, |clock| clock.map_or(0, |clock| clock + 1)));
+                answer.err().unwrap_or(0)
+            }
         };
-        Some(Answer { code, out })
+        Some(Answer { code, out, count })
     }
 
     fn fresh(&mut self, n: u64, d: u64, own: u64) -> u32 {
@@ -105,7 +119,8 @@ pub fn parse(text: &str) -> Result<Vec<Event>, String> {
         let bad = |what: &str| format!("line {line}: {what}");
         let input = parse_input(words).ok_or_else(|| bad("not an input"))?;
         let (_, words) = lines.next().ok_or_else(|| bad("no answer follows"))?;
-        let answer = parse_answer(words).ok_or_else(|| bad("not an answer"))?;
+        let counts = matches!(input, Input::Certified { .. });
+        let answer = parse_answer(words, counts).ok_or_else(|| bad("not an answer"))?;
         events.push(Event { line, input, answer });
     }
     Ok(events)
@@ -126,14 +141,23 @@ fn parse_input(line: &str) -> Option<Input> {
         ["step", message] => bytes(message).map(Input::Step),
         ["offer", name] => bytes(name).map(Input::Offer),
         ["display"] => Some(Input::Display),
+        ["certified", view, height, name] => Some(Input::Certified {
+            view: number(view)?,
+            height: number(height)?,
+            name: bytes(name)?,
+        }),
         _ => None,
     }
 }
 
-fn parse_answer(line: &str) -> Option<Answer> {
+fn parse_answer(line: &str, counts: bool) -> Option<Answer> {
     let words: Vec<&str> = line.split_whitespace().collect();
-    let ["=", code, out] = words[..] else { return None };
-    Some(Answer { code: code.parse().ok()?, out: bytes(out)? })
+    let ["=", code, said] = words[..] else { return None };
+    let code = code.parse().ok()?;
+    if counts {
+        return Some(Answer { code, out: Vec::new(), count: Some(said.parse().ok()?) });
+    }
+    Some(Answer { code, out: bytes(said)?, count: None })
 }
 
 /// The bytes that a word of hex, or `-`, stands for.
@@ -168,6 +192,9 @@ impl fmt::Display for Input {
             Input::Step(message) => write!(f, "step {}", Hex(message)),
             Input::Offer(name) => write!(f, "offer {}", Hex(name)),
             Input::Display => f.write_str("display"),
+            Input::Certified { view, height, name } => {
+                write!(f, "certified {view} {height} {}", Hex(name))
+            }
         }
     }
 }
@@ -180,6 +207,9 @@ impl fmt::Display for Event {
 
 impl fmt::Display for Answer {
     fn fmt(&self, f: &mut fmt::Formatter<'_>) -> fmt::Result {
-        write!(f, "= {} {}", self.code, Hex(&self.out))
+        match self.count {
+            Some(count) => write!(f, "= {} {count}", self.code),
+            None => write!(f, "= {} {}", self.code, Hex(&self.out)),
+        }
     }
 }

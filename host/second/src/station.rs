@@ -46,6 +46,8 @@ pub struct Station {
     pub(crate) tallies: Vec<Tally>,
     /// Who opened each tally: nobody, or the author of a vote.
     pub(crate) openers: Vec<Option<u8>>,
+    /// When each tally was certified: the clock at which it first reached a quorum, or none.
+    pub(crate) reached: Vec<Option<u32>>,
     /// The blame mask of each view, and one for view 0 that nobody joins.
     pub(crate) blames: Vec<u16>,
     /// The block of height h is entry h-1.
@@ -69,6 +71,7 @@ impl Station {
             voted: Vec::with_capacity(limits.statements),
             tallies: Vec::with_capacity(limits.tallies),
             openers: Vec::with_capacity(limits.tallies),
+            reached: Vec::with_capacity(limits.tallies),
             blames: vec![0; limits.views as usize + 1],
             log: Vec::with_capacity(limits.statements),
         })
@@ -127,6 +130,25 @@ impl Station {
     /// Who opened each tally: nobody, or the author of a vote.
     pub fn openers(&self) -> &[Option<u8>] {
         &self.openers
+    }
+
+    /// The clock at which each tally first reached a quorum, or none.
+    pub fn reached(&self) -> &[Option<u32>] {
+        &self.reached
+    }
+
+    /// "When was it certified?" The clock at which the tally of this block first reached a quorum; none
+    /// without a quorum or without such a tally, as for genesis in view 0. Refusal 1 for a name of another
+    /// length.
+    pub fn certified(&self, view: u64, height: u64, name: &[u8]) -> Result<Option<u32>, u32> {
+        let Ok(name) = <[u8; Name::BYTES]>::try_from(name) else {
+            return Err(Refusal::Length as u32);
+        };
+        let (Ok(view), Ok(height)) = (view.try_into(), height.try_into()) else {
+            return Ok(None);
+        };
+        let place = self.tally(&Block { view, height, name: Name::from_bytes(name) });
+        Ok(place.and_then(|place| self.reached[place]))
     }
 
     /// The blame mask of a view; none outside the limits.
@@ -377,6 +399,8 @@ impl Station {
     fn open(&mut self, tally: Tally, opener: Option<u8>) {
         self.tallies.push(tally);
         self.openers.push(opener);
+        self.reached.push(None);
+        self.look(self.tallies.len() - 1);
     }
 
     /// How many tallies an author has opened by vote messages.
@@ -386,6 +410,15 @@ impl Station {
 
     fn grow(&mut self, place: usize, mask: u16) {
         self.tallies[place] = self.tallies[place].joined(mask);
+        self.look(place);
+    }
+
+    /// "Each tally should keep the clock at which it first reached a quorum in this store, or none."
+    fn look(&mut self, place: usize) {
+        let (reached, mask) = (&mut self.reached[place], self.tallies[place].mask);
+        if reached.is_none() && self.settings.full(mask) {
+            *reached = Some(self.clock);
+        }
     }
 
     /// 3: "already stopped".

@@ -302,7 +302,7 @@ mod tests {
                     }
                     Input::Step(message) => drop(after.step(message, &mut Vec::new())),
                     Input::Offer(name) => drop(after.offer(name, &mut Vec::new())),
-                    Input::Display => {}
+                    Input::Display | Input::Certified { .. } => {}
                     Input::Tick => {
                         let number = after.tick(&mut Vec::new());
                         let before = before.as_ref().unwrap();

@@ -162,6 +162,10 @@ impl<const HASTY: bool> Program for Wrong<HASTY> {
         self.0.display()
     }
 
+    fn certified(&self, view: u64, height: u64, name: &[u8]) -> u64 {
+        self.0.certified(view, height, name)
+    }
+
     fn shown(&self) -> Vec<u8> {
         self.0.shown()
     }

@@ -1,10 +1,10 @@
-//! A slip in words: the verdict, each entry, and what a slip doesn't show. No line has more than 80
-//! columns.
+//! A slip in words: the verdict, each entry, when a store saw each certified, and what a slip doesn't
+//! show. No line has more than 80 columns.
 
 #![forbid(unsafe_code)]
 
 use programs::words::{hex, stations};
-use station::{BadSlip, Message, Size, Slip};
+use station::{BadSlip, Message, Size, Slip, Station};
 use std::fmt::Write;
 
 /// What a slip doesn't show.
@@ -35,11 +35,23 @@ pub fn bytes(input: &[u8]) -> Vec<u8> {
 
 /// What is on a slip of a group of n stations; why nothing could be checked.
 pub fn tell(size: Size, n: u64, input: &[u8]) -> Result<Told, String> {
+    told(size, n, None, input)
+}
+
+/// What is on a slip of a station's group, and when that station saw each entry certified.
+pub fn tell_by(station: &Station, input: &[u8]) -> Result<Told, String> {
+    told(station.size(), station.stations().into(), Some(station), input)
+}
+
+fn told(size: Size, n: u64, station: Option<&Station>, input: &[u8]) -> Result<Told, String> {
     let bytes = bytes(input);
     let mut said = String::new();
     let is_accepted = match Slip::check(size, n, &bytes) {
         Ok(slip) => {
             accepted(&slip, n, &mut said);
+            if let Some(station) = station {
+                seen(&slip, station, &mut said);
+            }
             true
         }
         Err(BadSlip::Place(place)) => {
@@ -68,6 +80,25 @@ fn accepted(slip: &Slip<'_>, n: u64, said: &mut String) {
         let name = hex(&name[..6]);
         writeln!(said, "{place:5} {height:6} {view:4} {author:6}  {name}..  {}", stations(mask))
             .unwrap();
+    }
+}
+
+/// When a station saw each entry certified: the clock at which it first had f+1 votes for the block, in
+/// the entry's own view or in that of the entry above, which certifies it.
+fn seen(slip: &Slip<'_>, station: &Station, said: &mut String) {
+    let (own, clock) = (station.own(), station.clock());
+    writeln!(said, "\nseen certified by station {own}, whose clock is {clock} now").unwrap();
+    said.push_str("place height  at clock\n");
+    let mut above = None;
+    for (place, entry) in slip.entries().enumerate() {
+        let Message::Propose { view, height, name, .. } = entry else {
+            unreachable!("a checked slip has proposes alone")
+        };
+        let views = [Some(view), above].into_iter().flatten();
+        let first = views.filter_map(|view| station.certified(view, height, &name)).min();
+        let first = first.map_or("not seen".into(), |clock| clock.to_string());
+        writeln!(said, "{place:5} {height:6}  {first}").unwrap();
+        above = Some(view);
     }
 }
 

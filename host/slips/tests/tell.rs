@@ -1,7 +1,7 @@
 //! What the program says of slips, good and bad.
 
-use slips::tell;
-use station::{GENESIS, Message, Name, Size};
+use slips::{tell, tell_by};
+use station::{GENESIS, Message, Name, Size, Station};
 use std::io::Write;
 use std::process::{Command, Output, Stdio};
 
@@ -129,6 +129,78 @@ fn fifteen_stations_fit_a_line() {
     assert!(told.is_accepted && told.said.lines().all(|line| line.len() <= 80), "{}", told.said);
 }
 
+/// Three blocks: the first was certified by a vote before the next entry came, the second by the third,
+/// the top by nobody.
+fn station(size: Size) -> Station {
+    let mut station = Station::fresh(size, 3, 2, 2).expect("good settings");
+    for height in 1..=3 {
+        for _ in 0..2 {
+            station.tick().expect("a tick");
+        }
+        station.step(&propose(height).encode()).expect("a good propose");
+        if height == 1 {
+            let vote = Message::Vote { view: 1, height, name: name(height), author: 0 };
+            station.step(&vote.encode()).expect("a good vote");
+        }
+    }
+    for _ in 0..5 {
+        station.tick().expect("a tick");
+    }
+    station
+}
+
+#[test]
+fn when_a_store_saw_each_certified() {
+    for size in Size::ALL {
+        let station = station(size);
+        let slip = station.slip(&name(3)).expect("a logged block");
+        assert_eq!(slip, good(3));
+        let (_, plain) = said(&slip);
+        let told = tell_by(&station, &slip).expect("a group of three");
+        let seen = "\nseen certified by station 2, whose clock is 11 now\n\
+                    place height  at clock\n    \
+                        0      3  not seen\n    \
+                        1      2  6\n    \
+                        2      1  2\n";
+        let expected = plain.replace(END, &format!("{seen}{END}"));
+        assert_eq!((told.is_accepted, told.said), (true, expected));
+        // one that is refused has no entries to speak of
+        let bad = tell_by(&station, &slip[1..]).expect("a group of three");
+        assert_eq!((bad.is_accepted, bad.said), (false, said(&slip[1..]).1));
+    }
+}
+
+/// A block certified anew in the view of the entry above: the earlier clock counts.
+#[test]
+fn certified_in_another_view() {
+    let first =
+        Message::Propose { view: 1, height: 1, name: name(1), parent: GENESIS, mask: 3, author: 1 };
+    let above =
+        Message::Propose { view: 2, height: 2, name: name(2), parent: name(1), mask: 6, author: 2 };
+    let slip = slip_of(name(2), &[above, first]);
+    let status = Message::Status { height: 1, name: name(1), certificate_view: 1, mask: 5 };
+    for (messages, first) in [
+        (vec![(2, above), (4, status)], 2),
+        (vec![(3, status), (5, above)], 3),
+        (vec![(6, status)], 6),
+        (vec![(7, above)], 7),
+    ] {
+        let mut station = Station::fresh(Size::Small, 3, 2, 0).expect("good settings");
+        for (clock, message) in messages {
+            while station.clock() < clock {
+                station.tick().expect("a tick");
+            }
+            station.step(&message.encode()).expect("a good message");
+        }
+        let told = tell_by(&station, &slip).expect("a group of three").said;
+        let seen = format!("    0      2  not seen\n    1      1  {first}\n");
+        assert!(told.contains(&seen), "{told}");
+    }
+    let nothing = Station::fresh(Size::Small, 3, 2, 0).expect("good settings");
+    let told = tell_by(&nothing, &slip).expect("a group of three").said;
+    assert!(told.contains("    0      2  not seen\n    1      1  not seen\n"), "{told}");
+}
+
 fn run(words: &[&str], input: &[u8]) -> Output {
     let mut program = Command::new(env!("CARGO_BIN_EXE_slip"))
         .args(words)
@@ -168,4 +240,23 @@ fn what_can_not_be_checked() {
         assert_eq!((output.status.code(), output.stdout.len()), (Some(2), 0), "{words:?}");
     }
     assert_eq!(run(&["--large", "3"], &good(1)).status.code(), Some(0));
+}
+
+/// A kept store says its group; a file that is none can't be asked.
+#[test]
+fn with_a_kept_store() {
+    let place = std::env::temp_dir().join(format!("slip-{}", std::process::id()));
+    let path = place.to_str().expect("a path of letters");
+    for size in Size::ALL {
+        let station = station(size);
+        std::fs::write(&place, station.store()).expect("a place to write");
+        let output = run(&["--store", path], &good(3));
+        let told = tell_by(&station, &good(3)).expect("a group of three");
+        assert_eq!((output.status.code(), output.stdout), (Some(0), told.said.into_bytes()));
+        assert_eq!(run(&["--store", path], &good(3)[1..]).status.code(), Some(1));
+        std::fs::write(&place, &station.store()[1..]).expect("a place to write");
+        assert_eq!(run(&["--store", path], &good(3)).status.code(), Some(2));
+    }
+    std::fs::remove_file(&place).expect("the file");
+    assert_eq!(run(&["--store", path], &good(3)).status.code(), Some(2));
 }

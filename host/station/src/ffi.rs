@@ -33,6 +33,14 @@ mod declared {
             out: *mut u8,
             out_len: usize,
         ) -> u64;
+        pub fn station_certified(
+            store: *const u8,
+            store_len: usize,
+            view: u64,
+            height: u64,
+            name: *const u8,
+            name_len: usize,
+        ) -> u64;
         pub fn status_choose(
             kind: u64,
             n: u64,
@@ -136,6 +144,21 @@ pub fn offer(store: &mut [u8], name: &[u8], out: &mut [u8]) -> u64 {
 /// The wall display, which leaves the store as it is.
 pub fn display(store: &[u8], out: &mut [u8]) -> u64 {
     unsafe { declared::station_display(store.as_ptr(), store.len(), out.as_mut_ptr(), out.len()) }
+}
+
+/// When a block was certified, which leaves the store as it is. Count: 0 for none, else one more than
+/// the clock.
+pub fn certified(store: &[u8], view: u64, height: u64, name: &[u8]) -> u64 {
+    unsafe {
+        declared::station_certified(
+            store.as_ptr(),
+            store.len(),
+            view,
+            height,
+            name.as_ptr(),
+            name.len(),
+        )
+    }
 }
 
 /// Whose certificate part to take: 1 the first's, 2 the second's, 0 neither's.

@@ -263,6 +263,30 @@ impl Station {
         display::read(&out[..count])
     }
 
+    /// When it saw a block certified in a view: the clock at which f+1 stations had first voted there, as
+    /// far as it knew. None as long as they haven't, and for genesis in view 0, which needs no votes.
+    /// A stopped station tells it too.
+    ///
+    /// ```
+    /// use station::{Message, Size, Station};
+    ///
+    /// let mut station = Station::fresh(Size::Small, 3, 2, 2)?;
+    /// let vote = |author| Message::Vote { view: 1, height: 1, name: [7; 32], author }.encode();
+    /// station.step(&vote(0))?;
+    /// station.tick()?;
+    /// assert_eq!(station.certified(1, 1, &[7; 32]), None);
+    /// station.step(&vote(1))?;
+    /// station.tick()?;
+    /// assert_eq!(station.certified(1, 1, &[7; 32]), Some(1));
+    /// # Ok::<(), station::Refusal>(())
+    /// ```
+    pub fn certified(&self, view: u32, height: u32, name: &Name) -> Option<u32> {
+        let result = ffi::certified(&self.store, view.into(), height.into(), name);
+        let count = answer(result).expect("a well-formed store");
+        // 0 for none, else one more than the clock
+        count.checked_sub(1).map(|clock| clock as u32)
+    }
+
     /// The slip of a logged block, for [`Slip::check`](crate::Slip::check); a stopped station has
     /// them too. Refusal: 15.
     pub fn slip(&self, name: &Name) -> Result<Vec<u8>, Refusal> {

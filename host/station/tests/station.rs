@@ -106,6 +106,45 @@ fn views_end_where_the_size_says() {
     }
 }
 
+/// A store has a clock for what f+1 stations voted for, which later votes leave, and a tick joins the
+/// new one.
+#[test]
+fn certified_when_a_quorum_was_first_there() {
+    for size in Size::ALL {
+        let mut station = Station::fresh(size, 3, 2, 1).unwrap();
+        let vote = |author| Message::Vote { view: 1, height: 0, name: GENESIS, author }.encode();
+        station.step(&vote(0)).unwrap();
+        run_to(&mut station, 4);
+        assert_eq!(station.certified(1, 0, &GENESIS), None);
+        run_to(&mut station, 5);
+        assert_eq!(station.certified(1, 0, &GENESIS), Some(5));
+        run_to(&mut station, 6);
+        station.step(&vote(2)).unwrap();
+        assert_eq!(station.certified(1, 0, &GENESIS), Some(5));
+        station.step(&propose(1, FIRST, GENESIS).encode()).unwrap();
+        assert_eq!(station.certified(1, 1, &FIRST), None);
+        let status = Message::Status { height: 1, name: FIRST, certificate_view: 1, mask: 0b101 };
+        station.step(&status.encode()).unwrap();
+        assert_eq!(station.certified(1, 1, &FIRST), Some(6));
+        for (view, height, name) in
+            [(0, 0, GENESIS), (2, 1, FIRST), (1, 2, FIRST), (u32::MAX, 1, FIRST)]
+        {
+            assert_eq!(station.certified(view, height, &name), None);
+        }
+        let again = Station::from_store(station.store()).unwrap();
+        assert_eq!(again.certified(1, 1, &FIRST), Some(6));
+    }
+}
+
+/// A store from before tallies had clocks has neither length.
+#[test]
+fn old_stores_are_refused_by_their_length() {
+    for size in Size::ALL {
+        let old = size.store_length() - 4 * size.tallies();
+        assert_eq!(Station::from_store(&vec![0; old]).err(), Some(Refusal::Length));
+    }
+}
+
 #[test]
 fn kept_stores_go_on_where_they_were() {
     let mut station = Station::fresh(Size::Small, 5, 3, 4).unwrap();
@@ -150,6 +189,8 @@ fn lengths_are_looked_at_first() {
         assert_eq!(station::ffi::tick(&mut store, &mut out[1..]), one);
         assert_eq!(station::ffi::step(&mut [], &[], &mut out), one);
         assert_eq!(station::ffi::offer(&mut store, &[7; 31], &mut out), one);
+        assert_eq!(station::ffi::certified(&store[1..], 1, 1, &[7; 32]), one);
+        assert_eq!(station::ffi::certified(&store, 1, 1, &[7; 31]), one);
         assert!(store.iter().all(|&byte| byte == 0x5a) && out.iter().all(|&byte| byte == 0xa5));
     }
 }

@@ -95,6 +95,14 @@ impl Look<'_> {
             && Self::block(four(s, at + 4), name(s, at + 8))
             && u64::from(two(s, at + 40)) < 1 << self.n
             && self.opener(two(s, at + 40), s[at + 42])
+            && self.reached(two(s, at + 40), four(s, at + 43))
+    }
+
+    /// Whether the clock at which a tally first had f+1 voters is there exactly when it has them, and not
+    /// after the present one.
+    fn reached(&self, mask: u16, reached: u32) -> bool {
+        let has_quorum = u64::from(mask.count_ones()) > self.n / 2;
+        has_quorum == (reached > 0) && reached <= four(self.s, 16) + 1
     }
 
     /// Whether who opened a tally by a vote is one of these stations, and among its voters.
@@ -244,6 +252,7 @@ fn store(size: Size, blocks: usize, tallies: usize, ends: usize) -> Vec<u8> {
         put(&mut s, at + 4, 4, height);
         put(&mut s, at + 32 - ends, 8, height);
         put(&mut s, at + 40, 2, 3);
+        put(&mut s, at + 43, 4, 1);
         if height > 0 {
             let at = STATEMENTS + STATEMENT * (height - 1);
             put(&mut s, at, 4, 1);

@@ -1,6 +1,6 @@
 //! What the tests share: messages built by hand, byte by byte, and a bench that a station is put on.
 
-use second::{Cause, Limits, Phase, Station};
+use second::{Cause, Limits, Name, Phase, Station};
 
 pub type Bytes = Vec<u8>;
 
@@ -202,6 +202,11 @@ impl Bench {
         });
         found.map(|tally| tally.mask)
     }
+
+    /// When a tally first reached a quorum.
+    pub fn certified(&self, view: u32, height: u32, name: [u8; 32]) -> Option<u32> {
+        self.station.certified(view.into(), height.into(), &name).expect("a name of 32 bytes")
+    }
 }
 
 /// Everything that a station shows, but its phase.
@@ -209,7 +214,8 @@ pub fn all_but_phase(station: &Station) -> impl PartialEq + std::fmt::Debug + '_
     let clocks = (station.view(), station.clock(), station.entry());
     let views = 0..=station.settings().limits().views;
     let blames: Vec<u16> = views.map(|view| station.blames(view)).collect();
-    let log: Vec<second::Name> = station.log().collect();
+    let log: Vec<Name> = station.log().collect();
     let (settings, lock) = (station.settings(), station.lock());
-    (settings, clocks, lock, station.statements(), station.tallies(), blames, log)
+    let tallies = (station.tallies(), station.openers(), station.reached());
+    (settings, clocks, lock, station.statements(), tallies, blames, log)
 }

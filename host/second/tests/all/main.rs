@@ -2,6 +2,7 @@
 //! program, so that it builds fast.
 
 mod bench;
+mod certified;
 mod common;
 mod journals;
 mod limits;

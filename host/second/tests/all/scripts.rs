@@ -81,6 +81,12 @@ fn stations_stay_in_order() {
                 assert_eq!(station.phase() != before.phase(), (6..=8).contains(&number));
             }
             assert_in_order(station);
+            // "the clock at which it first reached a quorum" is what the clock then was, and stays
+            let earlier = before.as_ref().map_or(&[][..], Station::reached);
+            for (place, reached) in station.reached().iter().enumerate() {
+                let known = earlier.get(place).copied().flatten();
+                assert_eq!(*reached, known.or(reached.map(|_| station.clock())));
+            }
             before = Some(station.clone());
             if event.line > 1600 {
                 break;
@@ -105,6 +111,9 @@ fn assert_in_order(station: &Station) {
     for (place, tally) in tallies.iter().enumerate() {
         assert!(tally.block.view >= 1);
         assert!(!tallies[..place].iter().any(|old| old.block == tally.block));
+        let reached = station.reached()[place];
+        assert_eq!(reached.is_some(), station.settings().full(tally.mask));
+        assert!(reached.is_none_or(|clock| clock <= station.clock()));
     }
     let mut parent = second::Name::ZERO;
     for (height, name) in (1..).zip(station.log()) {

@@ -23,6 +23,7 @@ recorded! {
     fuzz_008: "fuzz-008.txt",
     damage_6: "damage-6.txt",
     ahead: "ahead.txt",
+    quorums: "quorums.txt",
 }
 
 recorded! {
@@ -32,13 +33,17 @@ recorded! {
 
 #[test]
 fn another_answer_is_found() {
-    let replay = |text| second::replay::replay(Limits::SMALL, text);
+    let replay = |text: &str| second::replay::replay(Limits::SMALL, text);
     assert_eq!(replay("fresh 3 1 0\n= 0 -\n# a remark\ntick\n= 0 -\n"), Ok(2));
     assert!(replay("fresh 3 1 0\n= 10 -\n").is_err());
     assert!(replay("fresh 3 1 0\n= 0 -\ntick\n= 0 00\n").is_err());
     assert!(replay("tick\n= 0 -\n").is_err());
     assert!(replay("fresh 3 1 0\n").is_err());
     assert!(replay("step 0\n= 4 -\n").is_err());
+    let asked = |answer| format!("fresh 3 1 0\n= 0 -\ncertified 1 0 {:064}\n= {answer}\n", 0);
+    assert_eq!(replay(&asked("0 0")), Ok(2));
+    assert!(replay(&asked("0 1")).is_err() && replay(&asked("1 0")).is_err());
+    assert!(replay(&asked("0 -")).is_err());
     // A refused fresh start leaves the station of before.
     assert_eq!(replay("fresh 3 1 0\n= 0 -\nfresh 4 1 0\n= 10 -\ntick\n= 0 -\n"), Ok(3));
 }
