@@ -88,7 +88,7 @@ moved s t u o g e m =
           (subst (λ (d : ℕ). Law (t .settings) d q (t .tallies) (u .tallies)) (sym c) (moves-law t u o m q)));
     }
 
-stays : (s : State) → Clocked s s
+pub stays : (s : State) → Clocked s s
 stays s = record { settings = refl; block = λ q. law-refl (s .settings) (s .clock) q (s .tallies) }
 
 module _ (s : State) where

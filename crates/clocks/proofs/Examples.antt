@@ -1,14 +1,17 @@
--- One run, evaluated: two voters at clock 3 are the first quorum of three stations, and a third at clock 4 moves no clock.
--- Assumes nothing.
+-- A run, evaluated: two voters at clock 3 are the first quorum of three stations, and a third at clock 4 moves no clock. And two
+-- well-formed states that differ in the clock alone. Assumes nothing.
 use mathlib.Core.Path.{_≡_, refl}
 use Prim.Native.Nat.{ℕ}
-use mathlib.Core.Bool.{false}
+use mathlib.Core.Bool.{true, false}
 use mathlib.Core.List.{[], _∷_}
 use mathlib.Core.Option.{none, some}
 use lib.ListN.{getD}
 use Rattle.rules.specs.Messages.{vote}
-use Rattle.rules.specs.Words.{Certificate, reachedOf, fresh}
+use Rattle.rules.specs.Words.{Certificate, reachedOf, State, fresh}
+use Rattle.rules.specs.Inputs.{withTables, withClock}
+use Rattle.rules.specs.WellFormed.{wellFormed}
 use Rattle.rules.specs.Script.{Input, ticks, hears, group}
+use Rattle.clocks.specs.Forget.{forget, Alike}
 use Rattle.clocks.specs.Runs.{after, keptAt, hasQuorum}
 
 inputs : ℕ → Input
@@ -28,3 +31,16 @@ two-voters = refl
 three-voters : (keptAt (after (fresh (group 0)) inputs) block 7 ≡ some 3) × (after (fresh (group 0)) inputs 7 .clock ≡ 4)
 unfolding inputs block reachedOf after fresh group
 three-voters = (refl, refl)
+
+-- a station at clock 3 that keeps clock c of this quorum
+keeping : ℕ → State
+keeping c = withTables [] (record { view = 1; height = 1; name = 77; mask = 3; opener = none; reached = some c } ∷ []) (withClock 3 (fresh (group 0)))
+
+-- both are well formed, and differ in the clock alone
+alike-but-for-clocks : Alike (keeping 1) (keeping 3)
+unfolding keeping forget withTables
+alike-but-for-clocks = refl
+
+both-formed : (wellFormed (keeping 1) ≡ true) × (wellFormed (keeping 3) ≡ true)
+unfolding keeping wellFormed withTables withClock fresh group
+both-formed = (refl, refl)

@@ -33,6 +33,13 @@ pub certificate-same : (k : Moment) (t : Certificate) (us vs : List Tally) → S
 unfolding joinCertificate
 certificate-same k t us vs e = by-bool (eqb (t .view) 0) (λ q. rw (q, joinCertificate) e) (λ q. rw (q, joinCertificate) (join-same k t us vs e))
 
+-- without the clocks, joining hangs on who opens the tally, and not on when
+pub join-timeless : (k l : Moment) → k .opener ≡ l .opener → (t : Certificate) (us : List Tally) → Same (join k t us) (join l t us)
+unfolding join grown clockless
+join-timeless k l e t [] = rw e
+join-timeless k l e t (u ∷ us) =
+    by-bool (sameBlock t (certificateOf u)) (λ q. rw (q, join)) (λ q. rw (q, join) (ap (clockless u ∷_) (join-timeless k l e t us)))
+
 pub voters-forgets : (q : Certificate) (us : List Tally) → voters q (map clockless us) ≡ voters q us
 unfolding voters clockless
 voters-forgets q [] = refl
