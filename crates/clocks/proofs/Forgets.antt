@@ -2,14 +2,15 @@
 -- same. Assumes nothing.
 use mathlib.Core.Path.{_≡_, refl, sym, ap, _∙_}
 use Prim.Native.Nat.{ℕ, zero, suc}
-use mathlib.Core.List.{List, []}
+use mathlib.Core.List.{List, [], _∷_}
 use lib.Dec.{eqb}
 use lib.ListN.{length-map}
 use Rattle.rules.specs.Limits.{lastClock}
 use Rattle.rules.specs.Messages.{Message, newView, propose, vote, blame, blameSet, status, read, write, allowed, Effect}
-use Rattle.rules.specs.Words.{Cause, full, split, clock, stopped, State}
-use Rattle.rules.specs.Inputs.{Work, withPhase, withTables, handled, offered, ticked}
+use Rattle.rules.specs.Words.{Statement, Cause, full, split, clock, stopped, State}
+use Rattle.rules.specs.Inputs.{Work, isIn, withPhase, withTables, handled, offered, ticked}
 use Rattle.rules.specs.Refusals.{done, refused, stopping, hasRoom, ifRoom, running, ahead, usedUp, heard, step, offer, tick}
+use Rattle.rules.specs.Display.{isShown, dueClock, shown, showing, showingAll, display}
 use Rattle.rules.specs.Script.{Input, ticks, hears, hearsBytes, isOffered, answer}
 use Rattle.rules.proofs.Tests.{by-bool, by-option}
 use Rattle.clocks.specs.Forget.{clockless, forget, forgotten, Alike}
@@ -100,6 +101,22 @@ answer-forgets (isOffered b) s = offer-forgets b s
 
 pub answer-alike : (i : Input) (s t : State) → Alike s t → forgotten (answer s i) ≡ forgotten (answer t i)
 answer-alike i s t e = sym (answer-forgets i s) ∙ ap (λ u. forgotten (answer u i)) e ∙ answer-forgets i t
+
+-- ---- the wall display
+
+showing-forgets : (s : State) (x : Statement) → showing (forget s) x ≡ showing s x
+unfolding showing isShown shown dueClock isIn forget withTables
+showing-forgets s x =
+    by-option (x .voted) (λ q. rw (q, showing)) (λ c q. by-bool (isShown s x) (λ i. rw (q, showing, i)) (λ i. rw (q, showing, i)))
+
+all-forgets : (s : State) (xs : List Statement) → showingAll (forget s) xs ≡ showingAll s xs
+unfolding showingAll
+all-forgets s [] = refl
+all-forgets s (x ∷ xs) = rw (showing-forgets s x, all-forgets s xs)
+
+pub display-forgets : (s : State) → display (forget s) ≡ display s
+unfolding display forget withTables
+display-forgets s = all-forgets s (s .statements)
 
 -- ---- a run of inputs, from two stations that differ in the clocks alone
 
