@@ -13,12 +13,14 @@ use Rattle.rules.proofs.Tests.{by-bool, and-left, and-right}
 use Rattle.rules.proofs.Truths.{iff-eq}
 use Rattle.fields.specs.declared.Name.{Name}
 use Rattle.fields.specs.Names.{nameOf}
-use Rattle.lines.specs.Script.{fieldOf, Got, got, wrong, onto, reads, Meaning, message, bad, meant, spoken}
-use Rattle.lines.specs.Places.{small, readsAt, Inside, Field, ended, has, tagged, ontoIf, Own, makes}
-use Rattle.lines.specs.declared.Flaw.{Flaw}
-use Rattle.lines.specs.declared.parts.Place.{Place}
-use Rattle.lines.specs.declared.parts.Place.the-variants.{At, Wrong}
-use Rattle.lines.proofs.Fields.{holds-zero, small-is}
+use Rattle.parts.specs.Fields.{fieldOf, Got, got, wrong, onto, reads}
+use Rattle.lines.specs.Script.{Meaning, message, bad, meant, spoken}
+use Rattle.parts.specs.Places.{small, readsAt, Inside, Field, ended}
+use Rattle.lines.specs.Kinds.{has, tagged, ontoIf, Own, makes}
+use Rattle.parts.specs.declared.Flaw.{Flaw}
+use Rattle.parts.specs.declared.Place.{Place}
+use Rattle.parts.specs.declared.Place.the-variants.{At, Wrong}
+use Rattle.parts.proofs.Fields.{holds-zero, small-is}
 
 -- what holds of each of the six kinds
 pub by-kind {ℓ} : (P : ℕ → Type ℓ) → P 1 → P 2 → P 3 → P 4 → P 5 → P 6 → (k : ℕ) → 1 ≤ k → k ≤ 6 → P k

@@ -16,19 +16,21 @@ use Rattle.fields.specs.Names.{nameOf}
 use Rattle.outgoing.specs.Wrote.{wrote}
 use Rattle.outgoing.specs.Wrote as written
 use Rattle.outgoing.proofs.Writing.{length-wrote}
-use Rattle.lines.specs.Words.{bytes, word, rest, noWord, pairs, isBytes}
-use Rattle.lines.specs.Script.{Got, got, wrong, onto, reads, fieldOf, freshened, ticked, alone, hex, slipped, chosen, Meaning, blank, fresh, tick, given, message, log, state, display, bad, meant, spoken, Order, orders, ordered, lineOf}
-use Rattle.lines.specs.Places.{Lists, placed, Field, ended, readsAt}
+use Rattle.text.specs.Words.{bytes, word, rest, noWord, pairs, isBytes}
+use Rattle.parts.specs.Fields.{Got, got, wrong, onto, reads, fieldOf}
+use Rattle.lines.specs.Script.{freshened, ticked, alone, hex, slipped, certified, chosen, Meaning, blank, fresh, tick, given, message, log, state, display, bad, meant, spoken, Order, orders, ordered, lineOf}
+use Rattle.text.specs.Places.{Lists, placed}
+use Rattle.parts.specs.Places.{Field, ended, readsAt}
 use Rattle.lines.specs.Answers.{answer, fill, left, filled, Reads, Says, HexAt, hexPlace, HexRead}
-use Rattle.lines.specs.declared.Flaw.{Flaw}
-use Rattle.lines.specs.declared.Flaw.the-variants as flaw
+use Rattle.parts.specs.declared.Flaw.{Flaw}
+use Rattle.parts.specs.declared.Flaw.the-variants as flaw
 use Rattle.lines.specs.declared.What.{What}
-use Rattle.lines.specs.declared.What.the-variants.{Message, Slip, Choose}
+use Rattle.lines.specs.declared.What.the-variants.{Message, Slip, Certified, Choose}
 use Rattle.lines.specs.declared.Line.{Line}
 use Rattle.lines.specs.declared.Line.the-variants.{Blank, Fresh, Tick, Bytes, Log, State, Display, Bad}
-use Rattle.lines.specs.declared.parts.Place.{Place}
-use Rattle.lines.specs.declared.parts.Place.the-variants.{At, Wrong}
-use Rattle.lines.proofs.Fields.{small-is, ends-none, ends-extra}
+use Rattle.parts.specs.declared.Place.{Place}
+use Rattle.parts.specs.declared.Place.the-variants.{At, Wrong}
+use Rattle.parts.proofs.Fields.{small-is, ends-none, ends-extra}
 use Rattle.lines.proofs.Messages.{by-kind, made-of}
 
 -- ---- first words
@@ -68,24 +70,24 @@ of-picked w s k (nothing p q) = q ∙ sym (ap (λ (n : ℕ). meansOf n s) p)
 of-picked w s k (picked i p q) = q ∙ sym (ap (λ (n : ℕ). meansOf n s) (p ∙ ap suc (zero-add i)))
 
 -- the table as the code has it
-pub first-words : Lists (firsts orders) (bytes "new-view propose vote blame blame-set status fresh tick message offer log state display envelope choose slip")
+pub first-words : Lists (firsts orders) (bytes "new-view propose vote blame blame-set status fresh tick message offer log state display envelope choose slip certified")
 unfolding firsts orders bytes word rest noWord
 first-words =
-    (refl, refl, (refl, refl, (refl, refl, (refl, refl, (refl, refl, (refl, refl, (refl, refl, (refl, refl, (refl, refl, (refl, refl, (refl, refl, (refl, refl, (refl, refl, (refl, refl, (refl, refl, (refl, refl, refl))))))))))))))))
+    (refl, refl, (refl, refl, (refl, refl, (refl, refl, (refl, refl, (refl, refl, (refl, refl, (refl, refl, (refl, refl, (refl, refl, (refl, refl, (refl, refl, (refl, refl, (refl, refl, (refl, refl, (refl, refl, (refl, refl, refl)))))))))))))))))
 
 module _ (s : List ℕ) where
   pub line-blank : noWord s ≡ true → lineOf s ≡ blank
   unfolding lineOf
   line-blank e = rw (e, lineOf)
 
-  pub line-order : (k : ℕ) → noWord s ≡ false → ((ws : List (List ℕ)) → Lists ws (bytes "new-view propose vote blame blame-set status fresh tick message offer log state display envelope choose slip") → k ≡ placed 1 ws (word s))
+  pub line-order : (k : ℕ) → noWord s ≡ false → ((ws : List (List ℕ)) → Lists ws (bytes "new-view propose vote blame blame-set status fresh tick message offer log state display envelope choose slip certified") → k ≡ placed 1 ws (word s))
       → lineOf s ≡ meansOf k (rest s)
   unfolding lineOf
   line-order k e h =
       let p : k ≡ placed 1 (firsts orders) (word s) = h (firsts orders) first-words in
       rw (e, lineOf) (of-picked (word s) (rest s) k (rw (← p) at (pick orders (word s) (rest s) 0)))
 
-means-none : (k : ℕ) (s : List ℕ) → 16 < k → meansOf k s ≡ bad flaw.Word
+means-none : (k : ℕ) (s : List ℕ) → 17 < k → meansOf k s ≡ bad flaw.Word
 unfolding meansOf meanings orders
 means-none zero s h = absurd (omega arith)
 means-none (suc i) s h = List·getD-eq-default (meanings orders s) (bad flaw.Word) {n = i} (omega arith)
@@ -94,10 +96,10 @@ next : (n k : ℕ) → n < k → (k ≡ suc n → ⊥) → suc n < k
 next n k h e = omega (arith, e)
 
 pub means-other : (k : ℕ) (s : List ℕ) → 6 < k → (k ≡ 7 → ⊥) → (k ≡ 8 → ⊥) → (k ≡ 9 → ⊥) → (k ≡ 10 → ⊥) → (k ≡ 11 → ⊥) → (k ≡ 12 → ⊥) → (k ≡ 13 → ⊥)
-    → (k ≡ 14 → ⊥) → (k ≡ 15 → ⊥) → (k ≡ 16 → ⊥) → meansOf k s ≡ bad flaw.Word
-means-other k s h a b c d e f g i j l =
+    → (k ≡ 14 → ⊥) → (k ≡ 15 → ⊥) → (k ≡ 16 → ⊥) → (k ≡ 17 → ⊥) → meansOf k s ≡ bad flaw.Word
+means-other k s h a b c d e f g i j l m =
     means-none k s
-    (next 15 k (next 14 k (next 13 k (next 12 k (next 11 k (next 10 k (next 9 k (next 8 k (next 7 k (next 6 k h a) b) c) d) e) f) g) i) j) l)
+    (next 16 k (next 15 k (next 14 k (next 13 k (next 12 k (next 11 k (next 10 k (next 9 k (next 8 k (next 7 k (next 6 k h a) b) c) d) e) f) g) i) j) l) m)
 
 pub means-spoken : (k : ℕ) → 1 ≤ k → k ≤ 6 → (s : List ℕ) → meansOf k s ≡ spoken k s
 unfolding meansOf meanings orders
@@ -349,3 +351,16 @@ pub slip-is : (s : List ℕ) (at : ℕ) (n : Name) (p : Place) → Field s (At a
 unfolding slipped
 slip-is s at n p a =
     let f : List ℕ → Meaning = λ vs. given Slip (unbe 32 (getD vs 0 0)) in ap (meant f) (a .goes []) ∙ meant-onto f (nameOf n) (readsAt [] s p)
+
+pub certified-is : (s : List ℕ) (at : ℕ) (v h n : Name) (p q r : Place) → Field s (At at) 2 v p → Field s p 3 h q → Field s q 4 n r
+    → certified (drop at s) ≡ meant (λ _. given (Certified (v .fourth) (h .fourth)) (unbe 32 (nameOf n))) (readsAt [] s r)
+unfolding certified fieldOf
+certified-is s at v h n p q r a b c =
+    let f : List ℕ → Meaning = λ vs. given (Certified (getD vs 0 0) (getD vs 1 0)) (unbe 32 (getD vs 2 0)) in
+    let left = readsAt [] s r in
+    let e : certified (drop at s) ≡ meant (λ _. given (Certified (nameOf v) (nameOf h)) (unbe 32 (nameOf n))) left =
+    ap (meant f) (a .goes _ ∙ ap (onto (nameOf v)) (b .goes _ ∙ ap (onto (nameOf h)) (c .goes [])))
+    ∙ meant-onto f (nameOf v) (onto (nameOf h) (onto (nameOf n) left))
+    ∙ meant-onto (λ vs. f (nameOf v ∷ vs)) (nameOf h) (onto (nameOf n) left)
+    ∙ meant-onto (λ vs. f (nameOf v ∷ nameOf h ∷ vs)) (nameOf n) left in
+    rw (small-is v (a .holds .0), small-is h (b .holds .0)) at e

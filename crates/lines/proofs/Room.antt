@@ -12,20 +12,21 @@ use Rattle.rules.specs.Script.{sameList}
 use Rattle.rules.proofs.Bytes.{length-unbe}
 use Rattle.rules.proofs.Tests.{by-bool, by-option}
 use Rattle.outgoing.proofs.Writing.{length-write-most}
-use Rattle.lines.specs.Words.{word, rest, noWord, pairs, isBytes}
-use Rattle.lines.specs.Script.{says, flawOf, fieldOf, unlabelled, Got, got, wrong, onto, reads, Meaning, blank, fresh, tick, given, message, log, state, display, bad, meant, spoken, freshened, ticked, alone, hex, hexed, chosen, slipped, Order, orders, ordered, lineOf}
+use Rattle.text.specs.Words.{word, rest, noWord, pairs, isBytes}
+use Rattle.parts.specs.Fields.{says, flawOf, fieldOf, unlabelled, Got, got, wrong, onto, reads}
+use Rattle.lines.specs.Script.{Meaning, blank, fresh, tick, given, message, log, state, display, bad, meant, spoken, freshened, ticked, alone, hex, hexed, chosen, slipped, certified, Order, orders, ordered, lineOf}
 use Rattle.lines.specs.Answers.{answer, Reads}
-use Rattle.lines.specs.declared.Flaw.{Flaw}
-use Rattle.lines.specs.declared.Flaw.the-variants as flaw
+use Rattle.parts.specs.declared.Flaw.{Flaw}
+use Rattle.parts.specs.declared.Flaw.the-variants as flaw
 use Rattle.lines.specs.declared.Line.{Line}
 use Rattle.lines.specs.declared.What.{What}
-use Rattle.lines.specs.declared.What.the-variants.{Message, Offer, Envelope, Slip, Choose}
+use Rattle.lines.specs.declared.What.the-variants.{Message, Offer, Envelope, Slip, Certified, Choose}
 use Rattle.lines.specs.declared.Line.the-variants.{Bytes, Bad}
-use Rattle.lines.specs.declared.parts.Sort.{Sort}
-use Rattle.lines.specs.declared.parts.Sort.the-variants.{Number, Name, Mask}
-use Rattle.lines.proofs.Runs.{word-shorter, rest-shorter}
-use Rattle.lines.proofs.Digits.{length-pairs}
-use Rattle.lines.proofs.Fields.{ends-none, ends-extra, reads-missing, reads-not, reads-is}
+use Rattle.parts.specs.declared.Sort.{Sort}
+use Rattle.parts.specs.declared.Sort.the-variants.{Number, Name, Mask}
+use Rattle.text.proofs.Runs.{word-shorter, rest-shorter}
+use Rattle.text.proofs.Digits.{length-pairs}
+use Rattle.parts.proofs.Fields.{ends-none, ends-extra, reads-missing, reads-not, reads-is}
 use Rattle.lines.proofs.Replies.{bytes-good, hex-missing, hex-not, hex-rest}
 
 -- the bytes have room in 4,096, and nothing is wrong for want of room
@@ -110,6 +111,12 @@ unfolding slipped
 slip-short t l =
     meant-short (λ vs. given Slip (unbe 32 (getD vs 0 0))) (reads (4 ∷ []) t) (λ vs. omega (arith, length-unbe 32 (getD vs 0 0))) (reads-plain (4 ∷ []) t)
 
+certified-short : (t : List ℕ) → length t ≤ 4096 → Short (certified t)
+unfolding certified
+certified-short t l =
+    meant-short (λ vs. given (Certified (getD vs 0 0) (getD vs 1 0)) (unbe 32 (getD vs 2 0))) (reads (2 ∷ 3 ∷ 4 ∷ []) t)
+    (λ vs. omega (arith, length-unbe 32 (getD vs 2 0))) (reads-plain (2 ∷ 3 ∷ 4 ∷ []) t)
+
 abbrev AllShort : List Order → Type 0
 AllShort [] = Unit
 AllShort (o ∷ os) = ((t : List ℕ) → length t ≤ 4096 → Short (o .means t)) × AllShort os
@@ -172,7 +179,7 @@ orders-short = (
                       alone-short log tt,
                       (
                         alone-short state tt,
-                        (alone-short display tt, (hex-short Envelope, (chosen-short, (slip-short, tt)))),
+                        (alone-short display tt, (hex-short Envelope, (chosen-short, (slip-short, (certified-short, tt))))),
                       ),
                     ),
                   ),

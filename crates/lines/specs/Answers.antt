@@ -6,11 +6,12 @@ use mathlib.Core.List.{List}
 use lib.ListN.{length, drop}
 use lib.Dec.{leb}
 use Rattle.outgoing.specs.Wrote.{wrote}
-use Rattle.lines.specs.Words.{word, pairs}
-use Rattle.lines.specs.Script.{Got, got, wrong, hex, Meaning, blank, fresh, tick, given, log, state, display, bad}
-use Rattle.lines.specs.declared.Flaw.the-variants.{Long}
-use Rattle.lines.specs.declared.parts.Place.{Place}
-use Rattle.lines.specs.declared.parts.Place.the-variants.{At, Wrong}
+use Rattle.text.specs.Words.{word, pairs}
+use Rattle.parts.specs.Fields.{Got, got, wrong}
+use Rattle.lines.specs.Script.{hex, Meaning, blank, fresh, tick, given, log, state, display, bad}
+use Rattle.parts.specs.declared.Flaw.the-variants.{Long}
+use Rattle.parts.specs.declared.Place.{Place}
+use Rattle.parts.specs.declared.Place.the-variants.{At, Wrong}
 use Rattle.lines.specs.declared.Line.{Line}
 use Rattle.lines.specs.declared.Line.the-variants.{Blank, Fresh, Tick, Bytes, Log, State, Display, Bad}
 use Rattle.lines.specs.declared.Asked.{Asked}

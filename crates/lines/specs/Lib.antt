@@ -1,5 +1,4 @@
-pub mod Words
 pub mod Script
-pub mod Places
+pub mod Kinds
 pub mod Answers
 pub mod Examples

@@ -1,89 +1,19 @@
--- docs/SCRIPT.md, 'Lines': the fields, the first words, and what a line means. Assumes nothing.
-use Prim.Native.Nat.{ℕ, _-_, _^_}
+-- docs/SCRIPT.md, 'Lines': the first words, and what a line means. Assumes nothing.
+use Prim.Native.Nat.{ℕ}
 use Prim.Native.String.{String}
 use mathlib.Core.Bool.{true, false}
 use mathlib.Core.List.{List, [], _∷_, _++_}
-use mathlib.Core.Option.{Option, none, some}
+use mathlib.Core.Option.{none, some}
 use lib.ListN.{length, getD}
 use Rattle.rules.specs.Lists.{unbe}
 use Rattle.rules.specs.Messages.{write, rowOf}
 use Rattle.rules.specs.Script.{sameList}
-use Rattle.lines.specs.Words.{bytes, word, rest, noWord, decimal, pairs, isBytes, name, mask}
-use Rattle.lines.specs.declared.Flaw.{Flaw}
-use Rattle.lines.specs.declared.Flaw.the-variants as flaw
+use Rattle.text.specs.Words.{bytes, word, rest, noWord, pairs, isBytes}
+use Rattle.parts.specs.Fields.{Got, got, wrong, reads}
+use Rattle.parts.specs.declared.Flaw.{Flaw}
+use Rattle.parts.specs.declared.Flaw.the-variants as flaw
 use Rattle.lines.specs.declared.What.{What}
-use Rattle.lines.specs.declared.What.the-variants.{Message, Offer, Envelope, Slip, Choose}
-use Rattle.lines.specs.declared.parts.Sort.{Sort}
-use Rattle.lines.specs.declared.parts.Sort.the-variants.{Number, Name, Mask}
-
--- ---- fields
-
--- what a word says as a field of a sort, and what is wrong with a word that says nothing
-unfoldable pub says : Sort → List ℕ → Option ℕ
-unfolding decimal name mask
-says (Number most) w = decimal most w
-says Name w = name w
-says Mask w = mask w
-
-unfoldable pub flawOf : Sort → Flaw
-flawOf (Number most) = flaw.Number
-flawOf Name = flaw.Name
-flawOf Mask = flaw.Mask
-
--- a field: the word in small letters that may stand before it, and its sort
-pub record Field : Type 0 where
-  pub label : List ℕ
-  pub sort : Sort
-
-unfoldable pub labelled : String → Sort → Field
-unfolding bytes
-labelled t x = record { label = bytes t; sort = x }
-
--- "N, D, OWN and K are below 2^64, a view, a height and a certificate view below 2^32, a station below 256"
-unfoldable pub below : ℕ → Sort
-below limit = Number (limit - 1)
-
-unfoldable pub plain : Field
-unfolding labelled below
-plain = labelled "" (below (2 ^ 64))
-
--- the fields of a message by their tags on the wire; those of `fresh` and `tick` have tag 0
-unfoldable pub fields : List Field
-unfolding plain labelled below
-fields =
-    plain ∷ plain ∷ labelled "view" (below (2 ^ 32)) ∷ labelled "height" (below (2 ^ 32)) ∷ labelled "name" Name
-    ∷ labelled "parent" Name ∷ labelled "certificate" (below (2 ^ 32)) ∷ labelled "mask" Mask ∷ labelled "author" (below (2 ^ 8)) ∷ []
-
-unfoldable pub fieldOf : ℕ → Field
-unfolding fields plain
-fieldOf t = getD fields t plain
-
--- ---- reading
-
--- the numbers or the bytes that some words say, or what is wrong
-pub data Got : Type 0 where
-  got : List ℕ → Got
-  wrong : Flaw → Got
-
-unfoldable pub onto : ℕ → Got → Got
-onto v (got vs) = got (v ∷ vs)
-onto v (wrong f) = wrong f
-
--- "may be left out, each by itself"
-unfoldable pub unlabelled : List ℕ → List ℕ → List ℕ
-unfolding sameList word rest
-unlabelled l s = elim (sameList (word s) l) [ true ↦ rest s | false ↦ s ]
-
--- these fields, and then no word
-unfoldable pub reads : List ℕ → List ℕ → Got
-unfolding noWord unlabelled fieldOf word rest says flawOf onto
-reads [] s = elim (noWord s) [ true ↦ got [] | false ↦ wrong flaw.Extra ]
-reads (t ∷ ts) s =
-    let r = unlabelled (fieldOf t .label) s in
-    elim (noWord r) [
-      | true ↦ wrong flaw.Missing
-      | false ↦ elim (says (fieldOf t .sort) (word r)) [ none ↦ wrong (flawOf (fieldOf t .sort)) | some v ↦ onto v (reads ts (rest r)) ]
-    ]
+use Rattle.lines.specs.declared.What.the-variants.{Message, Offer, Envelope, Slip, Certified, Choose}
 
 -- one word of bytes in hex, and then no word
 unfoldable pub hex : List ℕ → Got
@@ -162,6 +92,11 @@ unfoldable pub slipped : List ℕ → Meaning
 unfolding meant reads unbe
 slipped s = meant (λ vs. given Slip (unbe 32 (getD vs 0 0))) (reads (4 ∷ []) s)
 
+-- a view and a height, and a name as its 32 bytes
+unfoldable pub certified : List ℕ → Meaning
+unfolding meant reads unbe
+certified s = meant (λ vs. given (Certified (getD vs 0 0) (getD vs 1 0)) (unbe 32 (getD vs 2 0))) (reads (2 ∷ 3 ∷ 4 ∷ []) s)
+
 -- a first word, and what it makes of the words behind it
 pub record Order : Type 0 where
   pub first : List ℕ
@@ -172,7 +107,7 @@ unfolding bytes
 order t f = record { first = bytes t; means = f }
 
 unfoldable pub orders : List Order
-unfolding order spoken freshened ticked alone hexed chosen slipped
+unfolding order spoken freshened ticked alone hexed chosen slipped certified
 orders =
     order "new-view" (spoken 1)
     ∷ order "propose" (spoken 2)
@@ -190,6 +125,7 @@ orders =
     ∷ order "envelope" (hexed Envelope)
     ∷ order "choose" chosen
     ∷ order "slip" slipped
+    ∷ order "certified" certified
     ∷ []
 
 -- the order of a first word, "a line that is none of these is said to be so"

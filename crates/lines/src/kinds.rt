@@ -1,9 +1,8 @@
 // The six kinds of messages in words.
-use super::Flaw;
-use super::parts;
-use super::parts::Part;
-use super::parts::Place;
 use fields::Name;
+use parts::Flaw;
+use parts::Part;
+use parts::Place;
 use wire::Message;
 use wire::Statement;
 ghost use mathlib.Core.Path.{_≡_};
@@ -12,7 +11,8 @@ ghost use lib.ListN.{length, drop};
 ghost use Rattle.fields.specs.Names.{nameOf};
 ghost use Rattle.wire.specs.Meaning.{messageOf, Writable};
 ghost use Rattle.lines.specs.Script.{spoken};
-ghost use Rattle.lines.specs.Places.{Inside, has as contains, Own, makes, heardOf, CanWrite};
+ghost use Rattle.parts.specs.Places.{Inside};
+ghost use Rattle.lines.specs.Kinds.{has as contains, Own, makes, heardOf, CanWrite};
 
 // A message, or what is wrong with it.
 pub enum Heard {

@@ -1,41 +1,29 @@
 // What a line of a script means, read from its bytes. docs/SCRIPT.md has the form, specs/Script.antt says it exactly.
 use fields::Name;
 use kinds::Heard;
+use parts::Flaw;
 use parts::Place;
+use text::values;
 ghost use mathlib.Core.Path.{_≡_};
 ghost use Prim.Native.Nat.{_≤_};
 ghost use mathlib.Core.List.{[]};
 ghost use lib.ListN.{length, drop};
 ghost use Rattle.rules.specs.Lists.{unbe};
 ghost use Rattle.fields.specs.Names.{nameOf};
-ghost use Rattle.lines.specs.Places.{Inside, readsAt};
-ghost use Rattle.lines.specs.Script.{lineOf, given, meant, spoken, freshened, ticked, hex, hexed, alone, slipped, chosen};
+ghost use Rattle.parts.specs.Places.{Inside, readsAt};
+ghost use Rattle.lines.specs.Script.{lineOf, given, meant, spoken, freshened, ticked, hex, hexed, alone, slipped, certified, chosen};
 ghost use Rattle.lines.specs.Answers.{Reads, Says, HexAt, HexRead, askedOf};
 
 mod kinds;
-mod parts;
-mod text;
-mod values;
 
-// What is wrong with a line: the first word is unknown; a word is missing; a word is too many; a number, hex, a name or a mask isn't
-// one, or is too large for its field; the bytes have no room.
-pub enum Flaw {
-    Word,
-    Missing,
-    Extra,
-    Number,
-    Hex,
-    Name,
-    Mask,
-    Long,
-}
-
-// What the bytes of a line are: a message, an offered name, an envelope, the name of a slip, or two messages, the first of so many bytes.
+// What the bytes of a line are: a message, an offered name, an envelope, the name of a slip, the name of a block of a view and a height,
+// or two messages, the first of so many bytes.
 pub enum What {
     Message,
     Offer,
     Envelope,
     Slip,
+    Certified { view: u64, height: u64 },
     Choose { first: usize },
 }
 
@@ -69,7 +57,7 @@ pub fn read_line(line: &[u8], bytes: &mut [u8]) -> Line
         return Line::Blank;
     }
     let kind = text::which(
-        b"new-view propose vote blame blame-set status fresh tick message offer log state display envelope choose slip",
+        b"new-view propose vote blame blame-set status fresh tick message offer log state display envelope choose slip certified",
         &line[start..at],
     );
     match kind {
@@ -84,6 +72,7 @@ pub fn read_line(line: &[u8], bytes: &mut [u8]) -> Line
         14 => hexed(line, at, What::Envelope, bytes),
         15 => chosen(line, at, bytes),
         16 => slip(line, at, bytes),
+        17 => certified(line, at, bytes),
         _ => Line::Bad(Flaw::Word),
     }
 }
@@ -247,6 +236,25 @@ fn slip(line: &[u8], at: usize, bytes: &mut [u8]) -> Line
     let value = name.value;
     let at_end = name.next;
     named(line, value, at_end, What::Slip, bytes)
+}
+
+// When a block was certified: its view, its height and its name.
+fn certified(line: &[u8], at: usize, bytes: &mut [u8]) -> Line
+    requires { ⌜ at ≤ length (now line) ⌝ }
+    ensures { λ r. ⌜ Reads (certified (drop at (now (line .entry)))) (now (bytes .entry)) (now (bytes .exit)) r ⌝ }
+{
+    let view = parts::field(line, Place::At(at), 2);
+    let at_height = view.next;
+    let height = parts::field(line, at_height, 3);
+    let at_name = height.next;
+    let name = parts::field(line, at_name, 4);
+    let value = name.value;
+    let at_end = name.next;
+    let what = What::Certified {
+        view: view.value.fourth,
+        height: height.value.fourth,
+    };
+    named(line, value, at_end, what, bytes)
 }
 
 // A message in words, written to the buffer.

@@ -4,8 +4,8 @@ ghost use lib.ListN.{length};
 ghost use Rattle.rules.specs.Limits.{leastOutSmall};
 use crate::sent;
 use crate::spell;
-use lines::Flaw;
 use page::Page;
+use parts::Flaw;
 use settings::Settings;
 
 // An out buffer of the least length that a station takes.
@@ -98,6 +98,19 @@ pub fn slip(page: &mut Page, at: usize, answer: u64, out: &Out) -> usize {
     let counted = spell::number(page, at, b": 0 done, ", count);
     let told = page::say(page, counted, b" bytes\n  slip: ");
     sent::bytes(page, told, out, count as usize)
+}
+
+// An answer that is a clock: a refusal, none, or the clock.
+pub fn certified(page: &mut Page, at: usize, answer: u64) -> usize {
+    let number = refusal(answer);
+    if number != 0 {
+        return refused(page, at, number);
+    }
+    if answer == 0 {
+        return page::say(page, at, b": none\n");
+    }
+    let told = spell::number(page, at, b": at clock ", answer - 1);
+    page::put(page, told, b'\n')
 }
 
 // What is wrong with a line.

@@ -1,10 +1,11 @@
 -- `lines::chosen` meets its contract. Assumes nothing.
 use Rattle.outgoing.proofs.Writing.{wrote-append}
 use Rattle.outgoing.specs.Wrote.{wrote}
-use Rattle.lines.specs.Words.{word, pairs}
-use Rattle.lines.specs.Script.{got, hex}
-use Rattle.lines.proofs.Runs.{word-none, word-some, word-length}
-use Rattle.lines.proofs.Digits.{length-pairs}
+use Rattle.text.specs.Words.{word, pairs}
+use Rattle.parts.specs.Fields.{got}
+use Rattle.lines.specs.Script.{hex}
+use Rattle.text.proofs.Runs.{word-none, word-some, word-length}
+use Rattle.text.proofs.Digits.{length-pairs}
 use Rattle.lines.proofs.Replies.{says-bad, unchanged, too-long, written-good, chosen-missing, chosen-not, chosen-wrong, chosen-both}
 use Prim.Native.Nat.{ℕ, _/_}
 use mathlib.Core.Path.{_≡_, refl, sym, ap, ap₂, _∙_}

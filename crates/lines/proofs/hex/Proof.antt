@@ -1,8 +1,8 @@
 -- `lines::hex` meets its contract. Assumes nothing.
-use Rattle.lines.proofs.Runs.{word-length}
-use Rattle.lines.proofs.Digits.{length-pairs}
+use Rattle.text.proofs.Runs.{word-length}
+use Rattle.text.proofs.Digits.{length-pairs}
 use Rattle.lines.proofs.Replies.{hex-wrong, hex-long, hex-good}
-use Rattle.lines.specs.Words.{pairs, word}
+use Rattle.text.specs.Words.{pairs, word}
 use Prim.Native.Nat.{ℕ, _/_}
 use mathlib.Core.Path.{sym, ap, _∙_}
 use native.Mathlib.Omega.{arith}

@@ -1,5 +1,5 @@
 -- `lines::holds_hex` meets its contract. Assumes nothing.
-use Rattle.lines.proofs.Runs.{word-none, word-some}
+use Rattle.text.proofs.Runs.{word-none, word-some}
 use Rattle.lines.proofs.Replies.{hex-missing, hex-not, hex-ends}
 use mathlib.Core.Path.{sym, _∙_}
 use borrow.Author.Tests.{not-true, not-false}

@@ -5,7 +5,7 @@ use Rattle.fields.specs.Names.{nameOf}
 use Rattle.fields.proofs.Names.{name-lt}
 use Rattle.outgoing.proofs.Writing.{put-wrote}
 use Rattle.lines.specs.Script.{given, meant}
-use Rattle.lines.specs.Places.{readsAt}
+use Rattle.parts.specs.Places.{readsAt}
 use mathlib.Core.List.{[]}
 use Rattle.lines.proofs.Replies.{says-bad, unchanged, too-long, written-good, named-good, named-wrong}
 use mathlib.Core.Path.{refl, sym, _∙_}

@@ -1,7 +1,7 @@
 -- `lines::read_line` meets its contract: by its first word. Assumes nothing.
-use Rattle.lines.proofs.Runs.{word-none, word-some}
+use Rattle.text.proofs.Runs.{word-none, word-some}
 use Rattle.lines.proofs.Replies.{says-blank, says-bad, unchanged, reads-as, line-blank, line-order, meansOf, meanings, means-other, means-spoken}
-use Rattle.lines.specs.Words.{rest, bytes}
+use Rattle.text.specs.Words.{rest, bytes}
 use Rattle.lines.specs.Script.{orders}
 use Prim.Native.Nat.{ℕ}
 use mathlib.Core.Path.{_≡_, refl, ap, _∙_}
@@ -61,6 +61,9 @@ chosen-requires c κs = search needs
 
 slip-requires : tie.Need-slip-requires
 slip-requires c κs = search needs
+
+certified-requires : tie.Need-certified-requires
+certified-requires c κs = search needs
 
 spoken-requires : tie.Need-spoken-requires
 spoken-requires c κs = search needs
@@ -164,29 +167,40 @@ same-length-6 : tie.Need-same-length-6
 same-length-6 c = search needs
 
 returns-12 : tie.Need-returns-12
-unfolding bytes
+unfolding bytes meansOf meanings orders
 returns-12 c =
+    let s = c .before .before .before .before .before .before .before .before .before .before .before .before .args .line .now in
+    let w = c .before .before .before .before .before .before .before .before .before .word .ensures in
+    let is = line-order s (c .before .before .before .before .before .which .result) (word-some w (c .before .before .before .before .before .before .before .before .if1 .left)) (λ ws l. rw (w .is) at (c .before .before .before .before .before .which .ensures ws l)) in
+    reads-as _ _ _ _ _ (rw (← w .after) at (is ∙ ap (λ (k : ℕ). meansOf k (rest s)) (c .before .before .before .before .match .keys11))) (c .before .before .certified .ensures)
+
+same-length-7 : tie.Need-same-length-7
+same-length-7 c = search needs
+
+returns-13 : tie.Need-returns-13
+unfolding bytes
+returns-13 c =
     let s = c .before .before .before .before .before .before .before .before .before .before .before .before .before .before .args .line .now in
     let w = c .before .before .before .before .before .before .before .before .before .before .before .word .ensures in
     let is = line-order s (c .before .before .before .before .before .before .before .which .result) (word-some w (c .before .before .before .before .before .before .before .before .before .before .if1 .left)) (λ ws l. rw (w .is) at (c .before .before .before .before .before .before .before .which .ensures ws l)) in
     reads-as _ _ _ _ _ (rw (← w .after) at (is ∙ means-spoken (c .before .before .before .before .before .before .before .which .result) (c .before .before .before .before .before .if2 .left) (omega (arith, c .before .before .before .before .if3 .taken)) (rest s))) (c .before .before .spoken .ensures)
 
-returns-13 : tie.Need-returns-13
+returns-14 : tie.Need-returns-14
 unfolding bytes meansOf
-returns-13 c =
+returns-14 c =
     let s = c .before .before .before .before .before .before .before .before .before .args .line .now in
     let w = c .before .before .before .before .before .before .word .ensures in
     let is = line-order s (c .before .before .which .result) (word-some w (c .before .before .before .before .before .if1 .left)) (λ ws l. rw (w .is) at (c .before .before .which .ensures ws l)) in
     let none : c .before .before .which .result ≡ 0 = omega (arith, c .if2 .taken) in
     unchanged _ _ _ _ (says-bad _ _ (is ∙ ap (λ (k : ℕ). meansOf k (rest s)) none)) refl
 
-returns-14 : tie.Need-returns-14
+returns-15 : tie.Need-returns-15
 unfolding bytes
-returns-14 c =
+returns-15 c =
     let s = c .before .before .before .before .before .before .before .before .before .before .args .line .now in
     let w = c .before .before .before .before .before .before .before .word .ensures in
     let is = line-order s (c .before .before .before .which .result) (word-some w (c .before .before .before .before .before .before .if1 .left)) (λ ws l. rw (w .is) at (c .before .before .before .which .ensures ws l)) in
-    unchanged _ _ _ _ (says-bad _ _ (is ∙ means-other _ (rest s) (c .if3 .left) (c .before .before .match .rest .0 .0 .0 .0 .0 .0 .0 .0 .0 .1) (c .before .before .match .rest .0 .0 .0 .0 .0 .0 .0 .0 .1) (c .before .before .match .rest .0 .0 .0 .0 .0 .0 .0 .1) (c .before .before .match .rest .0 .0 .0 .0 .0 .0 .1) (c .before .before .match .rest .0 .0 .0 .0 .0 .1) (c .before .before .match .rest .0 .0 .0 .0 .1) (c .before .before .match .rest .0 .0 .0 .1) (c .before .before .match .rest .0 .0 .1) (c .before .before .match .rest .0 .1) (c .before .before .match .rest .1))) refl
+    unchanged _ _ _ _ (says-bad _ _ (is ∙ means-other _ (rest s) (c .if3 .left) (c .before .before .match .rest .0 .0 .0 .0 .0 .0 .0 .0 .0 .0 .1) (c .before .before .match .rest .0 .0 .0 .0 .0 .0 .0 .0 .0 .1) (c .before .before .match .rest .0 .0 .0 .0 .0 .0 .0 .0 .1) (c .before .before .match .rest .0 .0 .0 .0 .0 .0 .0 .1) (c .before .before .match .rest .0 .0 .0 .0 .0 .0 .1) (c .before .before .match .rest .0 .0 .0 .0 .0 .1) (c .before .before .match .rest .0 .0 .0 .0 .1) (c .before .before .match .rest .0 .0 .0 .1) (c .before .before .match .rest .0 .0 .1) (c .before .before .match .rest .0 .1) (c .before .before .match .rest .1))) refl
 
 pub read-line-spec : {M : Type 1} → statement M
 read-line-spec =
@@ -209,6 +223,7 @@ read-line-spec =
     hexed-requires-3
     chosen-requires
     slip-requires
+    certified-requires
     spoken-requires
     returns-2
     returns-3
@@ -227,5 +242,7 @@ read-line-spec =
     returns-11
     same-length-6
     returns-12
+    same-length-7
     returns-13
-    returns-14)
+    returns-14
+    returns-15)

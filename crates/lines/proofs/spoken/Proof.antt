@@ -1,6 +1,6 @@
 -- `lines::spoken` meets its contract. Assumes nothing.
 use Rattle.lines.proofs.Replies.{says-bad, unchanged, too-long, spoken-good}
-use Rattle.lines.specs.Places.{heardOf}
+use Rattle.lines.specs.Kinds.{heardOf}
 use Rattle.lines.specs.declared.What.the-variants.{Message}
 use mathlib.Core.Path.{refl, sym, ap, _∙_}
 use native.Mathlib.Omega.{arith}

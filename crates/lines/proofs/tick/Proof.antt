@@ -1,5 +1,5 @@
 -- `lines::tick` meets its contract. Assumes nothing.
-use Rattle.lines.proofs.Runs.{word-none, word-some}
+use Rattle.text.proofs.Runs.{word-none, word-some}
 use Rattle.lines.proofs.Replies.{says-bad, says-tick, tick-one, tick-good, tick-wrong}
 use borrow.Author.Needs.{needs}
 use Rattle.lines.proofs.tick.Statement.{statement}

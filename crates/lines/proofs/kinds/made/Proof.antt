@@ -1,6 +1,6 @@
 -- `lines::kinds::made` meets its contract: by the kind. Assumes nothing.
-use Rattle.lines.specs.Places.{makes}
-use Rattle.lines.proofs.Fields.{small-name}
+use Rattle.lines.specs.Kinds.{makes}
+use Rattle.parts.proofs.Fields.{small-name}
 use Rattle.lines.proofs.Messages.{last-kind}
 use Rattle.fields.specs.Names.{nameOf}
 use Rattle.wire.specs.Meaning.{messageOf}

@@ -1,6 +1,7 @@
 -- `lines::kinds::said` meets its contract: field by field. Assumes nothing.
 use Rattle.lines.proofs.Messages.{said-good, said-wrong}
-use Rattle.lines.specs.Script.{fieldOf, message}
+use Rattle.parts.specs.Fields.{fieldOf}
+use Rattle.lines.specs.Script.{message}
 use Rattle.rules.specs.Messages as messages
 use Rattle.rules.specs.Messages.{write}
 use mathlib.Core.Path.{sym, ap, _∙_}
