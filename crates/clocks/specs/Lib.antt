@@ -1,0 +1,2 @@
+pub mod Forget
+pub mod Runs

@@ -1,0 +1,1 @@
+// No code: proofs/ shows of stores and calls what crates/clocks shows of the rules.
