@@ -11,12 +11,12 @@ use borrow.Author.Tests.{lt-ltb, le-ltb, ltb-true, leb-true, ne-eqb, eq-eqb}
 use Rattle.rules.specs.Limits.{lastClock, lastView}
 use Rattle.rules.specs.Lists.{all, any, within}
 use Rattle.rules.specs.Sizes as sizes
-use Rattle.rules.specs.Sizes.{goodSettings, leader, holds}
+use Rattle.rules.specs.Sizes.{goodSettings, leader, holds, quorum}
 use Rattle.rules.specs.Messages.{newView, propose, viewAllowed, blockAllowed, maskAllowed, certificateAllowed, allowed}
 use Rattle.rules.specs.Words as words
 use Rattle.rules.specs.Words.{message, ownBlock, certificate, opened, ofBlock}
 use Rattle.rules.specs.Inputs.{isBlock}
-use Rattle.rules.specs.WellFormed.{isName, isMask, clocksInOrder, lockGood, statementGood, openerGood, tallyGood, talliesThere, blamesGood, linked}
+use Rattle.rules.specs.WellFormed.{isName, isMask, clocksInOrder, lockGood, statementGood, openerGood, reachedGood, tallyGood, talliesThere, blamesGood, linked}
 use Rattle.rules.proofs.Bounds.{views-most}
 use Rattle.rules.proofs.Tests.{by-bool, and-left, and-right}
 use Rattle.fields.specs.declared.Name.{Name}
@@ -33,7 +33,7 @@ use Rattle.wire.specs.declared.Statement.{Statement}
 use Rattle.words.specs.Meaning.{Certifies}
 use Rattle.words.proofs.Statements.{certifies-allowed, certifies-read}
 use Rattle.store.specs.Layout.{sizeIn}
-use Rattle.store.specs.Decode.{rows, voteOf, openerOf, statementAt, voteAt, blameAt, blamesFor, blames, stateFrom}
+use Rattle.store.specs.Decode.{rows, voteOf, openerOf, reachedFrom, statementAt, voteAt, blameAt, blamesFor, blames, stateFrom}
 use Rattle.store.specs.Meaning.{courseOf, tallyOf, headerOf}
 use Rattle.store.specs.declared.Phase.{Phase}
 use Rattle.store.specs.declared.Station.{Station}
@@ -76,10 +76,25 @@ pub lock-is : (s : Station) → Words (s .lock .name)
 unfolding lockGood stateFrom headerOf
 lock-is s w = rw (words-name (s .lock .name) w, and-true)
 
-pub tally-is : (g : Settings) (t : Tally) → Words (t .name)
-    → (viewAllowed (settingsOf g) (t .view) && blockAllowed (t .height) (nameOf (t .name)) && ltb (t .mask) (2 ^ g .n) && openerGood (settingsOf g) (t .mask) (openerOf (t .opener))) ≡ tallyGood (settingsOf g) (tallyOf t)
+pub tally-is : (g : Settings) (now : ℕ) (t : Tally) → Words (t .name)
+    → (viewAllowed (settingsOf g) (t .view) && blockAllowed (t .height) (nameOf (t .name)) && ltb (t .mask) (2 ^ g .n) && openerGood (settingsOf g) (t .mask) (openerOf (t .opener))
+    && reachedGood (settingsOf g) now (t .mask) (reachedFrom (t .reached))) ≡ tallyGood (settingsOf g) now (tallyOf t)
 unfolding tallyGood tallyOf isMask
-tally-is g t w = rw (words-name (t .name) w, and-true)
+tally-is g now t w = rw (words-name (t .name) w, and-true)
+
+-- the clock of the first quorum, by the record's number
+module _ (g : Settings) (now m k : ℕ) where
+  pub reached-none : k ≡ 0 → not (quorum (settingsOf g) m) ≡ reachedGood (settingsOf g) now m (reachedFrom k)
+  unfolding reachedGood
+  reached-none e = rw e
+
+  pub reached-some : (k ≡ 0 → ⊥) → (quorum (settingsOf g) m && leb (k - 1) now) ≡ reachedGood (settingsOf g) now m (reachedFrom k)
+  unfolding reachedGood
+  reached-some d = go k refl
+    where
+      go : (j : ℕ) → k ≡ j → (quorum (settingsOf g) m && leb (k - 1) now) ≡ reachedGood (settingsOf g) now m (reachedFrom j)
+      go zero e = absurd (d e)
+      go (suc c) e = let f : k - 1 ≡ c = omega arith in rw f
 
 -- who opened a tally, by the record's number
 module _ (g : Settings) (m k : ℕ) where

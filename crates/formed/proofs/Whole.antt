@@ -32,7 +32,7 @@ headerGood s = goodSettings (alone s .settings) && viewAllowed (alone s .setting
 -- a header looks at no table, a table at no more of the header than settings and clock
 parts-are : (s : Station) (xs : List Statement) (ts : List Tally) (ms l : List ℕ) → length xs ≤ mostStatements (sizeFrom (s .settings .size))
     → length ts ≤ mostTallies (sizeFrom (s .settings .size))
-    → (headerGood s && all (statementGood (alone s)) xs && distinct sameStatement xs && all (tallyGood (settingsOf (s .settings))) ts && distinct sameTally ts
+    → (headerGood s && all (statementGood (alone s)) xs && distinct sameStatement xs && all (tallyGood (settingsOf (s .settings)) (s .clock)) ts && distinct sameTally ts
     && all (talliesThere ts) xs && blamesGood (settingsOf (s .settings)) ms && linked xs 0 0 l && fewOpened (s .settings .n) ts)
     ≡ wellFormed (stateFrom (sizeFrom (s .settings .size)) (headerOf s) xs ts ms l)
 unfolding wellFormed clocksInOrder lockGood statementGood stateFrom headerOf
@@ -79,7 +79,7 @@ module _ (b : List ℕ) (s : Station) (long : length b ≡ storeLength (sizeIn b
   apart = distinct sameStatement (statements b)
 
   abbrev rest : Bool
-  rest = tablesGood (settingsOf (s .settings)) b
+  rest = tablesGood (settingsOf (s .settings)) (s .clock) b
 
   -- with the form, the rest of the definition is all there is
   formed-is : (headerGood s && good && apart && rest) ≡ (hasForm b && wellFormed (stateOf b))
@@ -89,7 +89,7 @@ module _ (b : List ℕ) (s : Station) (long : length b ≡ storeLength (sizeIn b
       let xs = statements b in
       let ts = tallies b in
       let whole = wellFormed (stateOf b) in
-      grouped (headerGood s && good && apart) (all (tallyGood g) ts) (distinct sameTally ts) (all (talliesThere ts) xs) (blamesGood g (blames b)) (linked xs 0 0 (names b)) (fewOpened (g .n) ts)
+      grouped (headerGood s && good && apart) (all (tallyGood g (s .clock)) ts) (distinct sameTally ts) (all (talliesThere ts) xs) (blamesGood g (blames b)) (linked xs 0 0 (names b)) (fewOpened (g .n) ts)
       ∙ parts-are s xs ts (blames b) (names b) few-statements few-tallies
       ∙ ap (λ (z : Size). wellFormed (stateFrom z (headerOf s) xs ts (blames b) (names b))) (holds .size)
       ∙ ap (λ (vs : List ℕ). wellFormed (stateFrom (sizeIn b) vs xs ts (blames b) (names b))) (holds .header)

@@ -22,10 +22,10 @@ mod tallies;
 // Whether tallies, blame masks and log are well formed, where the statements are.
 fn tables_good(store: &[u8], station: Station) -> bool
     requires { ⌜ Ready (now store) station ⌝ }
-    ensures { λ r. ⌜ r ≡ tablesGood (settingsOf (station .settings)) (now (store .entry)) ⌝ }
+    ensures { λ r. ⌜ r ≡ tablesGood (settingsOf (station .settings)) (station .clock) (now (store .entry)) ⌝ }
 {
     let settings = station.settings;
-    tallies::all_good(store, settings, station.tallies)
+    tallies::all_good(store, settings, station.clock, station.tallies)
         & tallies::distinct(store, station.tallies)
         & tallies::all_there(store, station.tallies, station.statements)
         & blames::all_good(store, settings)

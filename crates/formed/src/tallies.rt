@@ -5,12 +5,12 @@ ghost use lib.ListN.{length};
 ghost use Rattle.rules.specs.Limits.{mostStations, mostTallies};
 ghost use Rattle.rules.specs.Lists.{all, any, distinct};
 ghost use Rattle.rules.specs.Words.{ofBlock};
-ghost use Rattle.rules.specs.WellFormed.{openerGood, tallyGood, sameTally, talliesThere};
+ghost use Rattle.rules.specs.WellFormed.{openerGood, reachedGood, tallyGood, sameTally, talliesThere};
 ghost use Rattle.settings.specs.Made.{settingsOf};
 ghost use Rattle.words.specs.Meaning.{blockOf, Certifies};
 ghost use Rattle.store.specs.Meaning.{tallyOf};
 ghost use Rattle.store.specs.Layout.{sizeIn, storeLength, statementTable, tallyTable};
-ghost use Rattle.store.specs.Decode.{rows, openerOf, tallyAt, statements, tallies};
+ghost use Rattle.store.specs.Decode.{rows, openerOf, reachedFrom, tallyAt, statements, tallies};
 ghost use Rattle.formed.specs.Lent.{Counts, Marked, Place, bare, AllCertify};
 use super::marks;
 use allowed::clauses;
@@ -36,10 +36,22 @@ fn opener_good(settings: Settings, mask: u16, opener: u8) -> bool
     settings::holds(mask as u64, author)
 }
 
-// Whether a tally is of a view and a block that are allowed, with a mask of these stations, opened by nobody or by one of its voters.
-fn tally_good(settings: Settings, tally: Tally) -> bool
+// Whether the clock of the first quorum is there exactly when a quorum is, and is not after the present one.
+fn reached_good(settings: Settings, clock: u32, mask: u16, reached: u32) -> bool
+    ensures { λ r. ⌜ r ≡ reachedGood (settingsOf settings) clock mask (reachedFrom reached) ⌝ }
+{
+    let certified = settings.quorum(mask as u64);
+    if reached == 0 {
+        return !certified;
+    }
+    certified & (reached - 1 <= clock)
+}
+
+// Whether a tally is of a view and a block that are allowed, with a mask of these stations, opened by nobody or by one of its voters,
+// and keeps a clock as it should.
+fn tally_good(settings: Settings, clock: u32, tally: Tally) -> bool
     requires { ⌜ settings .n ≤ mostStations ⌝ }
-    ensures { λ r. ⌜ r ≡ tallyGood (settingsOf settings) (tallyOf tally) ⌝ }
+    ensures { λ r. ⌜ r ≡ tallyGood (settingsOf settings) clock (tallyOf tally) ⌝ }
 {
     let name = tally.name;
     let block = clauses::block_allowed(tally.height as u64, name);
@@ -47,17 +59,18 @@ fn tally_good(settings: Settings, tally: Tally) -> bool
         & block
         & clauses::mask_within(settings, tally.mask)
         & opener_good(settings, tally.mask, tally.opener)
+        & reached_good(settings, clock, tally.mask, tally.reached)
 }
 
 // Whether every tally is good.
-pub fn all_good(store: &[u8], settings: Settings, count: usize) -> bool
+pub fn all_good(store: &[u8], settings: Settings, clock: u32, count: usize) -> bool
     requires { ⌜ Counts tallyTable (now store) count × (settings .n ≤ mostStations) ⌝ }
-    ensures { λ r. ⌜ r ≡ all (tallyGood (settingsOf settings)) (tallies (now (store .entry))) ⌝ }
+    ensures { λ r. ⌜ r ≡ all (tallyGood (settingsOf settings) clock) (tallies (now (store .entry))) ⌝ }
 {
     let mut i: usize = 0;
     while i < count {
         let tally = store::tally_at(store, i);
-        if !tally_good(settings, tally) {
+        if !tally_good(settings, clock, tally) {
             return false;
         }
         i += 1;

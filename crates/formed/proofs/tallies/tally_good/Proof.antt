@@ -22,11 +22,14 @@ mask-within-requires c κs = search needs
 opener-good-requires : tie.Need-opener-good-requires
 opener-good-requires c κs = search needs
 
+reached-good-requires : tie.Need-reached-good-requires
+reached-good-requires c κs = search needs
+
 returns : tie.Need-returns
 returns c =
-    let start = c .before .before .before .before .before .before .before in
-    rw (c .before .before .before .before .block-allowed .ensures, c .before .before .view-allowed .ensures, c .before .mask-within .ensures, c .opener-good .ensures)
-    (tally-is (start .args .settings) (start .args .tally) (c .before .before .before .before .before .struct-known .given .1 .1 .0))
+    let start = c .before .before .before .before .before .before .before .before in
+    rw (c .before .before .before .before .before .block-allowed .ensures, c .before .before .before .view-allowed .ensures, c .before .before .mask-within .ensures, c .before .opener-good .ensures, c .reached-good .ensures)
+    (tally-is (start .args .settings) (start .args .clock) (start .args .tally) (c .before .before .before .before .before .before .struct-known .given .1 .1 .0))
 
 pub tally-good-spec : {M : Type 1} → statement M
 tally-good-spec =
@@ -38,4 +41,5 @@ tally-good-spec =
     view-allowed-requires
     mask-within-requires
     opener-good-requires
+    reached-good-requires
     returns)
