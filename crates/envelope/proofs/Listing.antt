@@ -17,7 +17,7 @@ use Rattle.rules.proofs.Lengths.{length-field, length-write, size-least}
 use Rattle.outgoing.proofs.Writing.{wrote-append, put-wrote}
 use Rattle.rules.specs.Lists.{unbe}
 use Rattle.rules.specs.Messages as messages
-use Rattle.rules.specs.Messages.{newView, propose, vote, blame, blameSet, status, field, kind, read, write}
+use Rattle.rules.specs.Messages.{field, read, write}
 use Rattle.rules.proofs.Bytes.{Bytes, bytes-split}
 use Rattle.rules.proofs.ReadBack.{write-read}
 use Rattle.rules.proofs.Tests.{by-option, no-bool}

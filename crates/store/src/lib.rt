@@ -475,7 +475,7 @@ impl Tally {
         requires { ⌜ moment .clock ≤ lastClock ⌝ }
         ensures { λ r. ⌜ tallyOf r ≡ grown (momentOf moment) (tallyOf self) mask ⌝ }
     {
-        let voters = self.mask | mask;
+        let voters = settings::joined(self.mask, mask);
         let reached = moment.reached(self.reached, voters);
         let mut tally = self;
         tally.mask = voters;
@@ -752,7 +752,7 @@ pub fn join_blame(store: &mut [u8], view: u32, mask: u16)
     ensures { λ _. ⌜ Left (now (store .exit)) (blamed view mask (stateOf (now (store .entry)))) ⌝ }
 {
     let i = view as usize - 1;
-    let joined = blame_at(store, i) | mask;
+    let joined = settings::joined(blame_at(store, i), mask);
     fields::put(store, blame_place(store, i), 2, joined as u64);
 }
 
