@@ -79,6 +79,7 @@ module _ {s : State} (f : Formed s) where
   clock-formed l =
       let k = clocks-parts s (f .clocks) in
       let t = withClock (s .clock + 1) s in
+      let later = tally-later (s .settings) (s .clock) (t .clock) in
       record {
         settings = f .settings;
         view = f .view;
@@ -88,7 +89,7 @@ module _ {s : State} (f : Formed s) where
             record {
               statements = all-weaken (statementGood s) (statementGood t) (λ x. later-good s t x refl (omega arith)) (s .statements) (f .tables .statements);
               statementsDiffer = f .tables .statementsDiffer;
-              tallies = all-weaken (tallyGood (s .settings) (s .clock)) (tallyGood (s .settings) (t .clock)) (λ u. tally-later (s .settings) (s .clock) (t .clock) u (omega arith)) (s .tallies) (f .tables .tallies);
+              tallies = all-weaken (tallyGood (s .settings) (s .clock)) (tallyGood (s .settings) (t .clock)) (λ u. later u (omega arith)) (s .tallies) (f .tables .tallies);
               talliesDiffer = f .tables .talliesDiffer;
               opened = f .tables .opened;
               log = f .tables .log;

@@ -33,7 +33,9 @@ pub record TallyGood (g : Settings) (now : ℕ) (t : Tally) : Type 0 where
 pub tally-parts : (g : Settings) (now : ℕ) (t : Tally) → tallyGood g now t ≡ true → TallyGood g now t
 unfolding tallyGood
 tally-parts g now t e =
-    let h = and-6 (viewAllowed g (t .view)) (blockAllowed (t .height) (t .name)) (isName (t .name)) (isMask g (t .mask)) (openerGood g (t .mask) (t .opener)) (reachedGood g now (t .mask) (t .reached)) e in
+    let o = openerGood g (t .mask) (t .opener) in
+    let r = reachedGood g now (t .mask) (t .reached) in
+    let h = and-6 (viewAllowed g (t .view)) (blockAllowed (t .height) (t .name)) (isName (t .name)) (isMask g (t .mask)) o r e in
     record { view = h .0; block = h .1; name = name-lt (t .name) (h .2); mask = mask-lt g (t .mask) (h .3); opener = h .4; reached = h .5 }
 
 pub tally-made : {g : Settings} {now : ℕ} {t : Tally} → TallyGood g now t → tallyGood g now t ≡ true
