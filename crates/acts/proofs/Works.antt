@@ -5,7 +5,7 @@ use mathlib.Core.List.{List, [], _∷_}
 use native.Mathlib.Omega.{arith}
 use lib.ListN.{length}
 use Rattle.rules.specs.Limits.{mostStatements, mostTallies}
-use Rattle.rules.specs.Messages.{Effect, toAll, blameSet, vote, effect, outgoing}
+use Rattle.rules.specs.Messages.{Effect, toAll, blameSet, vote, effect, outgoing, size}
 use Rattle.rules.specs.Words.{Statement, message, State}
 use Rattle.rules.specs.Inputs.{Work, saying, _▸_, quit}
 use Rattle.outgoing.specs.Wrote.{Says}
@@ -17,7 +17,7 @@ use Rattle.store.proofs.Forms.{form-statements, form-tallies}
 use Rattle.kept.specs.Parts as kept
 use Rattle.kept.proofs.WellFormed.{parts, whole}
 use Rattle.kept.proofs.Keeps.{Keeps}
-use Rattle.kept.proofs.Lengths.{size, weight, bytes, bytes-cons, bytes-none, length-effect, statement-size}
+use Rattle.rules.proofs.Lengths.{weight, bytes, bytes-cons, bytes-none, length-effect, size-most}
 use Rattle.acts.specs.Works.{Formed, Works}
 
 -- ---- stores
@@ -71,11 +71,11 @@ two-lengths d e = omega (arith, two-bytes d e, length-effect d, length-effect e)
 -- "a statement and a vote", "the pair"
 pub ballot-bytes : (x : Statement) (v h b a : ℕ) → bytes (toAll (message x) ∷ toAll (vote v h b a) ∷ []) ≤ 160
 unfolding weight size
-ballot-bytes x v h b a = omega (arith, two-bytes (toAll (message x)) (toAll (vote v h b a)), statement-size x)
+ballot-bytes x v h b a = omega (arith, two-bytes (toAll (message x)) (toAll (vote v h b a)), size-most (message x))
 
 pub pair-bytes : (x y : Statement) → bytes (toAll (message x) ∷ toAll (message y) ∷ []) ≤ 200
 unfolding weight
-pair-bytes x y = omega (arith, two-bytes (toAll (message x)) (toAll (message y)), statement-size x, statement-size y)
+pair-bytes x y = omega (arith, two-bytes (toAll (message x)) (toAll (message y)), size-most (message x), size-most (message y))
 
 pub set-bytes : (v m : ℕ) → length (effect (toAll (blameSet v m))) ≤ 19
 unfolding weight size

@@ -3,6 +3,7 @@ use Prim.Native.Nat.{ℕ}
 use mathlib.Core.Path.{_≡_}
 use mathlib.Core.Bool.{Bool, true, false}
 use mathlib.Core.List.{List}
+use mathlib.Core.Option.{Option, none, some}
 use lib.Dec.{leb, eqb}
 use Rattle.rules.specs.Limits.{mostOpened}
 use Rattle.rules.specs.Lists.{any}
@@ -45,11 +46,20 @@ planned x s =
       | false ↦ newPlan (hasRoom (stored x s)) (certifiedAt (certificate x) (s .tallies)) (blockAt (ownBlock x 0) (s .tallies))
     ]
 
+-- the number that the paper gives to each case, 0 where there is room, and the places of a new statement's two tallies:
+-- "6 no record free for what this input must add"
+pub record Answer : Type 0 where
+  pub number : ℕ
+  pub places : Option (Found × Found)
+
+abbrev pub answerOf : Plan → Answer
+answerOf Repeat = record { number = 0; places = none }
+answerOf (New p q) = record { number = 0; places = some (p, q) }
+answerOf Full = record { number = 6; places = none }
+
 -- whether there is room for it
 unfoldable pub fits : Plan → Bool
-fits Repeat = true
-fits (New p q) = true
-fits Full = false
+fits p = eqb (answerOf p .number) 0
 
 -- a statement is new and has room, and its tallies are at these places
 pub record Newly (x : Statement) (s : State) (p q : Found) : Type 0 where

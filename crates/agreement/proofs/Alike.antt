@@ -8,7 +8,7 @@ use Rattle.rules.specs.Messages.{Message, newView, propose, vote, blame, blameS
 use Rattle.rules.specs.Words.{State}
 use Rattle.rules.specs.Inputs.{offered}
 use Rattle.rules.specs.Refusals.{step}
-use Rattle.agreement.specs.Schedule.{Event, HasRoom, Run, Says, Sends, Speaks, Sound, VotersVoted, Genuine, OneName, NeverUsedUp, Premises, Schedule}
+use Rattle.agreement.specs.Schedule.{Event, HasRoom, Run, IsSaid, Sends, Speaks, Sound, VotersVoted, Genuine, OneName, NeverUsedUp, Premises, Schedule}
 
 -- another run of the same group
 abbrev pub other : Run → (ℕ → Event) → (ℕ → ℕ → State) → (ℕ → ℕ → List Effect) → Run
@@ -16,14 +16,14 @@ other R event state said = record { size = R .size; n = R .n; D = R .D; event = 
 
 -- a message that is genuine in R is so where all that sound stations said before is said too
 module _ (R : Run) (event : ℕ → Event) (state : ℕ → ℕ → State) (said : ℕ → ℕ → List Effect) (faulty l : ℕ)
-    (on : (i p : ℕ) (e : Effect) → Sound R faulty i → p < l → Says R i p e → Says (other R event state said) i p e) where
+    (on : (i p : ℕ) (e : Effect) → Sound R faulty i → p < l → IsSaid R i p e → IsSaid (other R event state said) i p e) where
   abbrev Q : Run
   Q = other R event state said
 
-  earlier-on : (i : ℕ) (e : Effect) → Sound R faulty i → (p : ℕ) × (p < l) × Says R i p e → (p : ℕ) × (p < l) × Says Q i p e
+  earlier-on : (i : ℕ) (e : Effect) → Sound R faulty i → (p : ℕ) × (p < l) × IsSaid R i p e → (p : ℕ) × (p < l) × IsSaid Q i p e
   earlier-on i e ok (p, u, s) = (p, u, on i p e ok u s)
 
-  made-on : (i : ℕ) (m : ℕ → Message) → Sound R faulty i → (p : ℕ) × (p < l) × ((x : ℕ) × Says R i p (toAll (m x))) → (p : ℕ) × (p < l) × ((x : ℕ) × Says Q i p (toAll (m x)))
+  made-on : (i : ℕ) (m : ℕ → Message) → Sound R faulty i → (p : ℕ) × (p < l) × ((x : ℕ) × IsSaid R i p (toAll (m x))) → (p : ℕ) × (p < l) × ((x : ℕ) × IsSaid Q i p (toAll (m x)))
   made-on i m ok (p, u, (x, s)) = (p, u, (x, on i p (toAll (m x)) ok u s))
 
   voters-on : (m v h b : ℕ) → VotersVoted R faulty l m v h b → VotersVoted Q faulty l m v h b
@@ -45,7 +45,7 @@ module _ (R : Run) (state : ℕ → ℕ → State) (said : ℕ → ℕ → List 
 
   module _ (faulty : ℕ) (heightOf parentOf : ℕ → ℕ) (states : (i : ℕ) → Sound R faulty i → (k : ℕ) → R .state i k ≡ state i k)
       (words : (i : ℕ) → Sound R faulty i → (k : ℕ) → R .said i k ≡ said i k) where
-    pub says-alike : (i k : ℕ) (e : Effect) → Sound R faulty i → Says R i k e → Says T i k e
+    pub says-alike : (i k : ℕ) (e : Effect) → Sound R faulty i → IsSaid R i k e → IsSaid T i k e
     says-alike i k e ok = subst (List·Memᴰ e) (words i ok k)
 
     sends-alike : (i j k : ℕ) (m : Message) → Sound R faulty i → Sends T i j k m → Sends R i j k m

@@ -16,7 +16,7 @@ use Rattle.rules.proofs.Allowed.{mask-parts, allowed-rights, certificate-cases}
 use Rattle.rules.proofs.Moves.{carried}
 use Rattle.rules.proofs.Kept.{moves-kept}
 use Rattle.rules.proofs.Votes.{Cast}
-use Rattle.agreement.specs.Schedule.{Says, Run, run}
+use Rattle.agreement.specs.Schedule.{IsSaid, Run, run}
 use Rattle.agreement.proofs.Events.{Brings, begun}
 use Rattle.agreement.proofs.Group.{Group, st, ck, Ok, G, SaidAt, VotedBy, Sure, sure-run, cast-run}
 use Rattle.agreement.proofs.Follow.{names-sound}
@@ -29,7 +29,7 @@ module _ (X : Group) where
 
   -- a sound station voted so by clock c
   abbrev pub SoundVote : (c v h b : ℕ) → Type 0
-  SoundVote c v h b = (i : ℕ) × (k : ℕ) × Ok X i × (ck X (suc k) ≤ c) × Says R i k (toAll (vote v h b i))
+  SoundVote c v h b = (i : ℕ) × (k : ℕ) × Ok X i × (ck X (suc k) ≤ c) × IsSaid R i k (toAll (vote v h b i))
 
   -- behind a stored statement
   abbrev pub Behind : ℕ → Statement → Type 0
@@ -72,7 +72,7 @@ module _ (X : Group) where
     pub cast : Cast (SaidAt X i) (Brings i (event k) (st X i k)) (begun (event k) (st X i k)) (st X i (suc k)) v h b
     pub behind : Behind (ck X (suc k)) (cast .stands .what)
 
-  pub grounds : (i : ℕ) → Ok X i → (k v h b a : ℕ) → Says R i k (toAll (vote v h b a)) → Grounds i k v h b
+  pub grounds : (i : ℕ) → Ok X i → (k v h b a : ℕ) → IsSaid R i k (toAll (vote v h b a)) → Grounds i k v h b
   grounds i ok k v h b a m =
       let c = cast-run X i ok k v h b a m in
       record { cast = c; behind = stored-behind i ok (suc k) (c .stands .what) (moves-kept (c .after) .has (c .stands .what) (c .stands .has)) }

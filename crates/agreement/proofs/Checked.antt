@@ -22,7 +22,7 @@ use Rattle.rules.proofs.Tests.{by-bool, by-option, no-some, no-bool}
 use Rattle.rules.proofs.Bytes.{Bytes, none as no-bytes, one}
 use Rattle.rules.proofs.Truths.{and-2, both, or-2}
 use Rattle.rules.proofs.Searches.{by-mem, first-mem, first-any, first-none}
-use Rattle.agreement.specs.Schedule.{Event, idle, commonTick, tickOf, given, offeredTo, happens, ticks, IsCommon, CommonTicks, settingsOf, at, out, clock, Says, HasVoted, HasBlamed, HasMade, Sound, NeverFull, IsLent, ProperBuffers, Sends, InTime, VotersVoted, Genuine, Hands, NoForgery, Offers, OneBlock, OneName, NeverUsedUp, Run, run, HasRoom, Schedule}
+use Rattle.agreement.specs.Schedule.{Event, idle, commonTick, tickOf, given, offeredTo, happens, ticks, IsCommon, CommonTicks, settingsOf, at, out, clock, IsSaid, HasVoted, HasBlamed, HasMade, Sound, NeverFull, IsLent, ProperBuffers, Sends, InTime, VotersVoted, Genuine, Hands, NoForgery, Offers, OneBlock, OneName, NeverUsedUp, Run, run, HasRoom, Schedule}
 use Rattle.agreement.proofs.Events.{never-idle}
 use Rattle.agreement.specs.Checks.{Premise, settingsGood, fewFaulty, neverFull, commonTicks, properBuffers, inTime, noForgery, oneName, neverUsedUp, premises, place, other, Holds, AllBut, test, verdict, implies, every, some?, sameMessage, maskIn, toAllThat, brought, ifSome, isCommon, givenTo, offeredAs, listed, isSound, hasSaid, votersVoted, hasMade, isGenuine, taken, noneForged, comes, comesInTime, saidInTime, allInTime, allCommon, allRun, allLent, isOneBlock, oneNamed, allHeard}
 
@@ -115,7 +115,7 @@ module _ (size : Size) (n D : ℕ) (es : List Event) (faulty : ℕ) where
   unfolding isSound
   sound-test i ok = both (lt-ltb i n (ok .0)) (eq-eqb (bit faulty i) 0 (ok .1))
 
-  says-here : (i k : ℕ) (e : Effect) → Says R i k e → k < length es
+  says-here : (i k : ℕ) (e : Effect) → IsSaid R i k e → k < length es
   unfolding out
   says-here i k e s =
       elim (decLt k (length es)) [
@@ -123,18 +123,18 @@ module _ (size : Size) (n D : ℕ) (es : List Event) (faulty : ℕ) where
         | no d ↦ absurd (List·Memᴰ·not-nil (subst (λ (y : Event). List·Memᴰ e (happens i y (at size n D E i k) .out)) (listed-idle k (omega arith)) s))
       ]
 
-  said : (i k : ℕ) (p : Message → Bool) → hasSaid size n D es faulty i k p ≡ true → (l : ℕ) × (l < k) × ((m : Message) × Says R i l (toAll m) × (p m ≡ true))
+  said : (i k : ℕ) (p : Message → Bool) → hasSaid size n D es faulty i k p ≡ true → (l : ℕ) × (l < k) × ((m : Message) × IsSaid R i l (toAll m) × (p m ≡ true))
   unfolding hasSaid
   said i k p h =
       let (l, d, q) = some-true k (λ l. any (toAllThat p) (out size n D E i l)) h in
       let (e, m, t) = any-true (toAllThat p) (out size n D E i l) q in
       let (x, f, u) = toAllThat-true p e t in
-      (l, d, (x, subst (λ (y : Effect). Says R i l y) f m, u))
+      (l, d, (x, subst (λ (y : Effect). IsSaid R i l y) f m, u))
 
-  said-message : (i k : ℕ) (m : Message) → hasSaid size n D es faulty i k (sameMessage m) ≡ true → (l : ℕ) × (l < k) × Says R i l (toAll m)
+  said-message : (i k : ℕ) (m : Message) → hasSaid size n D es faulty i k (sameMessage m) ≡ true → (l : ℕ) × (l < k) × IsSaid R i l (toAll m)
   said-message i k m h =
       let (l, d, (x, s, u)) = said i k (sameMessage m) h in
-      (l, d, subst (λ (y : Message). Says R i l (toAll y)) (sym (sameMessage-eq m x u)) s)
+      (l, d, subst (λ (y : Message). IsSaid R i l (toAll y)) (sym (sameMessage-eq m x u)) s)
 
   -- ---- no forgery
 
@@ -148,7 +148,7 @@ module _ (size : Size) (n D : ℕ) (es : List Event) (faulty : ℕ) where
   unfolding hasMade
   made-test i k f t ok =
       let (l, d, (x, s, u)) = said i k (λ m. sameMessage (f (maskIn m)) m) (implies-true (isSound size n D es faulty i) t (sound-test i ok)) in
-      (l, d, (maskIn x, subst (λ (y : Message). Says R i l (toAll y)) (sym (sameMessage-eq (f (maskIn x)) x u)) s))
+      (l, d, (maskIn x, subst (λ (y : Message). IsSaid R i l (toAll y)) (sym (sameMessage-eq (f (maskIn x)) x u)) s))
 
   genuine-test : (k : ℕ) (m : Message) → isGenuine size n D es faulty k m ≡ true → Genuine R faulty k m
   unfolding isGenuine
@@ -256,7 +256,7 @@ module _ (size : Size) (n D : ℕ) (es : List Event) (faulty : ℕ) where
       let q = and-2 (eqb i j) (sameList cs bs) t in ap₂ (λ (x : ℕ) (ys : List ℕ). given x ys) (eqb-true i j (q .0)) (sameList-eq cs bs (q .1))
   given-test (offeredTo i b) j bs t = no-bool (sym t)
 
-  sends-brought : (i j k : ℕ) (m : Message) → Sends R i j k m → (e : Effect) × Says R i k e × (brought i j e ≡ some m)
+  sends-brought : (i j k : ℕ) (m : Message) → Sends R i j k m → (e : Effect) × IsSaid R i k e × (brought i j e ≡ some m)
   unfolding brought
   sends-brought i j k m (inl (s, ne)) =
       (toAll m, s, by-bool (eqb i j) (λ q. absurd (ne (eqb-true i j q))) (λ q. rw (q, brought)))

@@ -9,7 +9,7 @@ use Rattle.rules.specs.Messages.{propose, vote, viewOf, write, toAll}
 use Rattle.rules.specs.Words.{inView}
 use Rattle.rules.specs.Inputs.{merge}
 use Rattle.rules.proofs.Commits.{begins-merge}
-use Rattle.agreement.specs.Schedule.{Event, given, happens, ticks, at, out, clock, run, Says, Schedule, OneBegins}
+use Rattle.agreement.specs.Schedule.{Event, given, happens, ticks, at, out, clock, run, IsSaid, Schedule, OneBegins}
 use Rattle.agreement.specs.Checks.{fewFaulty, commonTicks, inTime, noForgery, oneName, premises, other, AllBut, listed, verdict}
 use Rattle.agreement.specs.Examples.{twoViews, oneAhead, heldBack, forgedVotes, manyFaulty, twoParents, ownTicks, heightOf, parentOf, rivalHeight, rivalParent}
 use Rattle.agreement.proofs.Checked.{all-but, schedule-checked}
@@ -31,7 +31,7 @@ pub one-ahead : Schedule (run small 3 1 (listed oneAhead)) 4 heightOf parentOf
 unfolding verdict premises oneAhead heightOf parentOf
 one-ahead = schedule-checked small 3 1 oneAhead 4 heightOf parentOf refl
 
-pub one-ahead-taken : Says (run small 3 1 (listed oneAhead)) 0 19 (toAll (vote 2 0 0 0)) × (listed oneAhead 21 ≡ given 1 (write (vote 2 0 0 0)))
+pub one-ahead-taken : IsSaid (run small 3 1 (listed oneAhead)) 0 19 (toAll (vote 2 0 0 0)) × (listed oneAhead 21 ≡ given 1 (write (vote 2 0 0 0)))
     × (at small 3 1 (listed oneAhead) 1 21 .view + 1 ≡ viewOf (vote 2 0 0 0)) × (happens 1 (listed oneAhead 21) (at small 3 1 (listed oneAhead) 1 21) .number ≡ 0)
 unfolding at out happens listed oneAhead viewOf
 one-ahead-taken = (List·Memᴰ·tail (List·Memᴰ·tail (List·Memᴰ·head refl)), refl, refl, refl)
@@ -76,7 +76,7 @@ two-parents = (
 abbrev Missed : (n : ℕ) → List Event → (j mask : ℕ) → Type 0
 Missed n es j m =
     let R = run small n 1 (listed es) in
-    Says R 0 j (toAll (propose 1 2 99 98 m 1)) × Says R 0 j (toAll (vote 1 2 99 0)) × (ticks 0 (listed es 7) ≡ 1)
+    IsSaid R 0 j (toAll (propose 1 2 99 98 m 1)) × IsSaid R 0 j (toAll (vote 1 2 99 0)) × (ticks 0 (listed es 7) ≡ 1)
     × (clock (listed es) 0 7 ≡ clock (listed es) 0 (suc j) + 2 * 1) × (at small n 1 (listed es) 0 7 .phase ≡ inView) × (at small n 1 (listed es) 0 7 .view ≡ 1)
     × (at small n 1 (listed es) 0 8 .log ≡ [])
 

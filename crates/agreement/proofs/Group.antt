@@ -27,7 +27,7 @@ use Rattle.rules.proofs.Votes.{Cast, CastSaid, moves-cast}
 use Rattle.rules.proofs.Proper.{Right, Proper, Known, Parented, fresh-proper, proper-map, moves-proper}
 use Rattle.kept.specs.Parts.{WellFormed}
 use Rattle.kept.proofs.Statements.{stored-said}
-use Rattle.agreement.specs.Schedule.{Event, idle, commonTick, tickOf, given, offeredTo, happens, ticks, IsCommon, settingsOf, at, out, clock, Says, Sound, IsLent, Sends, Speaks, Hands, Offers, Run, run}
+use Rattle.agreement.specs.Schedule.{Event, idle, commonTick, tickOf, given, offeredTo, happens, ticks, IsCommon, settingsOf, at, out, clock, IsSaid, Sound, IsLent, Sends, Speaks, Hands, Offers, Run, run}
 use Rattle.agreement.proofs.Whole.{settings-alike, formed-at, sent-allowed}
 use Rattle.agreement.proofs.Clock.{clock-suc, clock-mono, clock-before}
 use Rattle.agreement.proofs.Events.{GivenBy, OfferedBy, Brings, begun, before, event-moves, begun-clock, begun-same, begun-kept, begun-orderly, begun-proper, before-all, mem-after, event-settled, ticks-two, happens-given}
@@ -63,7 +63,7 @@ pub record Group : Type 0 where
   pub reaches : Reaches (run size n D event) faulty next
   pub takes : Takes (run size n D event) faulty
   pub voters : (k j : ℕ) (m : Message) → Hands (run size n D event) faulty k j m → (t : Certificate) → carried m ≡ some t → (i : ℕ) → Sound (run size n D event) faulty i → bit (t .mask) i ≡ 1
-      → (l : ℕ) × (l < k) × Says (run size n D event) i l (toAll (vote (t .view) (t .height) (t .name) i))
+      → (l : ℕ) × (l < k) × IsSaid (run size n D event) i l (toAll (vote (t .view) (t .height) (t .name) i))
   pub parents : (k j : ℕ) (m : Message) → Hands (run size n D event) faulty k j m ⊎ Offers (run size n D event) faulty k j m → Parented parentOf m
 
 module _ (X : Group) where
@@ -83,11 +83,11 @@ module _ (X : Group) where
 
   -- i said e at clock c
   abbrev pub SaidAt : ℕ → ℕ → Effect → Type 0
-  SaidAt i c e = (k : ℕ) × (ck (suc k) ≡ c) × Says R i k e
+  SaidAt i c e = (k : ℕ) × (ck (suc k) ≡ c) × IsSaid R i k e
 
   -- if i is sound, it voted so by clock c
   abbrev pub VotedBy : (c v h b i : ℕ) → Type 0
-  VotedBy c v h b i = Ok i → (l : ℕ) × (ck (suc l) ≤ c) × Says R i l (toAll (vote v h b i))
+  VotedBy c v h b i = Ok i → (l : ℕ) × (ck (suc l) ≤ c) × IsSaid R i l (toAll (vote v h b i))
 
   abbrev pub G : ℕ → Settings
   G i = settingsOf size n D i
@@ -104,7 +104,7 @@ module _ (X : Group) where
   said-here i k o e c q = to-all (SaidAt i c) o (λ f m. (k, q, subst (List·Memᴰ f) (sym e) (mem-after (before (event k) (st i k)) o f m)))
 
   -- what holds of the reports and of what the moves say holds of all that is said
-  pub out-all : (P : Effect → Type 0) (i : ℕ) (h : Ok i) (k : ℕ) → ((a b : ℕ) → P (committed a b)) → All P (moves-of i h k .0) → (e : Effect) → Says R i k e → P e
+  pub out-all : (P : Effect → Type 0) (i : ℕ) (h : Ok i) (k : ℕ) → ((a b : ℕ) → P (committed a b)) → All P (moves-of i h k .0) → (e : Effect) → IsSaid R i k e → P e
   out-all P i h k f a e m =
       let (o, q, w) = moves-of i h k in
       all-of P (before (event k) (st i k) ++ o) (all-append P (before (event k) (st i k)) o (before-all P (event k) (st i k) f) a) e (subst (List·Memᴰ e) q m)
@@ -210,7 +210,7 @@ module _ (X : Group) where
   known-here : (i k : ℕ) (e : Effect) → SaidAt i (ck (suc k)) e → Known (VotedBy (ck (suc k))) parentOf (G i) e
   known-here i k (toAll (newView v h b c m a)) s = tt
   known-here i k (toAll (propose v h b p m a)) s = tt
-  known-here i k (toAll (vote v h b a)) (l, c, s) = λ q ok. (l, omega arith, subst (λ (x : ℕ). Says R x l (toAll (vote v h b a))) (sym q) s)
+  known-here i k (toAll (vote v h b a)) (l, c, s) = λ q ok. (l, omega arith, subst (λ (x : ℕ). IsSaid R x l (toAll (vote v h b a))) (sym q) s)
   known-here i k (toAll (blame v a)) s = tt
   known-here i k (toAll (blameSet v m)) s = tt
   known-here i k (toAll (status h b c m)) s = tt
@@ -263,7 +263,7 @@ module _ (X : Group) where
       (step-held (write m) m u (sent-allowed size n D event (X .lent) i (good i hi) j l m s .0) (blames-length j hj h ∙ ap suc (views-run j hj h))
       (sym (ap (λ (x : Outcome). x .number) z) ∙ X .takes i j hi hj l h m s o e v))
 
-  pub said-held : (i : ℕ) → Ok i → (l : ℕ) (m : Message) → Says R i l (toAll m) → Held (G i) (st i (suc l)) m
+  pub said-held : (i : ℕ) → Ok i → (l : ℕ) (m : Message) → IsSaid R i l (toAll m) → Held (G i) (st i (suc l)) m
   said-held i ok l m s =
       let (o, q, w) = moves-of i ok l in
       let b = begun (event l) (st i l) in
@@ -274,7 +274,7 @@ module _ (X : Group) where
       subst (λ (y : Settings). Held y t m) g (out-all (HeldSaid (b .settings) t) i ok l (λ h c. tt) a (toAll m) s)
 
   -- what i says at event l is of no later view than the one it is then in
-  pub says-views : (i : ℕ) → Ok i → (l : ℕ) (e : Effect) → Says R i l e → ViewSaid (st i (suc l) .view) e
+  pub says-views : (i : ℕ) → Ok i → (l : ℕ) (e : Effect) → IsSaid R i l e → ViewSaid (st i (suc l) .view) e
   says-views i ok l e s =
       let (o, q, w) = moves-of i ok l in
       out-all (ViewSaid (st i (suc l) .view)) i ok l (λ h b. tt) (moves-views (begun (event l) (st i l)) (st i (suc l)) o w) e s
@@ -301,7 +301,7 @@ module _ (X : Group) where
 
   -- ---- L4 in the run: a vote at event k
 
-  pub cast-run : (i : ℕ) → Ok i → (k v h b a : ℕ) → Says R i k (toAll (vote v h b a))
+  pub cast-run : (i : ℕ) → Ok i → (k v h b a : ℕ) → IsSaid R i k (toAll (vote v h b a))
       → Cast (SaidAt i) (Brings i (event k) (st i k)) (begun (event k) (st i k)) (st i (suc k)) v h b
   cast-run i ok k v h b a m =
       let (o, q, w) = moves-of i ok k in

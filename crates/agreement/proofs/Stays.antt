@@ -23,7 +23,7 @@ use Rattle.rules.proofs.Orderly.{propose-high}
 use Rattle.rules.proofs.Held.{held-stored}
 use Rattle.rules.proofs.Votes.{Cast, Stands}
 use Rattle.rules.proofs.Commits.{commits-some, Due, facts-due}
-use Rattle.agreement.specs.Schedule.{Event, commonTick, ticks, at, run, Says, lineage}
+use Rattle.agreement.specs.Schedule.{Event, commonTick, ticks, at, run, IsSaid, lineage}
 use Rattle.agreement.proofs.Lineage.{up, propose-facts, chain-whole}
 use Rattle.agreement.proofs.Events.{Brings, begun, begun-same}
 use Rattle.agreement.proofs.Clock.{clock-suc, clock-before}
@@ -94,8 +94,8 @@ module _ (X : Group) where
   -- r says a propose and the vote for it at event j, at clock t, and is in that view as the tick to t + 2D + 1 begins
   pub record Stays (r j k v h b p m a : ℕ) : Type 0 where
     pub ok : Ok X r
-    pub statement : Says (run size n D event) r j (toAll (propose v h b p m a))
-    pub ballot : Says (run size n D event) r j (toAll (vote v h b r))
+    pub statement : IsSaid (run size n D event) r j (toAll (propose v h b p m a))
+    pub ballot : IsSaid (run size n D event) r j (toAll (vote v h b r))
     pub tick : event k ≡ commonTick
     pub due : ck X k ≡ ck X (suc j) + 2 * D
     pub phase : st X r k .phase ≡ inView

@@ -14,7 +14,7 @@ use Rattle.rules.specs.Words.{inView, State}
 use Rattle.rules.specs.Inputs.{reports}
 use Rattle.rules.specs.Refusals.{running, ahead}
 use Rattle.rules.proofs.Views.{not-ahead}
-use Rattle.agreement.specs.Schedule.{Event, commonTick, given, happens, until, at, clock, Says, Speaks, Sound, SoundRun, RunsTo, Schedule, Linked, lineage, reported, Run, run, OneBegins}
+use Rattle.agreement.specs.Schedule.{Event, commonTick, given, happens, until, at, clock, IsSaid, Speaks, Sound, SoundRun, RunsTo, Schedule, Linked, lineage, reported, Run, run, OneBegins}
 use Rattle.agreement.proofs.Clock.{clock-alike, clock-mono}
 use Rattle.agreement.proofs.Group.{Group, at-clock}
 use Rattle.agreement.proofs.Follow.{spoken-near}
@@ -48,7 +48,7 @@ module _ (size : Size) (n D : ℕ) (event : ℕ → Event) (faulty : ℕ) (heigh
   -- Theorem B: a sound station that says a propose and its vote at event j, at clock t, and is in that view as the tick to t+2D+1
   -- begins, has that block and all its ancestors in its log after that tick
   pub vote-commits : (r : ℕ) → Sound R faulty r → (j v h b p m a : ℕ)
-      → Says R r j (toAll (propose v h b p m a)) → Says R r j (toAll (vote v h b r))
+      → IsSaid R r j (toAll (propose v h b p m a)) → IsSaid R r j (toAll (vote v h b r))
       → (k : ℕ) → event k ≡ commonTick → clock event r k ≡ clock event r (suc j) + 2 * D → at size n D event r k .phase ≡ inView → at size n D event r k .view ≡ v
       → IsPrefix (lineage parentOf h b) (at size n D event r (suc k) .log)
   vote-commits r ok j v h b p m a s w k e d ph vw =
@@ -92,7 +92,7 @@ module _ (size : Size) (n D : ℕ) (event : ℕ → Event) (faulty : ℕ) (heigh
       (one-clerk size n D (until K event) faulty heightOf parentOf X i ok k)
 
   pub vote-commits-until : (r : ℕ) → Sound Whole faulty r → (j v h b p m a : ℕ)
-      → Says Whole r j (toAll (propose v h b p m a)) → Says Whole r j (toAll (vote v h b r))
+      → IsSaid Whole r j (toAll (propose v h b p m a)) → IsSaid Whole r j (toAll (vote v h b r))
       → (k : ℕ) → k < K → j < k → event k ≡ commonTick → clock event r k ≡ clock event r (suc j) + 2 * D → at size n D event r k .phase ≡ inView
       → at size n D event r k .view ≡ v → IsPrefix (lineage parentOf h b) (at size n D event r (suc k) .log)
   vote-commits-until r ok j v h b p m a s w k l e t d ph vw =

@@ -16,7 +16,7 @@ use Rattle.rules.specs.Words.{State}
 use Rattle.rules.specs.Inputs.{saying, offered}
 use Rattle.rules.specs.Refusals.{done, step}
 use Rattle.rules.proofs.Tests.{by-bool}
-use Rattle.agreement.specs.Schedule.{Event, idle, commonTick, tickOf, given, offeredTo, happens, ticks, IsCommon, until, at, out, clock, Says, CommonTicks, RoomTo, IsLent, ProperBuffers, Sends, Speaks, InTime, NeverUsedUp, Hands, NoForgery, Offers, OneName, Premises, Schedule, reportsIn, reported, Run, run}
+use Rattle.agreement.specs.Schedule.{Event, idle, commonTick, tickOf, given, offeredTo, happens, ticks, IsCommon, until, at, out, clock, IsSaid, CommonTicks, RoomTo, IsLent, ProperBuffers, Sends, Speaks, InTime, NeverUsedUp, Hands, NoForgery, Offers, OneName, Premises, Schedule, reportsIn, reported, Run, run}
 use Rattle.agreement.proofs.Events.{Happening, never-idle}
 use Rattle.agreement.proofs.Alike.{genuine-on}
 
@@ -109,14 +109,14 @@ module _ (size : Size) (n D : ℕ) (event : ℕ → Event) (K : ℕ) where
 
   -- ---- what is said
 
-  pub says-back : (i l : ℕ) (e : Effect) → Says Q i l e → (l < K) × Says R i l e
+  pub says-back : (i l : ℕ) (e : Effect) → IsSaid Q i l e → (l < K) × IsSaid R i l e
   says-back i l e s =
       elim (decLt l K) [
         | yes d ↦ (d, subst (List·Memᴰ e) (out-until i l d) s)
         | no d ↦ absurd (List·Memᴰ·not-nil (subst (List·Memᴰ e) (out-after i l (omega arith)) s))
       ]
 
-  pub says-on : (i l : ℕ) (e : Effect) → l < K → Says R i l e → Says Q i l e
+  pub says-on : (i l : ℕ) (e : Effect) → l < K → IsSaid R i l e → IsSaid Q i l e
   says-on i l e d s = subst (List·Memᴰ e) (sym (out-until i l d)) s
 
   module _ (faulty : ℕ) where

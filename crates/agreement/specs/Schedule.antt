@@ -120,28 +120,29 @@ module _ (size : Size) (n D : ℕ) (event : ℕ → Event) where
 module _ (R : Run) where
   open Run R using (size, n, D, event, state, said)
 
-  abbrev pub Says : ℕ → ℕ → Effect → Type 0
-  Says i k e = List·Memᴰ e (said i k)
+  -- station i says e at event k
+  abbrev pub IsSaid : ℕ → ℕ → Effect → Type 0
+  IsSaid i k e = List·Memᴰ e (said i k)
 
   -- i sends m to j: to all others, or to one
   abbrev pub Sends : (i j k : ℕ) → Message → Type 0
-  Sends i j k m = (Says i k (toAll m) × ¬ (i ≡ j)) ⊎ Says i k (toOne j m)
+  Sends i j k m = (IsSaid i k (toAll m) × ¬ (i ≡ j)) ⊎ IsSaid i k (toOne j m)
 
   -- m is a message of i: said to all, or to whomever
   abbrev pub Speaks : (i k : ℕ) → Message → Type 0
-  Speaks i k m = Says i k (toAll m) ⊎ ((j : ℕ) × Says i k (toOne j m))
+  Speaks i k m = IsSaid i k (toAll m) ⊎ ((j : ℕ) × IsSaid i k (toOne j m))
 
   -- ---- what station i said before event k
 
   abbrev pub HasVoted : (i k view height name : ℕ) → Type 0
-  HasVoted i k v h b = (l : ℕ) × (l < k) × Says i l (toAll (vote v h b i))
+  HasVoted i k v h b = (l : ℕ) × (l < k) × IsSaid i l (toAll (vote v h b i))
 
   abbrev pub HasBlamed : (i k view : ℕ) → Type 0
-  HasBlamed i k v = (l : ℕ) × (l < k) × Says i l (toAll (blame v i))
+  HasBlamed i k v = (l : ℕ) × (l < k) × IsSaid i l (toAll (blame v i))
 
   -- a statement, with whatever mask
   abbrev pub HasMade : (i k : ℕ) → (ℕ → Message) → Type 0
-  HasMade i k m = (l : ℕ) × (l < k) × ((mask : ℕ) × Says i l (toAll (m mask)))
+  HasMade i k m = (l : ℕ) × (l < k) × ((mask : ℕ) × IsSaid i l (toAll (m mask)))
 
   -- ---- the premises
 

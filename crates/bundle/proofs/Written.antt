@@ -14,7 +14,8 @@ use Rattle.rules.specs.Messages.{field}
 use Rattle.rules.proofs.Tests.{by-bool, by-option, no-some}
 use Rattle.wire.specs.Fields.{head}
 use Rattle.outgoing.specs.Wrote.{wrote, Says}
-use Rattle.outgoing.proofs.Writing.{wrote-append, field-says, says-length, length-field}
+use Rattle.rules.proofs.Lengths.{length-field}
+use Rattle.outgoing.proofs.Writing.{wrote-append, field-says, says-length}
 use Rattle.envelope.specs.Items.{Place, partAt, envelopeTag, messageTag, bytesOf, flat}
 use Rattle.envelope.specs.Reading.{mostBytes}
 use Rattle.envelope.proofs.Grammar.{length-message}

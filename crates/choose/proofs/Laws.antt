@@ -12,7 +12,7 @@ use lib.Dec.{eqb, ltb}
 use borrow.Author.Tests.{lt-ltb, le-ltb, eq-eqb, ne-eqb}
 use Rattle.fields.specs.Places.{Bytes}
 use Rattle.rules.specs.Lists.{unbe}
-use Rattle.rules.specs.Messages.{Message, newView, propose, vote, blame, blameSet, status, field, width, tagsOf, rowOf, table, kind, values, writes, write, read, allowed}
+use Rattle.rules.specs.Messages.{Message, newView, propose, vote, blame, blameSet, status, field, width, tagsOf, rowOf, table, kind, values, writes, write, read, allowed, size}
 use Rattle.rules.specs.Sizes.{Settings}
 use Rattle.rules.specs.Words.{Certificate, below, message}
 use Rattle.rules.proofs.Bytes as rules
@@ -24,7 +24,7 @@ use Rattle.wire.proofs.Message.{the-type}
 use Rattle.wire.specs.declared.Message as messages
 use Rattle.wire.specs.declared.Message.the-variants.{Stated, Vote, Blame, BlameSet, Status}
 use Rattle.wire.specs.Meaning.{messageOf, statementOf}
-use Rattle.outgoing.proofs.Writing.{length-write}
+use Rattle.rules.proofs.Lengths.{length-write}
 use Rattle.groups.specs.Groups.{group}
 use Rattle.choose.specs.Meaning.{Rank}
 use Rattle.choose.specs.Choose.{reported, report, taken, takenOf, Part, certificatePart, emptyPart, chosen}
@@ -150,7 +150,7 @@ module _ (g : Settings) (s : List ℕ) (c : Certificate) (e : report g s ≡ som
 
     -- 58 of them
     pub report-length : length s ≡ 58
-    unfolding kind
+    unfolding size
     report-length = ap length (write-read s (statusOf c) (bytes-all s b) report-read) ∙ length-write (statusOf c)
 
     -- what is handed back, put behind the bytes of kind 6, reads as that status

@@ -18,7 +18,7 @@ use Rattle.store.specs.Layout.{statementTable, logTable, countOf}
 use Rattle.store.specs.Decode.{rows, statementAt, statements, nameAt, names, Form}
 use Rattle.store.proofs.Rows.{rows-same}
 use Rattle.store.proofs.Forms.{form-log}
-use Rattle.commit.specs.Chains.{statementIn, nameIn, nameSoFar, lacking, Walked, WalkedFrom, Settled, Begun, Ready, isRipe}
+use Rattle.commit.specs.Chains.{statementIn, nameIn, nameSoFar, lacking, Walked, WalkedFrom, Settled, Begun, WholeChain, isRipe}
 use Rattle.commit.specs.Outcome.{Log, Has, Joined, JoinedWith}
 use Rattle.commit.specs.declared.Merged.{Merged}
 use Rattle.commit.specs.declared.Merged.the-variants.{Grown, Differs}
@@ -230,8 +230,8 @@ module _ {b : List ℕ} {p : Statement → Bool} {count i len : ℕ} {gained tab
     merges : from b p count (names b) (i - 1) ≡ merge (rows (nameIn b table) 0 own) log
     merges = joins ∙ commit-some (statements b) y log _ (its-chain ∙ ap (λ (n : ℕ). lacking n (rows (nameIn b table) 0 own)) whole)
 
-    pub turn-ready : {logged : ℕ} → Form b → logged ≡ countOf logTable b → Ready b gained table logged len own
-    turn-ready f old = record {
+    pub turn-whole : {logged : ℕ} → Form b → logged ≡ countOf logTable b → WholeChain b gained table logged len own
+    turn-whole f old = record {
       form = f;
       old = old;
       more = omega (arith, t .log .more);

@@ -11,7 +11,7 @@ use native.Mathlib.Decide.{decLt}
 use Rattle.rules.specs.Inputs.{merge}
 use Rattle.store.specs.Decode.{rows}
 use Rattle.store.proofs.Rows.{rows-same}
-use Rattle.commit.specs.Chains.{nameIn, nameSoFar, Copied, Ready, Agree}
+use Rattle.commit.specs.Chains.{nameIn, nameSoFar, Copied, WholeChain, Agree}
 use Rattle.commit.specs.Outcome.{JoinedWith}
 use Rattle.commit.specs.declared.Merged.the-variants.{Grown, Differs}
 use Rattle.commit.proofs.Places.{name-same, so-far-new, so-far-same}
@@ -54,7 +54,7 @@ module _ (f g : ℕ → ℕ) where
 
 -- ---- the three ways
 
-module _ (b gained chain : List ℕ) (logged len height : ℕ) (r : Ready b gained chain logged len height) (end : ℕ) (a : Bool)
+module _ (b gained chain : List ℕ) (logged len height : ℕ) (r : WholeChain b gained chain logged len height) (end : ℕ) (a : Bool)
     (agree : Agree (nameIn b chain) (nameSoFar b gained) end a) where
   abbrev F : ℕ → ℕ
   F = nameIn b chain

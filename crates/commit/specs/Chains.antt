@@ -66,7 +66,7 @@ pub record Begun (b gained chain : List ℕ) (count logged wait : ℕ) : Type 0 
   pub short : wait < 2 ^ 32
 
 -- a whole chain of a height, and the log so far
-pub record Ready (b gained chain : List ℕ) (logged len height : ℕ) : Type 0 where
+pub record WholeChain (b gained chain : List ℕ) (logged len height : ℕ) : Type 0 where
   pub form : Form b
   pub old : logged ≡ countOf logTable b
   pub more : logged ≤ len

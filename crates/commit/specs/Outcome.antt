@@ -36,13 +36,22 @@ abbrev pub JoinedWith : List ℕ → List ℕ → List ℕ → List ℕ → ℕ 
 JoinedWith b t t′ chain height len (Grown n) = Log (merge (rows (nameIn b chain) 0 height) (rows (nameSoFar b t) 0 len)) b t′ n × Has b t′ chain height n
 JoinedWith b t t′ chain height len Differs = merge (rows (nameIn b chain) 0 height) (rows (nameSoFar b t) 0 len) ≡ none
 
--- the log's names, then those of the statements whose places stand in the table from the log's length on
+-- the number that the paper gives to each case, 0 where the log has grown, and the log: its names, then those of the statements whose
+-- places stand in the table from the log's length on. "7 a due commit differs from the log at a height"
+pub record Answer : Type 0 where
+  pub number : ℕ
+  pub log : Option (List ℕ)
+
+abbrev pub answerOf : List ℕ → List ℕ → Merged → Answer
+answerOf b t (Grown n) = record { number = 0; log = some (names b ++ rows (nameIn b t) (countOf logTable b) (n - countOf logTable b)) }
+answerOf b t Differs = record { number = 7; log = none }
+
 pub record Gained (b t : List ℕ) (n : ℕ) : Type 0 where
-  pub is : tickLog b ≡ some (names b ++ rows (nameIn b t) (countOf logTable b) (n - countOf logTable b))
+  pub is : tickLog b ≡ answerOf b t (Grown n) .log
   pub more : countOf logTable b ≤ n
   pub fits : n ≤ mostStatementsLarge
   pub stored : Stored b t (countOf logTable b) n
 
 abbrev pub Committed : List ℕ → List ℕ → Merged → Type 0
 Committed b t (Grown n) = Gained b t n
-Committed b t Differs = tickLog b ≡ none
+Committed b t Differs = tickLog b ≡ answerOf b t Differs .log

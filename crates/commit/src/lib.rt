@@ -14,7 +14,7 @@ ghost use Rattle.store.specs.Layout.{sizeIn, headerFormat, statementTable, logT
 ghost use Rattle.store.specs.Decode.{statements, statementAt, names, stateOf, Form};
 ghost use Rattle.store.specs.Meaning.{Loads, headerOf};
 ghost use Rattle.store.specs.Changes.{firstFrom};
-ghost use Rattle.commit.specs.Chains.{nameIn, nameSoFar, Stored, voteIn, isRipe, WalkedFrom, Settled, Copied, Begun, Ready, Agree};
+ghost use Rattle.commit.specs.Chains.{nameIn, nameSoFar, Stored, voteIn, isRipe, WalkedFrom, Settled, Copied, Begun, WholeChain, Agree};
 ghost use Rattle.commit.specs.Outcome.{Joined, JoinedWith, Committed};
 use fields::Name;
 use settings::Settings;
@@ -166,7 +166,7 @@ fn agrees(
     height: usize,
     end: usize,
 ) -> bool
-    requires { ⌜ (Ready (now store) (now gained) (now chain) logged len height) × (end ≤ len) × (end ≤ height) ⌝ }
+    requires { ⌜ (WholeChain (now store) (now gained) (now chain) logged len height) × (end ≤ len) × (end ≤ height) ⌝ }
     ensures { λ r. ⌜ Agree (nameIn (now (store .entry)) (now (chain .entry))) (nameSoFar (now (store .entry)) (now (gained .entry))) end r ⌝ }
 {
     let mut k: usize = 0;
@@ -214,7 +214,7 @@ fn join(
     chain: &[u16],
     height: usize,
 ) -> Merged
-    requires { ⌜ Ready (now store) (now gained) (now chain) logged len height ⌝ }
+    requires { ⌜ WholeChain (now store) (now gained) (now chain) logged len height ⌝ }
     ensures { λ r. ⌜ JoinedWith (now (store .entry)) (now (gained .entry)) (now (gained .exit)) (now (chain .entry)) height len r ⌝ }
 {
     if !agrees(

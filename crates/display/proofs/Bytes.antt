@@ -21,7 +21,8 @@ use Rattle.rules.proofs.Bytes.{length-unbe}
 use Rattle.fields.specs.Places.{put}
 use Rattle.wire.specs.Fields.{head}
 use Rattle.outgoing.specs.Wrote.{Says}
-use Rattle.outgoing.proofs.Writing.{says-none, says-both, put-says, field-says, length-field}
+use Rattle.rules.proofs.Lengths.{length-field}
+use Rattle.outgoing.proofs.Writing.{says-none, says-both, put-says, field-says}
 use Rattle.store.specs.Layout.{statementTable, logTable, countOf}
 use Rattle.store.specs.Decode.{rows, statementAt, nameAt, statements, names, stateFrom, stateOf}
 use Rattle.store.specs.Meaning.{courseOf, Loads}

@@ -12,7 +12,7 @@ use Rattle.rules.specs.Lists.{unbe}
 use Rattle.rules.specs.Messages.{field}
 use Rattle.rules.proofs.Bytes.{Bytes}
 use Rattle.rules.proofs.Tests.{by-option}
-use Rattle.outgoing.proofs.Writing.{length-field}
+use Rattle.rules.proofs.Lengths.{length-field}
 use Rattle.slots.specs.Slots.{isReadable}
 use Rattle.envelope.specs.Items.{Items, end, message, envelope, envelopeTag, messageTag, bytesOf, messagesOf, Place, partAt, placesOf, Held}
 use Rattle.envelope.specs.Reading.{inside, envelopeIn}

@@ -13,10 +13,11 @@ use Rattle.fields.specs.Places.{number, put}
 use Rattle.fields.proofs.Laws.{length-put}
 use Rattle.fields.proofs.Lists.{number-drop}
 use Rattle.outgoing.specs.Wrote.{wrote}
-use Rattle.outgoing.proofs.Writing.{wrote-append, put-wrote, length-field, length-write}
+use Rattle.rules.proofs.Lengths.{length-field, length-write, size-least}
+use Rattle.outgoing.proofs.Writing.{wrote-append, put-wrote}
 use Rattle.rules.specs.Lists.{unbe}
 use Rattle.rules.specs.Messages as messages
-use Rattle.rules.specs.Messages.{newView, propose, vote, blame, blameSet, status, field, kind, read, write}
+use Rattle.rules.specs.Messages.{field, read, write}
 use Rattle.rules.proofs.Bytes.{Bytes, bytes-split}
 use Rattle.rules.proofs.ReadBack.{write-read}
 use Rattle.rules.proofs.Tests.{by-option, no-bool}
@@ -28,13 +29,7 @@ use Rattle.envelope.proofs.Grammar.{front-number, bytes-joined, length-
 -- ---- how long a message is
 
 least-write : (m : messages.Message) → 13 ≤ length (write m)
-unfolding kind
-least-write (newView v h b c m a) = omega (arith, length-write (newView v h b c m a))
-least-write (propose v h b p m a) = omega (arith, length-write (propose v h b p m a))
-least-write (vote v h b a) = omega (arith, length-write (vote v h b a))
-least-write (blame v a) = omega (arith, length-write (blame v a))
-least-write (blameSet v m) = omega (arith, length-write (blameSet v m))
-least-write (status h b c m) = omega (arith, length-write (status h b c m))
+least-write m = omega (arith, length-write m, size-least m)
 
 -- "every message has 13 to 116 bytes"
 least-readable : (bs : List ℕ) → Bytes bs → isReadable bs ≡ true → 13 ≤ length bs

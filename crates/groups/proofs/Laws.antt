@@ -6,17 +6,16 @@ use borrow.Author.Tests.{ne-eqb}
 use Rattle.rules.specs.Limits.{small, large, leastDelay}
 use Rattle.rules.specs.Sizes.{goodSettings}
 use Rattle.rules.proofs.Tests.{by-bool}
-use Rattle.settings.specs.Made.{made}
+use Rattle.settings.specs.Made.{madeOf, made}
 use Rattle.settings.specs.declared.Size.the-variants.{Small, Large}
 use Rattle.settings.specs.declared.Made.{Made}
 use Rattle.groups.specs.Groups.{sizeOfKind, stations, group}
-use Rattle.groups.specs.Meaning.{groupOf}
 
-pub group-small : (n : ℕ) {r : Made} → r ≡ made n leastDelay 0 Small → groupOf r ≡ group 0 n
+pub group-small : (n : ℕ) {r : Made} → r ≡ made n leastDelay 0 Small → madeOf r ≡ group 0 n
 unfolding group sizeOfKind made
 group-small n e = rw e (by-bool (goodSettings (stations n small)) (λ q. rw (q, group)) (λ q. rw (q, group)))
 
-pub group-large : (n : ℕ) {r : Made} → r ≡ made n leastDelay 0 Large → groupOf r ≡ group 4 n
+pub group-large : (n : ℕ) {r : Made} → r ≡ made n leastDelay 0 Large → madeOf r ≡ group 4 n
 unfolding group sizeOfKind made
 group-large n e = rw e (by-bool (goodSettings (stations n large)) (λ q. rw (q, group)) (λ q. rw (q, group)))
 

@@ -14,7 +14,6 @@ pub mod Keeps
 pub mod Ticks
 pub mod Offers
 pub mod Calls
-pub mod Lengths
 pub mod Room
 pub mod Ticking
 pub mod Outs

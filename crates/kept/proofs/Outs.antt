@@ -19,7 +19,7 @@ use Rattle.rules.proofs.Answers.{by-step, by-offer, by-tick}
 use Rattle.kept.specs.Parts.{WellFormed}
 use Rattle.kept.proofs.WellFormed.{parts}
 use Rattle.kept.proofs.Phases.{clocks-parts}
-use Rattle.kept.proofs.Lengths.{bytes, bytes-none}
+use Rattle.rules.proofs.Lengths.{bytes, bytes-none}
 use Rattle.kept.proofs.Room.{handled-bytes}
 use Rattle.kept.proofs.Ticking.{largestTick, ticked-bytes}
 

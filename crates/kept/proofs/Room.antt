@@ -10,12 +10,12 @@ use lib.Dec.{eqb}
 use lib.ListN.{length}
 use Rattle.rules.specs.Lists.{first, any}
 use Rattle.rules.specs.Sizes.{leader, only}
-use Rattle.rules.specs.Messages.{Message, newView, propose, vote, blame, blameSet, status, Effect, toAll, toOne}
+use Rattle.rules.specs.Messages.{Message, newView, propose, vote, blame, blameSet, status, Effect, toAll, toOne, size}
 use Rattle.rules.specs.Words.{Statement, message, sameStatement, conflict, Certificate, Opener, State}
 use Rattle.rules.specs.Inputs.{Work, saying, _▸_, isIn, quit, belowLock, ballot, voting, stored, statement, tallied, blamesOf, blamed, blameFull, blaming, handled, overdue, complain, leadsNow, ownNewView, lead, nextLock, report, entering, entered, current, pair, inOrder, votingAll, arrive, entersNow, enter}
 use Rattle.rules.proofs.Tests.{by-bool, by-option}
 use Rattle.kept.proofs.Lists.{keep-length, sorted-length}
-use Rattle.kept.proofs.Lengths.{size, weight, bytes, bytes-cons, bytes-append, bytes-none, statement-size}
+use Rattle.rules.proofs.Lengths.{weight, bytes, bytes-cons, bytes-append, bytes-none, size-most}
 
 pub then-bytes : (w : Work) (r : State → Work) → bytes ((w ▸ r) .out) ≡ bytes (w .out) + bytes (r (w .now) .out)
 unfolding _▸_
@@ -29,7 +29,7 @@ two-bytes e d = let a = bytes-cons e (d ∷ []) in let b = one-bytes d in omega 
 
 statement-weight : (x : Statement) → weight (toAll (message x)) ≤ 100
 unfolding weight
-statement-weight x = let h = statement-size x in omega arith
+statement-weight x = let h = size-most (message x) in omega arith
 
 pair-bytes : (x y : Statement) → bytes (toAll (message x) ∷ toAll (message y) ∷ []) ≤ 200
 pair-bytes x y = let a = two-bytes (toAll (message x)) (toAll (message y)) in let b = statement-weight x in let c = statement-weight y in omega arith

@@ -21,7 +21,7 @@ use Rattle.kept.specs.Parts.{WellFormed}
 use Rattle.kept.proofs.Phases.{clock-formed}
 use Rattle.kept.proofs.Logs.{linked-length, proposes-length, commits-linked}
 use Rattle.kept.proofs.Reports.{due-stored}
-use Rattle.kept.proofs.Lengths.{bytes, reports-bytes}
+use Rattle.rules.proofs.Lengths.{bytes, reports-bytes}
 use Rattle.kept.proofs.Room.{then-bytes, complain-bytes, lead-bytes, enter-bytes}
 
 -- a rule that does nothing

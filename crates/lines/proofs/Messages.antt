@@ -1,18 +1,16 @@
 -- Messages in words, over every kind. Assumes nothing.
-use Prim.Native.Nat.{ℕ, zero, suc, _+_, _-_, _<_, _≤_}
+use Prim.Native.Nat.{ℕ, zero, suc, _+_, _-_, _≤_}
 use mathlib.Core.Path.{_≡_, refl, sym, ap, _∙_}
-use mathlib.Core.Bool.{Bool, true, false, _&&_}
+use mathlib.Core.Bool.{Bool, true, false}
 use mathlib.Core.List.{List, []}
 use native.Mathlib.Omega.{arith}
 use lib.ListN.{drop}
-use lib.Dec.{eqb}
-use borrow.Author.Tests.{eqb-true, eqb-false}
 use Rattle.rules.specs.Lists.{iff}
 use Rattle.rules.specs.Messages.{write}
-use Rattle.rules.proofs.Tests.{by-bool, and-left, and-right}
 use Rattle.rules.proofs.Truths.{iff-eq}
 use Rattle.fields.specs.declared.Name.{Name}
 use Rattle.fields.specs.Names.{nameOf}
+use Rattle.wire.proofs.Reading.{tried, tried-at}
 use Rattle.parts.specs.Fields.{fieldOf, Got, got, wrong, onto, reads}
 use Rattle.lines.specs.Script.{Meaning, message, bad, meant, spoken}
 use Rattle.parts.specs.Places.{small, readsAt, Inside, Field, ended}
@@ -44,17 +42,6 @@ last-kind =
     (λ a b c d e. refl)
 
 -- ---- the fields of a kind
-
-unfoldable pub tried : (ℕ → Bool) → ℕ → Bool
-tried p zero = true
-tried p (suc n) = p n && tried p n
-
-tried-at : (p : ℕ → Bool) (n i : ℕ) → tried p n ≡ true → i < n → p i ≡ true
-unfolding tried
-tried-at p zero i e h = absurd (omega arith)
-tried-at p (suc n) i e h =
-    by-bool (eqb n i) (λ q. ap p (sym (eqb-true n i q)) ∙ and-left (p n) (tried p n) e)
-    (λ q. tried-at p n i (and-right (p n) (tried p n) e) (omega (arith, eqb-false n i q)))
 
 -- a test of tags that agrees with the table from 2 to 8
 pub has-by : (k : ℕ) (f : ℕ → Bool) → tried (λ i. iff (f (i + 2)) (has k (i + 2))) 7 ≡ true → (t : ℕ) → 2 ≤ t → t ≤ 8 → f t ≡ has k t

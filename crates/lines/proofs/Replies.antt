@@ -21,7 +21,7 @@ use Rattle.parts.specs.Fields.{Got, got, wrong, onto, reads, fieldOf}
 use Rattle.lines.specs.Script.{freshened, ticked, alone, hex, slipped, certified, chosen, Meaning, blank, fresh, tick, given, message, log, state, display, bad, meant, spoken, Order, orders, ordered, lineOf}
 use Rattle.text.specs.Places.{Lists, placed}
 use Rattle.parts.specs.Places.{Field, ended, readsAt}
-use Rattle.lines.specs.Answers.{answer, fill, left, filled, Reads, Says, HexAt, hexPlace, HexRead}
+use Rattle.lines.specs.Answers.{answer, fill, left, filled, Reads, WritesNothing, HexAt, hexPlace, HexRead}
 use Rattle.parts.specs.declared.Flaw.{Flaw}
 use Rattle.parts.specs.declared.Flaw.the-variants as flaw
 use Rattle.lines.specs.declared.What.{What}
@@ -143,7 +143,7 @@ pub reads-as : (m n : Meaning) (o o′ : List ℕ) (r : Line) → m ≡ n → Re
 reads-as m n o o′ r e h = rw e h
 
 -- one that leaves the buffer alone
-pub unchanged : (m n : Meaning) (o : List ℕ) (r : Line) → Says m r → n ≡ m → Reads n o o r
+pub unchanged : (m n : Meaning) (o : List ℕ) (r : Line) → WritesNothing m r → n ≡ m → Reads n o o r
 unchanged m n o r s e = rw e (answered m o o r (s .is (length o)) (sym (s .still o)))
 
 -- a line with bytes, where there is room for them and where there is none
@@ -181,33 +181,33 @@ module _ (bs o : List ℕ) where
 -- ---- lines that leave the buffer alone
 
 module _ (m : Meaning) where
-  pub says-bad : (f : Flaw) → m ≡ bad f → Says m (Bad f)
+  pub nothing-bad : (f : Flaw) → m ≡ bad f → WritesNothing m (Bad f)
   unfolding answer left
-  says-bad f e = rw e (record { is = λ _. refl; still = λ _. refl })
+  nothing-bad f e = rw e (record { is = λ _. refl; still = λ _. refl })
 
-  pub says-fresh : (n d own : ℕ) → m ≡ fresh n d own → Says m (Fresh n d own)
+  pub nothing-fresh : (n d own : ℕ) → m ≡ fresh n d own → WritesNothing m (Fresh n d own)
   unfolding answer left
-  says-fresh n d own e = rw e (record { is = λ _. refl; still = λ _. refl })
+  nothing-fresh n d own e = rw e (record { is = λ _. refl; still = λ _. refl })
 
-  pub says-tick : (k : ℕ) → m ≡ tick k → Says m (Tick k)
+  pub nothing-tick : (k : ℕ) → m ≡ tick k → WritesNothing m (Tick k)
   unfolding answer left
-  says-tick k e = rw e (record { is = λ _. refl; still = λ _. refl })
+  nothing-tick k e = rw e (record { is = λ _. refl; still = λ _. refl })
 
-  pub says-log : m ≡ log → Says m Log
+  pub nothing-log : m ≡ log → WritesNothing m Log
   unfolding answer left
-  says-log e = rw e (record { is = λ _. refl; still = λ _. refl })
+  nothing-log e = rw e (record { is = λ _. refl; still = λ _. refl })
 
-  pub says-state : m ≡ state → Says m State
+  pub nothing-state : m ≡ state → WritesNothing m State
   unfolding answer left
-  says-state e = rw e (record { is = λ _. refl; still = λ _. refl })
+  nothing-state e = rw e (record { is = λ _. refl; still = λ _. refl })
 
-  pub says-display : m ≡ display → Says m Display
+  pub nothing-display : m ≡ display → WritesNothing m Display
   unfolding answer left
-  says-display e = rw e (record { is = λ _. refl; still = λ _. refl })
+  nothing-display e = rw e (record { is = λ _. refl; still = λ _. refl })
 
-  pub says-blank : m ≡ blank → Says m Blank
+  pub nothing-blank : m ≡ blank → WritesNothing m Blank
   unfolding answer left
-  says-blank e = rw e (record { is = λ _. refl; still = λ _. refl })
+  nothing-blank e = rw e (record { is = λ _. refl; still = λ _. refl })
 
 -- the numbers of `fresh` and of `tick`
 fresh-is : (s : List ℕ) (at : ℕ) (n d o : Name) (p q r x : Place) → Field s (At at) 0 n p → Field s p 0 d q → Field s q 0 o r → ended x ≡ readsAt [] s r

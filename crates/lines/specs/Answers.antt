@@ -44,8 +44,8 @@ left o state = o
 left o display = o
 left o (bad f) = o
 
--- a line that leaves the buffer alone, whatever its room
-pub record Says (m : Meaning) (r : Line) : Type 0 where
+-- a line that writes nothing to the buffer, whatever its room
+pub record WritesNothing (m : Meaning) (r : Line) : Type 0 where
   pub is : (room : ℕ) → r ≡ answer room m
   pub still : (o : List ℕ) → left o m ≡ o
 

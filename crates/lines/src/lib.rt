@@ -12,7 +12,7 @@ ghost use Rattle.rules.specs.Lists.{unbe};
 ghost use Rattle.fields.specs.Names.{nameOf};
 ghost use Rattle.parts.specs.Places.{Inside, readsAt};
 ghost use Rattle.lines.specs.Script.{lineOf, given, meant, spoken, freshened, ticked, hex, hexed, alone, slipped, certified, chosen};
-ghost use Rattle.lines.specs.Answers.{Reads, Says, HexAt, HexRead, askedOf};
+ghost use Rattle.lines.specs.Answers.{Reads, WritesNothing, HexAt, HexRead, askedOf};
 
 mod kinds;
 
@@ -80,7 +80,7 @@ pub fn read_line(line: &[u8], bytes: &mut [u8]) -> Line
 // A line of one word.
 fn alone(line: &[u8], at: usize, asked: Asked) -> Line
     requires { ⌜ at ≤ length (now line) ⌝ }
-    ensures { λ r. ⌜ Says (alone (askedOf asked) (drop at (now (line .entry)))) r ⌝ }
+    ensures { λ r. ⌜ WritesNothing (alone (askedOf asked) (drop at (now (line .entry)))) r ⌝ }
 {
     if let Place::Wrong(flaw) = parts::ending(line, Place::At(at)) {
         return Line::Bad(flaw);
@@ -95,7 +95,7 @@ fn alone(line: &[u8], at: usize, asked: Asked) -> Line
 // A fresh store.
 fn fresh(line: &[u8], at: usize) -> Line
     requires { ⌜ at ≤ length (now line) ⌝ }
-    ensures { λ r. ⌜ Says (freshened (drop at (now (line .entry)))) r ⌝ }
+    ensures { λ r. ⌜ WritesNothing (freshened (drop at (now (line .entry)))) r ⌝ }
 {
     let n = parts::field(line, Place::At(at), 0);
     let at_delay = n.next;
@@ -116,7 +116,7 @@ fn fresh(line: &[u8], at: usize) -> Line
 // One tick, or as many as are said.
 fn tick(line: &[u8], at: usize) -> Line
     requires { ⌜ at ≤ length (now line) ⌝ }
-    ensures { λ r. ⌜ Says (ticked (drop at (now (line .entry)))) r ⌝ }
+    ensures { λ r. ⌜ WritesNothing (ticked (drop at (now (line .entry)))) r ⌝ }
 {
     let word = text::word(line, at);
     if word.start == word.end {

@@ -10,10 +10,18 @@ use Rattle.wire.specs.Meaning.{statementOf}
 use Rattle.offers.specs.declared.Offer.{Offer}
 use Rattle.offers.specs.declared.Offer.the-variants.{Taken, NotTaken}
 
--- the message that an offer makes
+-- the number that the paper gives to each case, 0 where the offer is taken, and the propose that it makes: "9 offer not to be taken"
+pub record Answer : Type 0 where
+  pub number : ℕ
+  pub propose : Option Message
+
+abbrev pub answerOf : Offer → Answer
+answerOf (Taken x) = record { number = 0; propose = some (message (statementOf x none)) }
+answerOf NotTaken = record { number = 9; propose = none }
+
+-- the propose of the answer, if any
 abbrev pub offerOf : Offer → Option Message
-offerOf (Taken x) = some (message (statementOf x none))
-offerOf NotTaken = none
+offerOf r = answerOf r .propose
 
 -- the first test of rules' `offered`, and what follows it
 unfoldable pub mayOffer : ℕ → State → Bool

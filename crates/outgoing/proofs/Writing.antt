@@ -8,14 +8,15 @@ use native.Mathlib.Numerals.{add-one}
 use lib.ListN.{length, drop, set, length-set, length-append}
 use lib.Seq.{set-append-seam}
 use lib.Arith.{digits-div, digits-mod}
-use lib.Dec.{lit<, lit≤}
+use lib.Dec.{lit<}
 use Rattle.fields.specs.Places.{put}
 use Rattle.fields.proofs.Laws.{put-both, put-comm}
 use Rattle.rules.specs.Lists.{unbe}
-use Rattle.rules.specs.Messages.{Message, newView, propose, vote, blame, blameSet, status, field, width, table, rowOf, tagsOf, kind, values, writes, write, Effect, toAll, toOne, committed, effect, outgoing}
+use Rattle.rules.specs.Messages.{Message, field, width, tagsOf, kind, values, writes, write, size, Effect, toAll, toOne, committed, effect, outgoing}
 use Rattle.rules.proofs.Bytes.{pow-pos, length-unbe}
+use Rattle.rules.proofs.Lengths.{length-field, length-write, size-most, length-effect, weight}
 use Rattle.wire.specs.Fields.{head}
-use Rattle.outgoing.specs.Wrote.{wrote, Says, SaysFields, sizeOf}
+use Rattle.outgoing.specs.Wrote.{wrote, Says, SaysFields}
 
 pub length-wrote : (o : List ℕ) (at : ℕ) (bs : List ℕ) → length (wrote o at bs) ≡ length o
 unfolding wrote
@@ -167,43 +168,12 @@ committed-says {s₁} {s₂} {s₃} s at h b f g p q r =
 
 -- ---- lengths
 
-pub length-field : (t : ℕ) (bs : List ℕ) → length (field t bs) ≡ 3 + length bs
-unfolding field
-length-field t bs = omega (arith, length-append (unbe 2 (length bs)) bs, length-unbe 2 (length bs))
-
--- how long the fields of some tags are
-room : List ℕ → ℕ
-room [] = 0
-room (t ∷ ts) = 3 + width t + room ts
-
-length-writes : (ts vs : List ℕ) → length ts ≡ length vs → length (writes ts vs) ≡ room ts
-unfolding writes room
-length-writes [] [] h = refl
-length-writes [] (v ∷ vs) h = absurd (omega arith)
-length-writes (t ∷ ts) [] h = absurd (omega arith)
-length-writes (t ∷ ts) (v ∷ vs) h =
-    omega (arith, length-append (field t (unbe (width t) v)) (writes ts vs), length-field t (unbe (width t) v), length-unbe (width t) v, length-writes ts vs (omega arith))
-
--- each kind has as many values as tags, is as long as 01's table says, and no longer than a propose
-sizes : (m : Message) → (length (tagsOf (kind m)) ≡ length (values m)) × (room (1 ∷ tagsOf (kind m)) ≡ sizeOf (kind m)) × (sizeOf (kind m) ≤ 97)
-unfolding kind values tagsOf rowOf table room width
-sizes (newView v h b c m a) = (refl, refl, lit≤ tt)
-sizes (propose v h b p m a) = (refl, refl, lit≤ tt)
-sizes (vote v h b a) = (refl, refl, lit≤ tt)
-sizes (blame v a) = (refl, refl, lit≤ tt)
-sizes (blameSet v m) = (refl, refl, lit≤ tt)
-sizes (status h b c m) = (refl, refl, lit≤ tt)
-
-pub length-write : (m : Message) → length (write m) ≡ sizeOf (kind m)
-unfolding write
-length-write m = length-writes (1 ∷ tagsOf (kind m)) (kind m ∷ values m) (ap suc (sizes m .0)) ∙ sizes m .1
-
 pub length-write-most : (m : Message) → length (write m) ≤ 97
-length-write-most m = omega (arith, length-write m, sizes m .2)
+length-write-most m = omega (arith, length-write m, size-most m)
 
 -- the room for a message, by its kind
-pub room-of : {m k : Message} (a n : ℕ) → m ≡ k → a + length (write m) ≤ n → a + sizeOf (kind k) ≤ n
-room-of {m} {k} a n e h = let l : length (write m) ≡ sizeOf (kind k) = ap (λ (x : Message). length (write x)) e ∙ length-write k in omega arith
+pub room-of : {m k : Message} (a n : ℕ) → m ≡ k → a + length (write m) ≤ n → a + size k ≤ n
+room-of {m} {k} a n e h = let l : length (write m) ≡ size k = ap (λ (x : Message). length (write x)) e ∙ length-write k in omega arith
 
 pub length-to-all : (m : Message) → length (effect (toAll m)) ≡ 3 + length (write m)
 unfolding effect
@@ -214,5 +184,5 @@ unfolding effect
 length-to-one i m = omega (arith, length-field 0x11 (i ∷ write m))
 
 pub length-committed : (h b : ℕ) → length (effect (committed h b)) ≡ 39
-unfolding effect
-length-committed h b = omega (arith, length-field 0x12 (unbe 4 h ++ unbe 32 b), length-append (unbe 4 h) (unbe 32 b), length-unbe 4 h, length-unbe 32 b)
+unfolding weight
+length-committed h b = length-effect (committed h b)

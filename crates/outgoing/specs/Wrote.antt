@@ -2,7 +2,7 @@
 use Prim.Native.Nat.{ℕ, suc, _+_}
 use mathlib.Core.Path.{_≡_}
 use mathlib.Core.List.{List, [], _∷_}
-use lib.ListN.{length, set, getD}
+use lib.ListN.{length, set}
 use Rattle.rules.specs.Messages.{writes}
 
 unfoldable pub wrote : List ℕ → ℕ → List ℕ → List ℕ
@@ -18,7 +18,3 @@ pub record Says (o : List ℕ) (at : ℕ) (bs : List ℕ) (left : List ℕ) (end
 pub record SaysFields (o : List ℕ) (at : ℕ) (ts vs left : List ℕ) (end : ℕ) : Type 0 where
   pub says : Says o at (writes ts vs) left end
   pub even : length ts ≡ length vs
-
--- how long a message of each kind is, as 01's table has it
-abbrev pub sizeOf : ℕ → ℕ
-sizeOf k = getD (0 ∷ 69 ∷ 97 ∷ 57 ∷ 15 ∷ 16 ∷ 58 ∷ []) k 0

@@ -11,7 +11,7 @@ use Rattle.rules.proofs.Tests.{by-bool}
 use Rattle.rules.proofs.Searches.{All, all-append, all-of}
 use Rattle.rules.proofs.Moves.{Outside, arrived, Move, joins, stores, passes, casts, clashes, accuses, fills, complains, entersFull, entersPair, enters, Moves, here, more, voting-low, voting-high}
 use Rattle.rules.proofs.Held.{report-all}
-use Rattle.agreement.specs.Schedule.{run, Says, out}
+use Rattle.agreement.specs.Schedule.{run, IsSaid, out}
 use Rattle.agreement.proofs.Events.{before, before-all, mem-after}
 use Rattle.agreement.proofs.Group.{Group, st, Ok, moves-of}
 use Rattle.progress.proofs.Blames.{mem-left}
@@ -103,7 +103,7 @@ module _ {R : Outside} where
   moves-ballots s t o here = free-ballots [] tt
   moves-ballots s t o (more {t = u} {o = p} {p = q} a b) = ballots-append p q (moves-ballots s u p a) (move-ballots u t q b)
 
-pub says-ballot : (X : Group) (i : ℕ) → Ok X i → (k v h b a : ℕ) → Says (run (X .size) (X .n) (X .D) (X .event)) i k (toAll (vote v h b a))
+pub says-ballot : (X : Group) (i : ℕ) → Ok X i → (k v h b a : ℕ) → IsSaid (run (X .size) (X .n) (X .D) (X .event)) i k (toAll (vote v h b a))
     → Stated (out (X .size) (X .n) (X .D) (X .event) i k) v h b
 says-ballot X i hi k v h b a m =
     let (o, q, w) = moves-of X i hi k in

@@ -23,7 +23,7 @@ use Rattle.rules.proofs.Statements.{same-like, In}
 use Rattle.rules.proofs.Allowed.{sizes}
 use Rattle.rules.proofs.Held.{held-stored}
 use Rattle.rules.proofs.Leads.{overdue-at}
-use Rattle.agreement.specs.Schedule.{Event, commonTick, at, out, run, Says, NoForgery}
+use Rattle.agreement.specs.Schedule.{Event, commonTick, at, out, run, IsSaid, NoForgery}
 use Rattle.agreement.proofs.Events.{begun, begun-same}
 use Rattle.agreement.proofs.Clock.{clock-mono, one-tick, last-of}
 use Rattle.agreement.proofs.Group.{Group, st, ck, Ok, G, begun-at, at-settings, orderly-run, said-held}
@@ -187,8 +187,8 @@ module _ (X : Group) (genuine : NoForgery (run (X .size) (X .n) (X .D) (X .event
             t .link,
             t .mask,
             t .author,
-            subst (λ (u : Message). Says (run size n D event) j l (toAll u)) (as-propose t kind (tv ∙ r .view) (th ∙ r .height) tn) m,
-            subst (λ (u : Message). Says (run size n D event) j l (toAll u)) (as-vote (r .view) (r .height)) s,
+            subst (λ (u : Message). IsSaid (run size n D event) j l (toAll u)) (as-propose t kind (tv ∙ r .view) (th ∙ r .height) tn) m,
+            subst (λ (u : Message). IsSaid (run size n D event) j l (toAll u)) (as-vote (r .view) (r .height)) s,
           ),
         )
       where
@@ -211,7 +211,7 @@ module _ (X : Group) (genuine : NoForgery (run (X .size) (X .n) (X .D) (X .event
 
   -- ---- no sound station blames v
 
-  says-overdue : (i : ℕ) → Ok X i → (l a : ℕ) → Says (run size n D event) i l (toAll (blame v a)) → Overdue (event l) (st X i l) v a
+  says-overdue : (i : ℕ) → Ok X i → (l a : ℕ) → IsSaid (run size n D event) i l (toAll (blame v a)) → Overdue (event l) (st X i l) v a
   unfolding at out
   says-overdue i hi l a s =
       all-of (Blaming (Overdue (event l) (st X i l))) (out size n D event i l) (event-says i (event l) (st X i l) (X .common l) (X .runs i hi (suc l))) (toAll (blame v a)) s

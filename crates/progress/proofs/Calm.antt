@@ -18,7 +18,7 @@ use Rattle.rules.proofs.Kept.{by-phase}
 use Rattle.rules.proofs.Orderly.{Told, full, two, past-told}
 use Rattle.rules.proofs.Held.{held-stored}
 use Rattle.kept.proofs.Blames.{blamesOf-mask}
-use Rattle.agreement.specs.Schedule.{at, out, run, Says, Genuine, NoForgery}
+use Rattle.agreement.specs.Schedule.{at, out, run, IsSaid, Genuine, NoForgery}
 use Rattle.agreement.proofs.Clock.{clock-mono, last-of}
 use Rattle.agreement.proofs.Group.{Group, st, ck, Ok, G, SaidAt, at-settings, kept-run, formed-run, said-held}
 use Rattle.agreement.proofs.Follow.{names-sound, follow}
@@ -35,7 +35,7 @@ module _ (X : Group) (genuine : NoForgery (run (X .size) (X .n) (X .D) (X .event
 
   -- a said its blame of v by clock c
   abbrev Blamed : (c a : ℕ) → Type 0
-  Blamed c a = (l : ℕ) × (ck X (suc l) ≤ c) × Says (run size n D event) a l (toAll (blame v a))
+  Blamed c a = (l : ℕ) × (ck X (suc l) ≤ c) × IsSaid (run size n D event) a l (toAll (blame v a))
 
   abbrev Known : (i k : ℕ) → Type 0
   Known i k = (a : ℕ) → bit (blamesOf v (st X i k)) a ≡ 1 → Ok X a → Blamed (ck X k) a
@@ -47,14 +47,14 @@ module _ (X : Group) (genuine : NoForgery (run (X .size) (X .n) (X .D) (X .event
       later : ck X k ≤ ck X (suc k) → Blamed (ck X k) a → Blamed (ck X (suc k)) a
       later m (l, c, s) = (l, omega arith, s)
 
-      said-before : (l : ℕ) → l < k → (w : ℕ) → w ≡ v → Says (run size n D event) a l (toAll (blame w a)) → Blamed (ck X (suc k)) a
-      said-before l u w e s = (l, clock-mono event (suc l) (suc k) (omega arith), subst (λ (x : ℕ). Says (run size n D event) a l (toAll (blame x a))) e s)
+      said-before : (l : ℕ) → l < k → (w : ℕ) → w ≡ v → IsSaid (run size n D event) a l (toAll (blame w a)) → Blamed (ck X (suc k)) a
+      said-before l u w e s = (l, clock-mono event (suc l) (suc k) (omega arith), subst (λ (x : ℕ). IsSaid (run size n D event) a l (toAll (blame x a))) e s)
 
       named : (m : Message) → Names m v a → Genuine (run size n D event) faulty k m → Blamed (ck X (suc k)) a
       named (newView w x b c m j) r g = absurd r
       named (propose w x b p m j) r g = absurd r
       named (vote w x b j) r g = absurd r
-      named (blame w j) (e, f) g = let (l, u, s) = g (subst (Ok X) f ha) in said-before l u w e (subst (λ (y : ℕ). Says (run size n D event) y l (toAll (blame w y))) (sym f) s)
+      named (blame w j) (e, f) g = let (l, u, s) = g (subst (Ok X) f ha) in said-before l u w e (subst (λ (y : ℕ). IsSaid (run size n D event) y l (toAll (blame w y))) (sym f) s)
       named (blameSet w m) (e, f) g = let (l, u, s) = g a ha f in said-before l u w e s
       named (status x b c m) r g = absurd r
 
@@ -64,7 +64,7 @@ module _ (X : Group) (genuine : NoForgery (run (X .size) (X .n) (X .D) (X .event
           named m w (genuine k i m (hi, (bs, e, r), subst (λ (g : Settings). allowed g m ≡ true) (at-settings X i hi k) al))
       go (inr (own e s)) =
           let f : a ≡ i = e ∙ ap (λ (g : Settings). g .own) (at-settings X i hi k) in
-          (k, omega arith, subst (λ (y : ℕ). Says (run size n D event) y k (toAll (blame v a))) (sym f) s)
+          (k, omega arith, subst (λ (y : ℕ). IsSaid (run size n D event) y k (toAll (blame v a))) (sym f) s)
 
   known-run : (i : ℕ) → Ok X i → (k : ℕ) → Known i k
   unfolding at fresh blamesOf
@@ -74,7 +74,7 @@ module _ (X : Group) (genuine : NoForgery (run (X .size) (X .n) (X .D) (X .event
   -- ---- no sound station has blamed v by clock c
 
   abbrev pub Calm : ℕ → Type 0
-  Calm c = (i : ℕ) → Ok X i → (l a : ℕ) → ck X (suc l) ≤ c → Says (run size n D event) i l (toAll (blame v a)) → ⊥
+  Calm c = (i : ℕ) → Ok X i → (l a : ℕ) → ck X (suc l) ≤ c → IsSaid (run size n D event) i l (toAll (blame v a)) → ⊥
 
   pub calm-less : (b c : ℕ) → b ≤ c → Calm c → Calm b
   calm-less b c l f i hi k a u s = f i hi k a (omega arith) s
@@ -94,7 +94,7 @@ module _ (X : Group) (genuine : NoForgery (run (X .size) (X .n) (X .D) (X .event
       let yv : y .view ≡ v = sym (conflict-view x y c) ∙ e in
       no-bool (sym c ∙ leader-clean X genuine v ok k x y (source X genuine v ok i hi k x (has x l (omega arith) s) e) (source X genuine v ok i hi k y (has y m (omega arith) w) yv) e)
     where
-      has : (z : Statement) (j : ℕ) → suc j ≤ suc (l + m) → Says (run size n D event) i j (toAll (message z)) → In (st X i (suc (l + m)) .statements) z
+      has : (z : Statement) (j : ℕ) → suc j ≤ suc (l + m) → IsSaid (run size n D event) i j (toAll (message z)) → In (st X i (suc (l + m)) .statements) z
       has z j d r = kept-run X i hi (suc j) (suc (l + m)) d .has z (held-stored (G X i) (st X i (suc j)) z (said-held X i hi j (message z) r))
 
   -- ---- nobody quits

@@ -13,7 +13,7 @@ use Rattle.rules.specs.Sizes.{leader}
 use Rattle.rules.specs.Messages.{vote, blame, toAll}
 use Rattle.rules.specs.Words.{waiting}
 use Rattle.rules.proofs.Truths.{both}
-use Rattle.agreement.specs.Schedule.{Event, commonTick, settingsOf, at, out, clock, run, Says, Schedule}
+use Rattle.agreement.specs.Schedule.{Event, commonTick, settingsOf, at, out, clock, run, IsSaid, Schedule}
 use Rattle.agreement.specs.Checks.{inTime, noForgery, premises, other, AllBut, listed, verdict}
 use Rattle.agreement.specs.Examples.{heightOf, parentOf}
 use Rattle.agreement.proofs.Events.{never-idle}
@@ -56,8 +56,8 @@ steady-gets-on K =
 -- clocks 10+(2+4)+1 and 10+(4+4)+1, the last that are allowed
 
 pub steady-tight : Entered (run small 3 1 (listed steady)) 2 2 42 0 10 × Entered (run small 3 1 (listed steady)) 2 2 42 2 11
-    × Says (run small 3 1 (listed steady)) 0 28 (toAll (vote 2 1 77 0)) × (clock (listed steady) 0 29 ≡ 10 + (2 * 1 + 4) * 1 + 1)
-    × Says (run small 3 1 (listed steady)) 0 35 (toAll (vote 2 2 78 0)) × (clock (listed steady) 0 36 ≡ 10 + (2 * 2 + 4) * 1 + 1)
+    × IsSaid (run small 3 1 (listed steady)) 0 28 (toAll (vote 2 1 77 0)) × (clock (listed steady) 0 29 ≡ 10 + (2 * 1 + 4) * 1 + 1)
+    × IsSaid (run small 3 1 (listed steady)) 0 35 (toAll (vote 2 2 78 0)) × (clock (listed steady) 0 36 ≡ 10 + (2 * 2 + 4) * 1 + 1)
 unfolding at out clock listed steady
 steady-tight = (
   (16, omega arith, refl, refl),
@@ -78,7 +78,7 @@ steady-before = (refl, refl, refl, refl)
 
 -- station 0 blames view 2 at event k
 abbrev Blames : List Event → ℕ → Type 0
-Blames es k = Says (run small 3 1 (listed es)) 0 k (toAll (blame 2 0))
+Blames es k = IsSaid (run small 3 1 (listed es)) 0 k (toAll (blame 2 0))
 
 -- the leader's host offers a tick late: as the tick to 17 begins, an offer is possible
 pub late-offer : Schedule (run small 3 1 (listed lateOffer)) 2 heightOf parentOf

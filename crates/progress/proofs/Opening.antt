@@ -24,7 +24,7 @@ use Rattle.rules.proofs.Allowed.{sizes, mask-parts, certificate-cases, allowed-
 use Rattle.rules.proofs.Kept.{true-in}
 use Rattle.rules.proofs.Held.{step-done}
 use Rattle.rules.proofs.Leads.{at-leads, newViewOf, overdue-at}
-use Rattle.agreement.specs.Schedule.{Event, commonTick, happens, at, run, Says, NoForgery}
+use Rattle.agreement.specs.Schedule.{Event, commonTick, happens, at, run, IsSaid, NoForgery}
 use Rattle.agreement.proofs.Events.{begun, begun-same, happens-given}
 use Rattle.agreement.proofs.Whole.{sent-allowed}
 use Rattle.agreement.proofs.Group.{Group, st, ck, Ok, G, SaidAt, moves-of, said-here, begun-at, at-settings, good}
@@ -79,7 +79,7 @@ module _ (X : Group) where
       ]
 
   -- a status that a sound i sent the sound j at event l is certified at j before the tick D + 1 later
-  status-held : (i j : ℕ) → Ok X i → Ok X j → (l k h b c m : ℕ) → Says (run size n D event) i l (toOne j (status h b c m)) → ck X (suc l) + D + 1 ≤ next k
+  status-held : (i j : ℕ) → Ok X i → Ok X j → (l k h b c m : ℕ) → IsSaid (run size n D event) i l (toOne j (status h b c m)) → ck X (suc l) + D + 1 ≤ next k
       → ((c ≡ 0) × (h ≡ 0)) ⊎ Marked (G X j) (record { view = c; height = h; name = b; mask = m }) (st X j k .tallies)
   unfolding at viewOf done
   status-held i j hi hj l k h b c m s d =
@@ -176,7 +176,7 @@ module _ (X : Group) (genuine : NoForgery (run (X .size) (X .n) (X .D) (X .event
             let due = O .due in
             let soon = X .soon l0 in
             came (rw w at l) (status-held X s L hs ok j l0 (t .height) (t .name) (t .view) (t .mask)
-            (subst (λ (y : ℕ). Says (run size n D event) s j (toOne y (status (t .height) (t .name) (t .view) (t .mask)))) to says) (omega arith))
+            (subst (λ (y : ℕ). IsSaid (run size n D event) s j (toOne y (status (t .height) (t .name) (t .view) (t .mask)))) to says) (omega arith))
 
     pub locks-below : (s : ℕ) → Ok X s → (k : ℕ) → st X s k .view ≡ v → st X s k .entry ≤ st X L l0 .entry + D → Above best (st X s k .lock)
     locks-below s hs k w d =

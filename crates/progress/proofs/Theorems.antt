@@ -15,7 +15,7 @@ use Rattle.rules.proofs.Statements.{Clean}
 use Rattle.rules.proofs.Allowed.{sizes}
 use Rattle.rules.proofs.Kept.{moves-kept}
 use Rattle.rules.proofs.Commits.{begins-trans}
-use Rattle.agreement.specs.Schedule.{Event, idle, commonTick, settingsOf, until, at, clock, Run, run, Says, Sound, RoomTo, Premises, Schedule, lineage}
+use Rattle.agreement.specs.Schedule.{Event, idle, commonTick, settingsOf, until, at, clock, Run, run, IsSaid, Sound, RoomTo, Premises, Schedule, lineage}
 use Rattle.agreement.proofs.Events.{never-idle}
 use Rattle.agreement.proofs.Clock.{clock-before, last-of, clock-alike}
 use Rattle.agreement.proofs.Group.{Group, kept-run, cast-run}
@@ -80,7 +80,7 @@ module _ (size : Size) (n D : ℕ) (event : ℕ → Event) (faulty : ℕ) (heigh
   calm : (c : ℕ) → Calm X (S .premises .noForgery) v (led 0 .inside) (led 0 .sound) c
   calm = calm-all X (S .premises .noForgery) v (led 0 .inside) (led 0 .sound) prompt
 
-  whole-blame : (i : ℕ) → Sound R faulty i → (k a : ℕ) → ¬ (Says R i k (toAll (blame v a)))
+  whole-blame : (i : ℕ) → Sound R faulty i → (k a : ℕ) → ¬ (IsSaid R i k (toAll (blame v a)))
   whole-blame i hi k a s = calm (clock event 0 (suc k)) i hi k a (omega arith) s
 
   whole-quit : (i : ℕ) → Sound R faulty i → (k : ℕ) → v ≤ at size n D event i k .view → (at size n D event i k .view ≡ v) × (at size n D event i k .phase ≡ inView)
@@ -92,7 +92,7 @@ module _ (size : Size) (n D : ℕ) (event : ℕ → Event) (faulty : ℕ) (heigh
   whole-turn i hi k0 w p k d = turn X (S .premises .noForgery) v (led 0 .inside) (led 0 .sound) prompt i hi k0 w p k (calm (clock event 0 k)) d
 
   -- who voted in v and is not past it is in it
-  whole-commits : (j : ℕ) → Sound R faulty j → (l h b p m a : ℕ) → Says R j l (toAll (propose v h b p m a)) → Says R j l (toAll (vote v h b j))
+  whole-commits : (j : ℕ) → Sound R faulty j → (l h b p m a : ℕ) → IsSaid R j l (toAll (propose v h b p m a)) → IsSaid R j l (toAll (vote v h b j))
       → (k : ℕ) → event k ≡ commonTick → clock event 0 k ≡ clock event 0 (suc l) + 2 * D → IsPrefix (lineage parentOf h b) (at size n D event j (suc k) .log)
   whole-commits j hj l h b p m a s w k e d =
       let c = cast-run X j hj l v h b j w in
@@ -206,7 +206,7 @@ module _ (size : Size) (n D : ℕ) (event : ℕ → Event) (faulty : ℕ) (heigh
           (subst₂ (λ (x y : ℕ). x + (2 * p + 6) * D + 2 ≤ y) (sym ee) (sym (clock-until size n D event K 0 k l)) d) in
           (h, λ q a b. let (x, y) = f q a b in (x, λ j hj. subst (λ (s : State). IsPrefix (lineage parentOf (h + q) x) (s .log)) (at-until size n D event K j k l) (y j hj)))
 
-      commits-at : (j : ℕ) → Sound W faulty j → (l h b p m a : ℕ) → Says W j l (toAll (propose v h b p m a)) → Says W j l (toAll (vote v h b j))
+      commits-at : (j : ℕ) → Sound W faulty j → (l h b p m a : ℕ) → IsSaid W j l (toAll (propose v h b p m a)) → IsSaid W j l (toAll (vote v h b j))
           → (k : ℕ) → k < K → event k ≡ commonTick → clock event 0 k ≡ clock event 0 (suc l) + 2 * D → IsPrefix (lineage parentOf h b) (at size n D event j (suc k) .log)
       commits-at j hj l h b p m a s w k u e d =
           let delay = sizes (settingsOf size n D 0) (P .settings) .leastD in

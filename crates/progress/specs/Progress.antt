@@ -13,7 +13,7 @@ use Rattle.rules.specs.Sizes.{leader}
 use Rattle.rules.specs.Messages.{propose, vote, blame, toAll}
 use Rattle.rules.specs.Words.{Statement, inView, State}
 use Rattle.rules.specs.Inputs.{leads, isOpened, isUsed, top, extendable}
-use Rattle.agreement.specs.Schedule.{Event, idle, commonTick, tickOf, given, offeredTo, settingsOf, clock, Run, Says, Sound, lineage}
+use Rattle.agreement.specs.Schedule.{Event, idle, commonTick, tickOf, given, offeredTo, settingsOf, clock, Run, IsSaid, Sound, lineage}
 
 -- an offer of a name that nobody has used would be taken
 unfoldable pub possible : State → Bool
@@ -51,7 +51,7 @@ module _ (R : Run) (v : ℕ) where
   -- j said a propose of block b of height h in v and its vote, at one event and by clock c
   abbrev pub VotedBy : (j h b c : ℕ) → Type 0
   VotedBy j h b c =
-      (l : ℕ) × (clock event 0 (suc l) ≤ c) × ((p m a : ℕ) × Says R j l (toAll (propose v h b p m a)) × Says R j l (toAll (vote v h b j)))
+      (l : ℕ) × (clock event 0 (suc l) ≤ c) × ((p m a : ℕ) × IsSaid R j l (toAll (propose v h b p m a)) × IsSaid R j l (toAll (vote v h b j)))
 
   -- "while records last": all that follows is asked and claimed up to a moment K, and the theorem is for each K up to which no sound
   -- station is full or at the last clock
@@ -77,7 +77,7 @@ module _ (R : Run) (v : ℕ) where
 
     -- "no sound station blames in that view"
     abbrev pub NoBlame : Type 0
-    NoBlame = (i : ℕ) → Sound R faulty i → (k a : ℕ) → k < K → ¬ (Says R i k (toAll (blame v a)))
+    NoBlame = (i : ℕ) → Sound R faulty i → (k a : ℕ) → k < K → ¬ (IsSaid R i k (toAll (blame v a)))
 
     -- "none quits it": who has entered it is in it
     abbrev pub NoQuit : Type 0
@@ -95,7 +95,7 @@ module _ (R : Run) (v : ℕ) where
     -- with B: what a sound station voted for in v is in its log after the tick 2D+1 later, with all its ancestors
     abbrev pub Commits : (ℕ → ℕ) → Type 0
     Commits parentOf =
-        (j : ℕ) → Sound R faulty j → (l h b p m a : ℕ) → Says R j l (toAll (propose v h b p m a)) → Says R j l (toAll (vote v h b j))
+        (j : ℕ) → Sound R faulty j → (l h b p m a : ℕ) → IsSaid R j l (toAll (propose v h b p m a)) → IsSaid R j l (toAll (vote v h b j))
         → (k : ℕ) → k < K → event k ≡ commonTick → clock event 0 k ≡ clock event 0 (suc l) + 2 * D → IsPrefix (lineage parentOf h b) (state j (suc k) .log)
 
     -- so from the tick to e+(2p+6)D+2 on the first p proposals are in every sound log, each with all its ancestors

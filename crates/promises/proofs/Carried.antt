@@ -28,7 +28,7 @@ use Rattle.agreement.proofs.Whole.{formed-at, settings-at, said-at}
 use Rattle.agreement.proofs.Logs.{reportsIn-append}
 use Rattle.store.specs.Layout.{storeLength, sizeIn}
 use Rattle.store.specs.Decode.{stateFrom, stateOf, encode}
-use Rattle.store.specs.Fresh.{freshly, answer}
+use Rattle.fresh.specs.Fresh.{freshly, answer}
 use Rattle.store.proofs.Forms.{parts as form-parts, sized}
 use Rattle.oneform.proofs.OneForm.{encoded-left, encoded}
 use Rattle.calls.specs.Calls.{Called, answered, called, stepCalled, tickCalled, offerCalled}

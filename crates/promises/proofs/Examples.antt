@@ -9,7 +9,7 @@ use Rattle.rules.specs.Limits.{small, leastOut}
 use Rattle.rules.specs.Sizes.{bit}
 use Rattle.rules.specs.Messages.{propose, vote, Effect, toAll}
 use Rattle.rules.specs.Words.{inView, State}
-use Rattle.agreement.specs.Schedule.{Event, commonTick, at, out, Run, Says, Sound, Schedule, lineage}
+use Rattle.agreement.specs.Schedule.{Event, commonTick, at, out, Run, IsSaid, Sound, Schedule, lineage}
 use Rattle.agreement.specs.Checks.{listed}
 use Rattle.agreement.specs.Examples.{twoViews, heightOf, parentOf}
 use Rattle.agreement.proofs.Examples.{two-views}
@@ -57,7 +57,7 @@ stays : (event 57 ≡ commonTick) × (at small 3 1 event 1 57 .clock ≡ at smal
 unfolding at listed twoViews
 stays = (refl, refl, refl, refl)
 
-spoken : (e : Effect) → List·Memᴰ e (out small 3 1 event 1 51) → Says C 1 51 e
+spoken : (e : Effect) → List·Memᴰ e (out small 3 1 event 1 51) → IsSaid C 1 51 e
 spoken e = subst (List·Memᴰ e) (sym (same-words small 3 1 event room lent 4 lends (two-views .premises .settings) (two-views .premises .lent) 1 sound 51))
 
 pub two-views-committed : IsPrefix (77 ∷ 78 ∷ 79 ∷ []) (names (storeAt small 3 1 event room lent 1 58))

@@ -9,10 +9,10 @@ use lib.Seq.{take-at, drop-at}
 use borrow.Author.Tests.{eq-eqb}
 use Rattle.rules.specs.Lists.{be, unbe}
 use Rattle.rules.specs.Sizes.{Settings}
-use Rattle.rules.specs.Messages.{Message, newView, propose, vote, blame, blameSet, status, field, read, write, Effect, toAll, toOne, committed, effect, outgoing}
+use Rattle.rules.specs.Messages.{Message, field, read, write, Effect, toAll, toOne, committed, effect, outgoing}
 use Rattle.rules.proofs.Bytes.{length-unbe, be-unbe}
 use Rattle.kept.specs.Said.{Each, Sayable}
-use Rattle.kept.proofs.Lengths.{size, length-write, bytes-cons, weight}
+use Rattle.rules.proofs.Lengths.{length-write, size-most, bytes-cons, weight}
 use Rattle.kept.proofs.Calls.{sent-read}
 use Rattle.promises.specs.Heard.{oneIn, committedIn, effectIn, ifSaid, heardIn, heard}
 
@@ -31,15 +31,6 @@ heard-field t value rest n l =
     ∙ heard-head n t head value rest (length-unbe 2 (length value)) (be-unbe 2 (length value) l)
 
 -- ---- each effect
-
-size-most : (m : Message) → size m ≤ 97
-unfolding size
-size-most (newView v h b c m a) = omega arith
-size-most (propose v h b p m a) = omega arith
-size-most (vote v h b a) = omega arith
-size-most (blame v a) = omega arith
-size-most (blameSet v m) = omega arith
-size-most (status h b c m) = omega arith
 
 block-length : (h b : ℕ) → length (unbe 4 h ++ unbe 32 b) ≡ 36
 block-length h b = length-append (unbe 4 h) (unbe 32 b) ∙ ap₂ _+_ (length-unbe 4 h) (length-unbe 32 b)

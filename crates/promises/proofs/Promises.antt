@@ -13,7 +13,7 @@ use Rattle.rules.specs.Messages.{Message, propose, vote, write, Effect, toAll, 
 use Rattle.rules.specs.Words.{State, inView}
 use Rattle.rules.specs.Inputs.{reports}
 use Rattle.rules.specs.Refusals.{running, ahead}
-use Rattle.agreement.specs.Schedule.{Event, commonTick, given, settingsOf, clock, Run, at, out, run, Says, Speaks, Sound, GoodSettings, ProperBuffers, SoundRun, Schedule, Linked, lineage, reportsIn, reported, OneBegins}
+use Rattle.agreement.specs.Schedule.{Event, commonTick, given, settingsOf, clock, Run, at, out, run, IsSaid, Speaks, Sound, GoodSettings, ProperBuffers, SoundRun, Schedule, Linked, lineage, reportsIn, reported, OneBegins}
 use Rattle.agreement.proofs.Whole.{settings-alike}
 use Rattle.agreement.proofs.Alike.{says-alike, schedule-alike}
 use Rattle.agreement.proofs.Theorems.{sound-run, logs-agree, one-clerk, vote-commits, sound-taken, clock-held}
@@ -76,7 +76,7 @@ module _ (size : Size) (n D : ℕ) (event : ℕ → Event) (room : ℕ → List 
       logs : (i : ℕ) → Sound C faulty i → (k : ℕ) → log i k ≡ at size n D event i k .log
       logs i ok k = state-log (storeAt size n D event room lent i k) ∙ ap (λ (s : State). s .log) (states i ok k)
 
-      spoken : (i k : ℕ) (e : Effect) → Sound C faulty i → Says C i k e → Says R i k e
+      spoken : (i k : ℕ) (e : Effect) → Sound C faulty i → IsSaid C i k e → IsSaid R i k e
       spoken = says-alike C (at size n D event) (out size n D event) faulty heightOf parentOf states (same-words (X .premises .settings) (X .premises .lent))
 
       clocks : (i : ℕ) → Sound C faulty i → (k : ℕ) → clock event i k ≡ holds i k .clock
@@ -106,7 +106,7 @@ module _ (size : Size) (n D : ℕ) (event : ℕ → Event) (room : ℕ → List 
 
       -- Theorem B of the calls: a sound station whose call of event j wrote a propose and its vote to all, and whose store at 2D ticks
       -- later is in that view, has that block and all its ancestors in the log of its store after the next tick
-      pub store-commits : (r : ℕ) → Sound C faulty r → (j v h b p m a : ℕ) → Says C r j (toAll (propose v h b p m a)) → Says C r j (toAll (vote v h b r))
+      pub store-commits : (r : ℕ) → Sound C faulty r → (j v h b p m a : ℕ) → IsSaid C r j (toAll (propose v h b p m a)) → IsSaid C r j (toAll (vote v h b r))
           → (k : ℕ) → event k ≡ commonTick → holds r k .clock ≡ holds r (suc j) .clock + 2 * D → holds r k .phase ≡ inView → holds r k .view ≡ v
           → IsPrefix (lineage parentOf h b) (log r (suc k))
       store-commits r ok j v h b p m a s w k e d ph vw =

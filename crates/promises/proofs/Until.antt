@@ -10,11 +10,11 @@ use Rattle.rules.specs.Messages.{Message, propose, vote, write, Effect, toAll, 
 use Rattle.rules.specs.Words.{State, inView}
 use Rattle.rules.specs.Inputs.{reports}
 use Rattle.rules.specs.Refusals.{running, ahead}
-use Rattle.agreement.specs.Schedule.{Event, commonTick, given, until, HasRoom, Run, at, out, Says, Speaks, Sound, RoomTo, RunsTo, Premises, Schedule, Linked, lineage, reportsIn, OneBegins}
+use Rattle.agreement.specs.Schedule.{Event, commonTick, given, until, HasRoom, Run, at, out, IsSaid, Speaks, Sound, RoomTo, RunsTo, Premises, Schedule, Linked, lineage, reportsIn, OneBegins}
 use Rattle.agreement.proofs.Alike.{premises-alike}
 use Rattle.agreement.proofs.Until.{until-before, schedule-until}
 use Rattle.store.specs.Decode.{names, stateOf}
-use Rattle.store.specs.Fresh.{freshly}
+use Rattle.fresh.specs.Fresh.{freshly}
 use Rattle.promises.specs.Heard.{heard}
 use Rattle.promises.specs.Run.{calls, written, storeAt, saidAt, wroteBy, callsRun, Lends}
 use Rattle.promises.proofs.Promises.{same-states, same-words, to-calls, stores-run, stores-agree, stores-linked, stores-reported, store-commits, store-takes}
@@ -66,7 +66,7 @@ module _ (size : Size) (n D : ℕ) (event : ℕ → Event) (room : ℕ → List 
       abbrev log : ℕ → ℕ → List ℕ
       log i k = names (storeAt size n D event room lent i k)
 
-      spoken : (i k : ℕ) (e : Effect) → k < K → Says C i k e → Says (callsRun size n D E room lent) i k e
+      spoken : (i k : ℕ) (e : Effect) → k < K → IsSaid C i k e → IsSaid (callsRun size n D E room lent) i k e
       spoken i k e l = subst (λ (o : List ℕ). List·Memᴰ e (heard o)) (sym (said-until i k l))
 
       pub stores-run-until : RunsTo C faulty K
@@ -90,7 +90,7 @@ module _ (size : Size) (n D : ℕ) (event : ℕ → Event) (room : ℕ → List 
           subst₂ (λ (w b : List ℕ). reportsIn (heard w) ≡ reports 1 (names b)) (wrote-until i k l) (store-until i k l)
           (stores-reported size n D E room lent faulty lends-until heightOf parentOf X i ok k)
 
-      pub store-commits-until : (r : ℕ) → Sound C faulty r → (j v h b p m a : ℕ) → Says C r j (toAll (propose v h b p m a)) → Says C r j (toAll (vote v h b r))
+      pub store-commits-until : (r : ℕ) → Sound C faulty r → (j v h b p m a : ℕ) → IsSaid C r j (toAll (propose v h b p m a)) → IsSaid C r j (toAll (vote v h b r))
           → (k : ℕ) → j < k → k < K → event k ≡ commonTick → holds r k .clock ≡ holds r (suc j) .clock + 2 * D → holds r k .phase ≡ inView → holds r k .view ≡ v
           → IsPrefix (lineage parentOf h b) (log r (suc k))
       store-commits-until r ok j v h b p m a s w k before l e d ph vw =

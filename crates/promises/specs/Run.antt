@@ -10,7 +10,7 @@ use Rattle.rules.specs.Lists.{unbe}
 use Rattle.agreement.specs.Schedule.{Event, idle, commonTick, tickOf, given, offeredTo, Run, Sound}
 use Rattle.store.specs.Layout.{storeLength}
 use Rattle.store.specs.Decode.{stateOf}
-use Rattle.store.specs.Fresh.{freshly}
+use Rattle.fresh.specs.Fresh.{freshly}
 use Rattle.calls.specs.Calls.{Called, stepCalled, tickCalled, offerCalled}
 use Rattle.promises.specs.Heard.{heard}
 

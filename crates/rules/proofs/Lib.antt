@@ -3,6 +3,7 @@ pub mod Bounds
 pub mod Bytes
 pub mod Masks
 pub mod Written
+pub mod Lengths
 pub mod ReadBack
 pub mod Truths
 pub mod Searches

@@ -2,18 +2,18 @@
 -- every other clause, evaluated together under a single claim. Assumes nothing.
 use mathlib.Core.Path.{_≡_, refl}
 use Prim.Native.Nat.{ℕ, suc}
-use mathlib.Core.Bool.{Bool, not}
+use mathlib.Core.Bool.{Bool}
 use mathlib.Core.List.{List, [], _∷_, _++_}
 use lib.ListN.{length, take}
 use lib.Dec.{eqb}
 use Rattle.rules.specs.Limits.{lastViewSmall}
 use Rattle.rules.specs.Messages.{newView, propose, vote, blameSet, status, write, toAll, toOne, committed}
-use Rattle.rules.specs.Script.{_⇒_, idle, holds, ticks, hears, hearsBytes, isOffered, bytes, exactly, says, refuses, failing, good, station, block, other}
+use Rattle.rules.specs.Script.{_⇒_, idle, holds, ticks, hears, hearsBytes, isOffered, bytes, exactly, says, refuses, failing, made, station, block, other}
 use Rattle.rules.specs.Corners.{corners}
 
 -- n=3, D=2
 bench : List Bool
-unfolding station good block other write
+unfolding station made block other write
 bench =
     -- "Station 2, no messages: ticks 1 to 13 write nothing; tick 14 writes whole: .."
     station 2 (idle 13 ∷ ticks ⇒ exactly (0x10 ∷ 0x00 ∷ 0x0F ∷ 0x01 ∷ 0x00 ∷ 0x01 ∷ 0x04 ∷ 0x02 ∷ 0x00 ∷ 0x04 ∷ 0x00 ∷ 0x00 ∷ 0x00 ∷ 0x01 ∷ 0x08 ∷ 0x00 ∷ 0x01 ∷ 0x02 ∷ []) ∷ [])
@@ -28,7 +28,7 @@ bench =
     -- "After one propose vote, entry 0: blame at 18, not 17"
     ∷ station 2 (idle 3 ∷ hears block ⇒ bytes 160 ∷ idle 4 ∷ ticks ⇒ bytes 39 ∷ idle 9 ∷ ticks ⇒ bytes 18 ∷ [])
     -- "n=4, D=0, D=10,001: 10. n=15, D=10,000: 0"
-    ∷ not (good 4 2 0) ∷ not (good 3 0 0) ∷ not (good 3 10001 0) ∷ good 15 10000 14
+    ∷ eqb (made 4 2 0) 10 ∷ eqb (made 3 0 0) 10 ∷ eqb (made 3 10001 0) 10 ∷ eqb (made 15 10000 14) 0
     -- "View 33, view 0, mask bit 3: 5. A one-bit certificate: 5"
     ∷ station 2 (hears (vote (suc lastViewSmall) 1 77 0) ⇒ refuses 5 ∷ hears (vote 0 1 77 0) ⇒ refuses 5 ∷ hears (blameSet 1 11) ⇒ refuses 5 ∷ hears (propose 1 1 77 0 1 1) ⇒ refuses 5 ∷ [])
     -- "Lock rank (1,3), new-view rank (1,2): stored, no vote"

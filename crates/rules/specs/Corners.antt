@@ -13,14 +13,14 @@ use Rattle.rules.specs.Words.{Statement, conflict, Tally, openedBy, cert
 use Rattle.rules.specs.Inputs.{withPhase, withClock, withTables, withBlames, withLog, entering}
 use Rattle.rules.specs.Refusals.{Outcome, step, tick, result}
 use Rattle.rules.specs.WellFormed.{wellFormed}
-use Rattle.rules.specs.Script.{Line, Expected, _⇒_, idle, holds, ticks, hears, hearsBytes, isOffered, bytes, says, refuses, sameList, goes, good, group, station, block, other, child}
+use Rattle.rules.specs.Script.{Line, Expected, _⇒_, idle, holds, ticks, hears, hearsBytes, isOffered, bytes, says, refuses, sameList, goes, made, group, station, block, other, child}
 
 -- ---- sizes of a group
 
 sizes : List Bool
-unfolding good goes fresh entering
+unfolding made goes fresh entering
 sizes =
-    good 3 1 2 ∷ not (good 3 1 3) ∷ not (good 1 1 0) ∷ not (good 17 1 0) ∷ good 5 10000 0
+    eqb (made 3 1 2) 0 ∷ eqb (made 3 1 3) 10 ∷ eqb (made 1 1 0) 10 ∷ eqb (made 17 1 0) 10 ∷ eqb (made 5 10000 0) 0
     -- with five stations three voters make a quorum, and view 7 is station 2's
     ∷ five (hears (blameSet 1 3) ⇒ refuses 5 ∷ hears (blameSet 7 21) ⇒ bytes 0 ∷ hears (newView 7 0 0 0 0 2) ⇒ bytes 0 ∷ hears (newView 7 0 0 0 0 1) ⇒ refuses 5 ∷ [])
     ∷ []

@@ -88,6 +88,15 @@ unfoldable pub write : Message → List ℕ
 unfolding writes tagsOf kind values
 write m = writes (1 ∷ tagsOf (kind m)) (kind m ∷ values m)
 
+-- the table's column 'bytes'
+unfoldable pub size : Message → ℕ
+size (newView v h b c m a) = 69
+size (propose v h b p m a) = 97
+size (vote v h b a) = 57
+size (blame v a) = 15
+size (blameSet v m) = 16
+size (status h b c m) = 58
+
 -- each number fits the bytes of its field
 abbrev pub InWidth : List ℕ → List ℕ → Type 0
 InWidth [] [] = Unit

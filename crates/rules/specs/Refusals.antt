@@ -7,9 +7,15 @@ use lib.ListN.{length}
 use lib.Dec.{leb, ltb, eqb}
 use Rattle.rules.specs.Limits.{mostStatements, mostTallies, mostOpened, lastClock}
 use Rattle.rules.specs.Lists.{any}
+use Rattle.rules.specs.Sizes.{Settings, goodSettings}
 use Rattle.rules.specs.Messages.{Message, newView, propose, vote, blame, blameSet, status, viewOf, read, allowed, Effect, outgoing}
 use Rattle.rules.specs.Words.{ofBlock, sameBlock, openedBy, Cause, full, split, clock, inView, waiting, stopped, State}
 use Rattle.rules.specs.Inputs.{Work, withPhase, handled, offered, ticked}
+
+-- a fresh store: 0 for good settings, 10, "bad settings for a fresh store"
+unfoldable pub freshNumber : Settings → ℕ
+unfolding goodSettings
+freshNumber g = elim (goodSettings g) [ true ↦ 0 | false ↦ 10 ]
 
 -- the number of the answer (0 is done), what is left, and what is said
 pub record Outcome : Type 0 where

@@ -5,10 +5,10 @@ use mathlib.Core.List.{List, [], _∷_}
 use lib.ListN.{length}
 use lib.Dec.{eqb}
 use Rattle.rules.specs.Limits.{small}
-use Rattle.rules.specs.Sizes.{Settings, goodSettings}
+use Rattle.rules.specs.Sizes.{Settings}
 use Rattle.rules.specs.Messages.{Message, propose, write, Effect, outgoing}
 use Rattle.rules.specs.Words.{State, fresh}
-use Rattle.rules.specs.Refusals.{Outcome, step, offer, tick}
+use Rattle.rules.specs.Refusals.{freshNumber, Outcome, step, offer, tick}
 
 pub data Input : Type 0 where
   ticks : Input
@@ -61,9 +61,9 @@ goes s (holds p ∷ ls) = p s && goes s ls
 
 -- ---- what the examples share: a group of three with D = 2, two blocks of height 1 and the first one's child
 
-unfoldable pub good : ℕ → ℕ → ℕ → Bool
-unfolding goodSettings
-good n D i = goodSettings (record { n = n; D = D; own = i; size = small })
+unfoldable pub made : ℕ → ℕ → ℕ → ℕ
+unfolding freshNumber
+made n D i = freshNumber (record { n = n; D = D; own = i; size = small })
 
 unfoldable pub group : ℕ → Settings
 group i = record { n = 3; D = 2; own = i; size = small }

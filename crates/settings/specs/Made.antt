@@ -1,6 +1,7 @@
 -- What the code's settings mean in the words of the rules. Assumes nothing.
 use Prim.Native.Nat.{ℕ}
 use mathlib.Core.Bool.{Bool, true, false}
+use mathlib.Core.Option.{Option, none, some}
 use Rattle.rules.specs.Limits as limits
 use Rattle.rules.specs.Limits.{small, large}
 use Rattle.rules.specs.Sizes as sizes
@@ -21,6 +22,19 @@ settingsOf g = record { n = g .n; D = g .delay; own = g .own; size = sizeFrom (g
 abbrev pub pick : Bool → Made → Made → Made
 pick true a b = a
 pick false a b = b
+
+-- the number that the paper gives to each case, 0 where the settings are good, and the settings: "10 bad settings for a fresh store"
+pub record Answer : Type 0 where
+  pub number : ℕ
+  pub settings : Option sizes.Settings
+
+abbrev pub answerOf : Made → Answer
+answerOf (Good g) = record { number = 0; settings = some (settingsOf g) }
+answerOf Bad = record { number = 10; settings = none }
+
+-- the settings of the answer, if any
+abbrev pub madeOf : Made → Option sizes.Settings
+madeOf r = answerOf r .settings
 
 -- good settings, or refused
 unfoldable pub made : ℕ → ℕ → ℕ → Size → Made

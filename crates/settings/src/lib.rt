@@ -2,7 +2,7 @@
 ghost use mathlib.Core.Path.{_≡_};
 ghost use Prim.Native.Nat.{_<_, _^_};
 ghost use Rattle.rules.specs.Limits.{maskBits, lastView, mostStatements, mostTallies};
-ghost use Rattle.rules.specs.Sizes.{leader, quorum, only, holds};
+ghost use Rattle.rules.specs.Sizes.{leader, quorum, only, joined, holds};
 ghost use Rattle.settings.specs.Made.{made, sizeFrom, settingsOf};
 
 // Which limits a group goes by.
@@ -149,6 +149,13 @@ pub fn only(station: u64) -> u64
     ensures { λ r. ⌜ r ≡ only station ⌝ }
 {
     1 << station
+}
+
+// Two masks joined: nobody is lost, nobody is counted twice.
+pub fn joined(mask: u16, other: u16) -> u16
+    ensures { λ r. ⌜ r ≡ joined mask other ⌝ }
+{
+    mask | other
 }
 
 // Whether a mask has a station's bit.

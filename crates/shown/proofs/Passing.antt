@@ -13,7 +13,7 @@ use borrow.Author.Tests.{eqb-true, eq-eqb, le-leb, not-true}
 use Rattle.fields.specs.Places.{number}
 use Rattle.fields.proofs.Lists.{number-append-right, number-append-left}
 use Rattle.rules.specs.Lists.{be, unbe}
-use Rattle.rules.specs.Messages.{Message, propose, field, width, kind, write, Fitting, read, allowed}
+use Rattle.rules.specs.Messages.{Message, propose, field, width, write, Fitting, read, allowed, size}
 use Rattle.rules.specs.Sizes.{Settings, goodSettings}
 use Rattle.rules.specs.Words.{Statement, message}
 use Rattle.rules.proofs.Allowed.{sizes}
@@ -23,7 +23,7 @@ use Rattle.rules.proofs.Tests.{and-left, and-right, eqb-self, no-bool}
 use Rattle.kept.proofs.Sendable.{sendable}
 use Rattle.wire.specs.Fields.{head, isField}
 use Rattle.wire.proofs.Reading.{field-test, be-number}
-use Rattle.outgoing.proofs.Writing.{length-write, length-field}
+use Rattle.rules.proofs.Lengths.{length-write, length-field}
 use Rattle.slip.specs.Slips.{isEntry, certifies, follows, isChain, isSlip, entryBytes, entriesBytes, slipBytes, proposeOf, proposeIn, nameEnd, entryPlace, entryAt, parentIn, Verdict, accepted, judgeFrom, topHeight, judged}
 use Rattle.slip.proofs.Judging.{parent-here, top-here}
 
@@ -97,7 +97,7 @@ module _ (x : Statement) (e : x .isNewView ≡ false) where
   message-is = rw (e, message)
 
   pub length-message : length (write (message x)) ≡ 97
-  unfolding kind
+  unfolding size
   length-message = ap (λ m. length (write m)) message-is ∙ length-write (propose (x .view) (x .height) (x .name) (x .link) (x .mask) (x .author))
 
   pub length-entry : length (entryBytes x) ≡ 100

@@ -23,7 +23,7 @@ use Rattle.rules.proofs.ReadBack.{write-read}
 use Rattle.rules.proofs.Tests.{by-bool, by-option, no-bool, and-left, and-right, eqb-self}
 use Rattle.wire.specs.Fields.{head, isField}
 use Rattle.wire.proofs.Reading.{field-room}
-use Rattle.outgoing.proofs.Writing.{length-field}
+use Rattle.rules.proofs.Lengths.{length-field}
 use Rattle.slip.specs.Slips.{isEntry, certifies, follows, isChain, isSlip, entryBytes, entriesBytes, slipBytes, nameEnd, entryPlace, entryAt, parentIn, Verdict, accepted, refused, judgeFrom, topHeight, judged}
 use Rattle.slip.proofs.Reading.{bytes-all, piece, propose-read, entry-framed, entry-room}
 use Rattle.slip.proofs.Judging.{countOf, Leads, leads, top-here, top-unread}

@@ -11,7 +11,7 @@ use lib.Dec.{eqb, lit<, lit≤}
 use borrow.Author.Tests.{eqb-true, not-true}
 use Rattle.rules.specs.Limits.{Size, small, large, mostStatements, leastOut}
 use Rattle.rules.specs.Lists.{unbe, first}
-use Rattle.rules.specs.Messages.{field, write, kind}
+use Rattle.rules.specs.Messages.{field, write, size}
 use Rattle.rules.specs.Words.{Statement, message}
 use Rattle.rules.specs.Inputs.{isBlock}
 use Rattle.rules.proofs.Searches.{first-any}
@@ -21,8 +21,9 @@ use Rattle.fields.specs.Places.{put}
 use Rattle.wire.specs.Fields.{head}
 use Rattle.wire.specs.Meaning.{statementOf}
 use Rattle.wire.specs.declared.Statement as code
-use Rattle.outgoing.specs.Wrote.{Says, sizeOf}
-use Rattle.outgoing.proofs.Writing.{says-none, says-both, says-length, put-says, field-says, length-field, length-write}
+use Rattle.outgoing.specs.Wrote.{Says}
+use Rattle.rules.proofs.Lengths.{length-field, length-write}
+use Rattle.outgoing.proofs.Writing.{says-none, says-both, says-length, put-says, field-says}
 use Rattle.store.specs.Layout.{statementTable, logTable, countOf}
 use Rattle.store.specs.Decode.{rows, statementAt, nameAt, statements, names}
 use Rattle.store.specs.Changes.{pick, firstFrom}
@@ -84,7 +85,7 @@ unfolding message statementOf
 said-is x y f = ap message f
 
 propose-length : (y : Statement) → y .isNewView ≡ false → length (write (message y)) ≡ 97
-unfolding message kind
+unfolding message size
 propose-length y e = length-write (message y) ∙ rw (e, message)
 
 pub length-entry : (y : Statement) → y .isNewView ≡ false → length (entryBytes y) ≡ 100

@@ -17,7 +17,7 @@ use Rattle.fields.proofs.Laws.{number-lt, bytes-put, bytes-set}
 use Rattle.fields.proofs.Lists.{number-tail, number-append-left, number-append-right, bytes-take, bytes-drop, same-list}
 use Rattle.wire.proofs.Reading.{be-number}
 use Rattle.outgoing.specs.Wrote.{wrote}
-use Rattle.outgoing.proofs.Writing.{length-field}
+use Rattle.rules.proofs.Lengths.{length-field}
 use Rattle.slots.specs.Slots.{slotLength, mostInput, isInput, recordBytes, isBlank, isEnded, sequenceIn, valueIn, kindIn, inputIn, isRecord, recordIn, judged, blank, torn, bad, whole}
 use Rattle.slots.proofs.Inputs.{input-fits}
 use Rattle.slots.proofs.Records.{length-record, record-wrote}

@@ -14,7 +14,8 @@ use Rattle.rules.specs.Messages.{field}
 use Rattle.rules.proofs.Bytes.{pow-pos, length-unbe}
 use Rattle.wire.specs.Fields.{head}
 use Rattle.outgoing.specs.Wrote.{wrote, Says}
-use Rattle.outgoing.proofs.Writing.{wrote-prefix, says-both, put-says, byte-says, field-says, number-says, length-field}
+use Rattle.rules.proofs.Lengths.{length-field}
+use Rattle.outgoing.proofs.Writing.{wrote-prefix, says-both, put-says, byte-says, field-says, number-says}
 use Rattle.slots.specs.Slots.{slotLength, mostInput, recordBytes}
 
 -- zeros are the bytes of zero

@@ -1,6 +1,6 @@
 // The exported calls, on numbers and byte buffers. Each contract says the result and every byte left, for all inputs.
 ghost use mathlib.Core.Path.{_≡_};
-ghost use Rattle.store.specs.Fresh.{answer, freshly};
+ghost use Rattle.fresh.specs.Fresh.{answer, freshly};
 ghost use Rattle.calls.specs.Calls.{stepCalled, offerCalled, tickCalled, Gives};
 use offers::Offer;
 use store::Station;
@@ -11,7 +11,7 @@ use wire::Read;
 pub extern "C" fn station_fresh(store: &mut [u8], n: u64, d: u64, own: u64) -> u64
     ensures { λ r. ⌜ answer r (now (store .exit)) ≡ freshly (now (store .entry)) n d own ⌝ }
 {
-    store::fresh(store, n, d, own)
+    fresh::fresh(store, n, d, own)
 }
 
 // A message came: what it makes the station do, or why it is refused.

@@ -14,6 +14,6 @@ pub mod Changes
 pub mod Searches
 pub mod OneByOne
 pub mod Joining
-pub mod Starts
+pub mod Entered
 pub mod Sized
 pub mod Compose

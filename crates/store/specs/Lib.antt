@@ -2,4 +2,3 @@ pub mod Layout
 pub mod Decode
 pub mod Meaning
 pub mod Changes
-pub mod Fresh

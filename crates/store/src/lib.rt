@@ -7,7 +7,7 @@ ghost use lib.ListN.{length};
 ghost use lib.Dec.{eqb};
 ghost use Rattle.rules.specs.Limits.{lastView, mostStatements, mostTallies, lastClock, leastOut, maskBits};
 ghost use Rattle.rules.specs.Sizes.{only};
-ghost use Rattle.rules.specs.Words.{sameStatement, reachedAt, certificateOf, opened, ofBlock, grown, join, joinCertificate, moment, fresh};
+ghost use Rattle.rules.specs.Words.{sameStatement, reachedAt, certificateOf, opened, ofBlock, grown, join, joinCertificate, moment};
 ghost use Rattle.rules.specs.Inputs.{withPhase, withClock, entering, blamed};
 ghost use Rattle.fields.specs.Names.{nameOf};
 ghost use Rattle.fields.specs.Places.{number, put as written};
@@ -18,10 +18,8 @@ ghost use Rattle.words.specs.Meaning.{blockOf};
 ghost use Rattle.store.specs.Layout.{headerFormat, statementFormat, certificateFormat, tallyFormat, headerSize, statementSize, certificateSize, tallySize, statementTable, tallyTable, logTable, blameBase, storeLength, sizeIn, countOf, placeOf};
 ghost use Rattle.store.specs.Decode.{phaseOf, phaseNumber, kindNumber, openerOf, reachedFrom, statementValues, certificateFrom, certificateValues, statementAt, tallyAt, openerAt, sinceAt, tallyValues, blameAt, nameAt, kindAt, voteAt, rows, statements, tallies, stateOf, headerValues, Form, Left};
 ghost use Rattle.store.specs.Meaning.{courseOf, tallyOf, momentOf, votersOf, authorOf, Numbered, headerOf, Loads};
-ghost use Rattle.store.specs.Fresh.{answer, freshly};
 ghost use Rattle.store.specs.Changes.{firstFrom, blockAt, withVoters, growing, Voted, opening, joining, Joined, certifying, storing, noting, appending};
 use fields::Name;
-use settings::Made;
 use settings::Settings;
 use settings::Size;
 use wire::Statement;
@@ -475,7 +473,7 @@ impl Tally {
         requires { ⌜ moment .clock ≤ lastClock ⌝ }
         ensures { λ r. ⌜ tallyOf r ≡ grown (momentOf moment) (tallyOf self) mask ⌝ }
     {
-        let voters = self.mask | mask;
+        let voters = settings::joined(self.mask, mask);
         let reached = moment.reached(self.reached, voters);
         let mut tally = self;
         tally.mask = voters;
@@ -752,7 +750,7 @@ pub fn join_blame(store: &mut [u8], view: u32, mask: u16)
     ensures { λ _. ⌜ Left (now (store .exit)) (blamed view mask (stateOf (now (store .entry)))) ⌝ }
 {
     let i = view as usize - 1;
-    let joined = blame_at(store, i) | mask;
+    let joined = settings::joined(blame_at(store, i), mask);
     fields::put(store, blame_place(store, i), 2, joined as u64);
 }
 
@@ -872,39 +870,4 @@ pub fn enter(store: &mut [u8], view: u32, lock: Certificate)
         logged: old.logged,
     };
     station.save(store);
-}
-
-// The station that a store starts with.
-fn starting(settings: Settings) -> Station
-    ensures { λ r. ⌜ headerOf r ≡ headerValues (fresh (settingsOf settings)) ⌝ }
-{
-    let lock = Certificate::genesis();
-    Station {
-        settings,
-        phase: Phase::InView,
-        view: Settings::FIRST_VIEW as u32,
-        entry: 0,
-        clock: 0,
-        lock,
-        statements: 0,
-        tallies: 0,
-        logged: 0,
-    }
-}
-
-// Makes a fresh store of whatever was in it; refused for another length, then for bad settings.
-pub fn fresh(store: &mut [u8], n: u64, d: u64, own: u64) -> u64
-    ensures { λ r. ⌜ answer r (now (store .exit)) ≡ freshly (now (store .entry)) n d own ⌝ }
-{
-    if !is_whole(store) {
-        return 1 << 32;
-    }
-    let size = size_in(store);
-    let Made::Good(settings) = Settings::new(n, d, own, size) else {
-        return 10 << 32;
-    };
-    let whole = store.len();
-    fields::clear(store, 0, whole);
-    starting(settings).save(store);
-    0
 }

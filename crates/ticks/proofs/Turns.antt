@@ -27,7 +27,7 @@ use Rattle.store.specs.declared.Station.{Station}
 use Rattle.store.proofs.Loaded.{loaded-settings, loaded-entry, loaded-clock}
 use Rattle.kept.specs.Parts as kept
 use Rattle.kept.proofs.Facts.{clocks-of}
-use Rattle.kept.proofs.Lengths.{bytes, reports-bytes}
+use Rattle.rules.proofs.Lengths.{bytes, reports-bytes}
 use Rattle.kept.proofs.Logs.{linked-length, proposes-length, commits-linked}
 use Rattle.kept.proofs.Phases.{clock-formed}
 use Rattle.kept.proofs.Reports.{due-stored}

@@ -21,7 +21,7 @@ use Rattle.store.specs.Decode.{rows, statementAt, statements, stateFrom, stateO
 use Rattle.store.proofs.Rows.{rows-length, rows-at, rows-from}
 use Rattle.search.specs.Orders.{standing, placeAt}
 use Rattle.kept.proofs.Keeps.{voting-keeps}
-use Rattle.kept.proofs.Lengths.{bytes-none}
+use Rattle.rules.proofs.Lengths.{bytes-none}
 use Rattle.acts.specs.Answers.{Stands}
 use Rattle.acts.specs.Works.{Formed, Works}
 use Rattle.acts.proofs.Places.{place-sendable}

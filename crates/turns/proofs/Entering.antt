@@ -7,7 +7,7 @@ use lib.Dec.{eqb}
 use lib.ListN.{length}
 use borrow.Author.Tests.{eq-eqb, ne-eqb}
 use Rattle.rules.specs.Sizes.{Settings, leader}
-use Rattle.rules.specs.Messages.{Effect, toOne, status, effect, outgoing}
+use Rattle.rules.specs.Messages.{Effect, toOne, status, effect, outgoing, size}
 use Rattle.rules.specs.Words.{Certificate, highest, State}
 use Rattle.rules.specs.Inputs.{saying, entering, nextLock, report, entered}
 use Rattle.rules.proofs.Tests.{by-bool}
@@ -22,7 +22,7 @@ use Rattle.store.specs.declared.Station.{Station}
 use Rattle.words.specs.declared.Certificate as code
 use Rattle.store.proofs.Loaded.{loaded-settings, loaded-view}
 use Rattle.kept.proofs.Facts.{sizes-of}
-use Rattle.kept.proofs.Lengths.{size, weight, length-effect, bytes-cons, bytes-none}
+use Rattle.rules.proofs.Lengths.{weight, length-effect, bytes-cons, bytes-none}
 use Rattle.words.specs.Meaning.{blockOf}
 use Rattle.acts.specs.Works.{Formed, Works}
 use Rattle.acts.proofs.Votes.{loaded-own}

@@ -23,7 +23,7 @@ use Rattle.store.proofs.Rows.{rows-append, rows-length, rows-same, rows-at}
 use Rattle.commit.specs.Chains.{nameIn, statementIn}
 use Rattle.commit.specs.Outcome.{tickLog, Gained}
 use Rattle.commit.proofs.Readers.{name-of}
-use Rattle.kept.proofs.Lengths.{weight, length-effect, reports-bytes}
+use Rattle.rules.proofs.Lengths.{weight, length-effect, reports-bytes}
 use Rattle.acts.specs.Works.{Works}
 use Rattle.acts.proofs.Works.{left-then, works-is, works-saying}
 use Rattle.turns.specs.Gains.{grownLog, Enough}

@@ -5,7 +5,7 @@ use mathlib.Core.Bool.{true, false}
 use mathlib.Core.List.{List, [], _∷_}
 use lib.ListN.{length}
 use Rattle.rules.specs.Sizes.{only}
-use Rattle.rules.specs.Messages.{Effect, toAll, blame, effect}
+use Rattle.rules.specs.Messages.{Effect, toAll, blame, effect, size}
 use Rattle.rules.specs.Words.{State}
 use Rattle.rules.specs.Inputs.{Work, saying, _▸_, blaming, overdue, complain}
 use Rattle.outgoing.proofs.Writing.{says-outgoing, says-one}
@@ -13,7 +13,7 @@ use Rattle.outgoing.specs.Wrote.{Says}
 use Rattle.store.specs.Layout.{storeLength, sizeIn}
 use Rattle.store.specs.Decode.{stateFrom, stateOf, Form, Left}
 use Rattle.store.proofs.Forms.{form-long}
-use Rattle.kept.proofs.Lengths.{size, weight, length-effect}
+use Rattle.rules.proofs.Lengths.{weight, length-effect}
 use Rattle.acts.specs.Works.{Works}
 use Rattle.acts.proofs.Works.{works-is, works-none, works-saying}
 

@@ -152,7 +152,7 @@ unfoldable pub tried : (ℕ → Bool) → ℕ → Bool
 tried p zero = true
 tried p (suc n) = p n && tried p n
 
-tried-at : (p : ℕ → Bool) (n i : ℕ) → tried p n ≡ true → i < n → p i ≡ true
+pub tried-at : (p : ℕ → Bool) (n i : ℕ) → tried p n ≡ true → i < n → p i ≡ true
 unfolding tried
 tried-at p zero i e h = absurd (omega arith)
 tried-at p (suc n) i e h =

@@ -1,6 +1,6 @@
 -- `choose::taken` meets its contract: by the group. Assumes nothing.
 use mathlib.Core.Path.{sym, ap, _∙_}
-use Rattle.groups.specs.Meaning.{groupOf}
+use Rattle.settings.specs.Made.{madeOf}
 use Rattle.choose.proofs.Laws.{group-bad, group-good}
 use borrow.Author.Needs.{needs}
 use Rattle.choose.proofs.taken.Statement.{statement}
@@ -19,7 +19,7 @@ returns : tie.Need-returns
 returns c =
     let after-group = c .before .before in
     let a = after-group .before .before .before .args in
-    group-bad (a .kind) (a .n) (a .first .now) (a .second .now) (sym (after-group .group-of .ensures) ∙ ap groupOf (c .enum-told .given .1))
+    group-bad (a .kind) (a .n) (a .first .now) (a .second .now) (sym (after-group .group-of .ensures) ∙ ap madeOf (c .enum-told .given .1))
 
 decide-requires : tie.Need-decide-requires
 decide-requires c κs = search needs
@@ -29,7 +29,7 @@ returns-2 c =
     let after-settings = c .before .before in
     let after-group = after-settings .before .before in
     let a = after-group .before .before .before .args in
-    c .decide .ensures ∙ group-good (a .kind) (a .n) (a .first .now) (a .second .now) _ (sym (after-group .group-of .ensures) ∙ ap groupOf (after-settings .settings .given .1))
+    c .decide .ensures ∙ group-good (a .kind) (a .n) (a .first .now) (a .second .now) _ (sym (after-group .group-of .ensures) ∙ ap madeOf (after-settings .settings .given .1))
 
 pub taken-spec : {M : Type 1} → statement M
 taken-spec =

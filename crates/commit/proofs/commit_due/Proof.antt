@@ -10,7 +10,7 @@ use Rattle.store.specs.Decode.{statementAt}
 use Rattle.store.proofs.Forms.{form-long, form-statements}
 use Rattle.commit.specs.Chains.{isRipe}
 use Rattle.commit.proofs.Readers.{height-of}
-use Rattle.commit.proofs.Course.{Course, Turn, ripe-propose, course-start, course-end, course-not, course-high, course-settled, turn-broken, turn-ready, turn-grown, turn-differs}
+use Rattle.commit.proofs.Course.{Course, Turn, ripe-propose, course-start, course-end, course-not, course-high, course-settled, turn-broken, turn-whole, turn-grown, turn-differs}
 use Rattle.commit.proofs.commit_due.Statement.{statement}
 use Rattle.commit.proofs.commit_due.Tie as tie
 
@@ -121,7 +121,7 @@ loop-again-4 c =
 
 join-requires : tie.Need-join-requires Inv-loop μ-loop
 join-requires c κs =
-    turn-ready (turn (c .before .before .before)) (c .before .before .if5 .left) (c .before .before .before .before .before .before .before .before .before .before .before .before .before .before .before .before .before .before .before .before .pre .form) (c .before .before .before .before .before .before .before .before .before .before .before .before .before .before .before .before .before .before .before .before .pre .old)
+    turn-whole (turn (c .before .before .before)) (c .before .before .if5 .left) (c .before .before .before .before .before .before .before .before .before .before .before .before .before .before .before .before .before .before .before .before .pre .form) (c .before .before .before .before .before .before .before .before .before .before .before .before .before .before .before .before .before .before .before .before .pre .old)
 
 enum-known-m : tie.Need-enum-known-m Inv-loop μ-loop
 enum-known-m c = search needs

@@ -1,5 +1,5 @@
 -- `lines::alone` meets its contract. Assumes nothing.
-use Rattle.lines.proofs.Replies.{says-bad, says-log, says-state, says-display, alone-good, alone-wrong}
+use Rattle.lines.proofs.Replies.{nothing-bad, nothing-log, nothing-state, nothing-display, alone-good, alone-wrong}
 use borrow.Author.Needs.{needs}
 use Rattle.lines.proofs.alone.Statement.{statement}
 use Rattle.lines.proofs.alone.Tie as tie
@@ -12,7 +12,7 @@ enum-known-flaw c = search needs
 
 returns : tie.Need-returns
 returns c =
-    says-bad _ _ (alone-wrong _ _ _ (c .before .before .before .ending .ensures) _ (c .before .flaw .given .1))
+    nothing-bad _ _ (alone-wrong _ _ _ (c .before .before .before .ending .ensures) _ (c .before .flaw .given .1))
 
 enum-told : tie.Need-enum-told
 enum-told c = search needs
@@ -28,15 +28,15 @@ enum-told-4 c = search needs
 
 returns-2 : tie.Need-returns-2
 returns-2 c =
-    rw (c .enum-told2 .given .1) (says-log _ (alone-good _ _ _ (c .before .before .before .before .ending .ensures) _ (c .before .before .enum-told .given .1)))
+    rw (c .enum-told2 .given .1) (nothing-log _ (alone-good _ _ _ (c .before .before .before .before .ending .ensures) _ (c .before .before .enum-told .given .1)))
 
 returns-3 : tie.Need-returns-3
 returns-3 c =
-    rw (c .enum-told3 .given .1) (says-state _ (alone-good _ _ _ (c .before .before .before .before .ending .ensures) _ (c .before .before .enum-told .given .1)))
+    rw (c .enum-told3 .given .1) (nothing-state _ (alone-good _ _ _ (c .before .before .before .before .ending .ensures) _ (c .before .before .enum-told .given .1)))
 
 returns-4 : tie.Need-returns-4
 returns-4 c =
-    rw (c .enum-told4 .given .1) (says-display _ (alone-good _ _ _ (c .before .before .before .before .ending .ensures) _ (c .before .before .enum-told .given .1)))
+    rw (c .enum-told4 .given .1) (nothing-display _ (alone-good _ _ _ (c .before .before .before .before .ending .ensures) _ (c .before .before .enum-told .given .1)))
 
 pub alone-spec : {M : Type 1} → statement M
 alone-spec =

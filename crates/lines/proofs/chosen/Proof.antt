@@ -6,7 +6,7 @@ use Rattle.parts.specs.Fields.{got}
 use Rattle.lines.specs.Script.{hex}
 use Rattle.text.proofs.Runs.{word-none, word-some, word-length}
 use Rattle.text.proofs.Digits.{length-pairs}
-use Rattle.lines.proofs.Replies.{says-bad, unchanged, too-long, written-good, chosen-missing, chosen-not, chosen-wrong, chosen-both}
+use Rattle.lines.proofs.Replies.{nothing-bad, unchanged, too-long, written-good, chosen-missing, chosen-not, chosen-wrong, chosen-both}
 use Prim.Native.Nat.{ℕ, _/_}
 use mathlib.Core.Path.{_≡_, refl, sym, ap, ap₂, _∙_}
 use native.Mathlib.Omega.{arith}
@@ -23,7 +23,7 @@ word-requires c κs = search needs
 
 returns : tie.Need-returns
 returns c =
-    unchanged _ _ _ _ (says-bad _ _ (chosen-missing _ (word-none (c .before .word .ensures) (c .if1 .taken)))) refl
+    unchanged _ _ _ _ (nothing-bad _ _ (chosen-missing _ (word-none (c .before .word .ensures) (c .if1 .taken)))) refl
 
 sub-is-bytes : tie.Need-sub-is-bytes
 sub-is-bytes c = search needs
@@ -40,7 +40,7 @@ is-bytes-requires c κs = search needs
 returns-2 : tie.Need-returns-2
 returns-2 c =
     let w = c .before .before .before .before .word .ensures in
-    unchanged _ _ _ _ (says-bad _ _ (chosen-not _ (word-some w (c .before .before .before .if1 .left)) (rw (w .is) at (sym (c .before .is-bytes .ensures) ∙ not-true _ (c .if2 .taken))))) refl
+    unchanged _ _ _ _ (nothing-bad _ _ (chosen-not _ (word-some w (c .before .before .before .if1 .left)) (rw (w .is) at (sym (c .before .is-bytes .ensures) ∙ not-true _ (c .if2 .taken))))) refl
 
 holds-hex-requires : tie.Need-holds-hex-requires
 holds-hex-requires c κs = search needs
@@ -52,7 +52,7 @@ returns-3 : tie.Need-returns-3
 returns-3 c =
     let w = c .before .before .before .before .before .before .before .before .word .ensures in
     let h = rw (c .before .flaw .given .1) at (c .before .before .before .holds-hex .ensures) in
-    unchanged _ _ _ _ (says-bad _ _ (chosen-wrong _ (word-some w (c .before .before .before .before .before .before .before .if1 .left)) (rw (w .is) at (sym (c .before .before .before .before .before .is-bytes .ensures) ∙ not-false _ (c .before .before .before .before .if2 .left))) _ (rw (w .after) at h))) refl
+    unchanged _ _ _ _ (nothing-bad _ _ (chosen-wrong _ (word-some w (c .before .before .before .before .before .before .before .if1 .left)) (rw (w .is) at (sym (c .before .before .before .before .before .is-bytes .ensures) ∙ not-false _ (c .before .before .before .before .if2 .left))) _ (rw (w .after) at h))) refl
 
 enum-told : tie.Need-enum-told
 enum-told c = search needs

@@ -1,5 +1,5 @@
 -- `lines::fresh` meets its contract. Assumes nothing.
-use Rattle.lines.proofs.Replies.{says-bad, says-fresh, fresh-good, fresh-wrong}
+use Rattle.lines.proofs.Replies.{nothing-bad, nothing-fresh, fresh-good, fresh-wrong}
 use borrow.Author.Needs.{needs}
 use Rattle.lines.proofs.fresh.Statement.{statement}
 use Rattle.lines.proofs.fresh.Tie as tie
@@ -21,14 +21,14 @@ enum-known-flaw c = search needs
 
 returns : tie.Need-returns
 returns c =
-    says-bad _ _ (fresh-wrong _ _ _ _ _ _ _ _ _ (c .before .before .before .before .before .before .field .ensures) (c .before .before .before .before .before .field2 .ensures) (c .before .before .before .before .field3 .ensures) (c .before .before .before .ending .ensures) _ (c .before .flaw .given .1))
+    nothing-bad _ _ (fresh-wrong _ _ _ _ _ _ _ _ _ (c .before .before .before .before .before .before .field .ensures) (c .before .before .before .before .before .field2 .ensures) (c .before .before .before .before .field3 .ensures) (c .before .before .before .ending .ensures) _ (c .before .flaw .given .1))
 
 enum-told : tie.Need-enum-told
 enum-told c = search needs
 
 returns-2 : tie.Need-returns-2
 returns-2 c =
-    says-fresh _ _ _ _ (fresh-good _ _ _ _ _ _ _ _ _ (c .before .before .before .before .before .field .ensures) (c .before .before .before .before .field2 .ensures) (c .before .before .before .field3 .ensures) (c .before .before .ending .ensures) _ (c .enum-told .given .1))
+    nothing-fresh _ _ _ _ (fresh-good _ _ _ _ _ _ _ _ _ (c .before .before .before .before .before .field .ensures) (c .before .before .before .before .field2 .ensures) (c .before .before .before .field3 .ensures) (c .before .before .ending .ensures) _ (c .enum-told .given .1))
 
 pub fresh-spec : {M : Type 1} → statement M
 fresh-spec =

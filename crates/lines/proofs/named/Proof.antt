@@ -7,7 +7,7 @@ use Rattle.outgoing.proofs.Writing.{put-wrote}
 use Rattle.lines.specs.Script.{given, meant}
 use Rattle.parts.specs.Places.{readsAt}
 use mathlib.Core.List.{[]}
-use Rattle.lines.proofs.Replies.{says-bad, unchanged, too-long, written-good, named-good, named-wrong}
+use Rattle.lines.proofs.Replies.{nothing-bad, unchanged, too-long, written-good, named-good, named-wrong}
 use mathlib.Core.Path.{refl, sym, _∙_}
 use native.Mathlib.Omega.{arith}
 use borrow.Author.Needs.{needs}
@@ -25,7 +25,7 @@ returns c =
     let a = c .before .before .before .before .before .before .args in
     let m = given (a .what) (unbe 32 (nameOf (a .name))) in
     let all = meant (λ _. m) (readsAt [] (a .line .now) (a .place)) in
-    unchanged all all (a .bytes .now) _ (says-bad all _ (named-wrong m (a .line .now) (a .place) _ (c .before .before .before .ending .ensures) _ (c .before .flaw .given .1))) refl
+    unchanged all all (a .bytes .now) _ (nothing-bad all _ (named-wrong m (a .line .now) (a .place) _ (c .before .before .before .ending .ensures) _ (c .before .flaw .given .1))) refl
 
 enum-told : tie.Need-enum-told
 enum-told c = search needs

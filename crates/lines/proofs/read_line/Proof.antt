@@ -1,6 +1,6 @@
 -- `lines::read_line` meets its contract: by its first word. Assumes nothing.
 use Rattle.text.proofs.Runs.{word-none, word-some}
-use Rattle.lines.proofs.Replies.{says-blank, says-bad, unchanged, reads-as, line-blank, line-order, meansOf, meanings, means-other, means-spoken}
+use Rattle.lines.proofs.Replies.{nothing-blank, nothing-bad, unchanged, reads-as, line-blank, line-order, meansOf, meanings, means-other, means-spoken}
 use Rattle.text.specs.Words.{rest, bytes}
 use Rattle.lines.specs.Script.{orders}
 use Prim.Native.Nat.{ℕ}
@@ -15,7 +15,7 @@ word-requires c κs = search needs
 
 returns : tie.Need-returns
 returns c =
-    unchanged _ _ _ _ (says-blank _ (line-blank _ (word-none (c .before .word .ensures) (c .if1 .taken)))) refl
+    unchanged _ _ _ _ (nothing-blank _ (line-blank _ (word-none (c .before .word .ensures) (c .if1 .taken)))) refl
 
 slice-aggregate-which : tie.Need-slice-aggregate-which
 slice-aggregate-which c = search needs
@@ -192,7 +192,7 @@ returns-14 c =
     let w = c .before .before .before .before .before .before .word .ensures in
     let is = line-order s (c .before .before .which .result) (word-some w (c .before .before .before .before .before .if1 .left)) (λ ws l. rw (w .is) at (c .before .before .which .ensures ws l)) in
     let none : c .before .before .which .result ≡ 0 = omega (arith, c .if2 .taken) in
-    unchanged _ _ _ _ (says-bad _ _ (is ∙ ap (λ (k : ℕ). meansOf k (rest s)) none)) refl
+    unchanged _ _ _ _ (nothing-bad _ _ (is ∙ ap (λ (k : ℕ). meansOf k (rest s)) none)) refl
 
 returns-15 : tie.Need-returns-15
 unfolding bytes
@@ -200,7 +200,7 @@ returns-15 c =
     let s = c .before .before .before .before .before .before .before .before .before .before .args .line .now in
     let w = c .before .before .before .before .before .before .before .word .ensures in
     let is = line-order s (c .before .before .before .which .result) (word-some w (c .before .before .before .before .before .before .if1 .left)) (λ ws l. rw (w .is) at (c .before .before .before .which .ensures ws l)) in
-    unchanged _ _ _ _ (says-bad _ _ (is ∙ means-other _ (rest s) (c .if3 .left) (c .before .before .match .rest .0 .0 .0 .0 .0 .0 .0 .0 .0 .0 .1) (c .before .before .match .rest .0 .0 .0 .0 .0 .0 .0 .0 .0 .1) (c .before .before .match .rest .0 .0 .0 .0 .0 .0 .0 .0 .1) (c .before .before .match .rest .0 .0 .0 .0 .0 .0 .0 .1) (c .before .before .match .rest .0 .0 .0 .0 .0 .0 .1) (c .before .before .match .rest .0 .0 .0 .0 .0 .1) (c .before .before .match .rest .0 .0 .0 .0 .1) (c .before .before .match .rest .0 .0 .0 .1) (c .before .before .match .rest .0 .0 .1) (c .before .before .match .rest .0 .1) (c .before .before .match .rest .1))) refl
+    unchanged _ _ _ _ (nothing-bad _ _ (is ∙ means-other _ (rest s) (c .if3 .left) (c .before .before .match .rest .0 .0 .0 .0 .0 .0 .0 .0 .0 .0 .1) (c .before .before .match .rest .0 .0 .0 .0 .0 .0 .0 .0 .0 .1) (c .before .before .match .rest .0 .0 .0 .0 .0 .0 .0 .0 .1) (c .before .before .match .rest .0 .0 .0 .0 .0 .0 .0 .1) (c .before .before .match .rest .0 .0 .0 .0 .0 .0 .1) (c .before .before .match .rest .0 .0 .0 .0 .0 .1) (c .before .before .match .rest .0 .0 .0 .0 .1) (c .before .before .match .rest .0 .0 .0 .1) (c .before .before .match .rest .0 .0 .1) (c .before .before .match .rest .0 .1) (c .before .before .match .rest .1))) refl
 
 pub read-line-spec : {M : Type 1} → statement M
 read-line-spec =

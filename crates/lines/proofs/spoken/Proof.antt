@@ -1,5 +1,5 @@
 -- `lines::spoken` meets its contract. Assumes nothing.
-use Rattle.lines.proofs.Replies.{says-bad, unchanged, too-long, spoken-good}
+use Rattle.lines.proofs.Replies.{nothing-bad, unchanged, too-long, spoken-good}
 use Rattle.lines.specs.Kinds.{heardOf}
 use Rattle.lines.specs.declared.What.the-variants.{Message}
 use mathlib.Core.Path.{refl, sym, ap, _∙_}
@@ -30,7 +30,7 @@ write-message-requires c κs =
 
 returns-2 : tie.Need-returns-2
 returns-2 c =
-    unchanged _ _ _ _ (says-bad _ _ (sym (c .before .before .before .said .ensures .0) ∙ ap heardOf (c .before .flaw .given .1))) refl
+    unchanged _ _ _ _ (nothing-bad _ _ (sym (c .before .before .before .said .ensures .0) ∙ ap heardOf (c .before .flaw .given .1))) refl
 
 same-length : tie.Need-same-length
 same-length c = search needs

@@ -1,6 +1,6 @@
 -- `lines::tick` meets its contract. Assumes nothing.
 use Rattle.text.proofs.Runs.{word-none, word-some}
-use Rattle.lines.proofs.Replies.{says-bad, says-tick, tick-one, tick-good, tick-wrong}
+use Rattle.lines.proofs.Replies.{nothing-bad, nothing-tick, tick-one, tick-good, tick-wrong}
 use borrow.Author.Needs.{needs}
 use Rattle.lines.proofs.tick.Statement.{statement}
 use Rattle.lines.proofs.tick.Tie as tie
@@ -10,7 +10,7 @@ word-requires c κs = search needs
 
 returns : tie.Need-returns
 returns c =
-    says-tick _ _ (tick-one _ (word-none (c .before .before .word .ensures) (c .if1 .taken)))
+    nothing-tick _ _ (tick-one _ (word-none (c .before .before .word .ensures) (c .if1 .taken)))
 
 field-requires : tie.Need-field-requires
 field-requires c κs = search needs
@@ -23,14 +23,14 @@ enum-known-flaw c = search needs
 
 returns-2 : tie.Need-returns-2
 returns-2 c =
-    says-bad _ _ (tick-wrong _ _ _ _ _ (word-some (c .before .before .before .before .before .before .before .word .ensures) (c .before .before .before .before .before .if1 .left)) (c .before .before .before .before .field .ensures) (c .before .before .before .ending .ensures) _ (c .before .flaw .given .1))
+    nothing-bad _ _ (tick-wrong _ _ _ _ _ (word-some (c .before .before .before .before .before .before .before .word .ensures) (c .before .before .before .before .before .if1 .left)) (c .before .before .before .before .field .ensures) (c .before .before .before .ending .ensures) _ (c .before .flaw .given .1))
 
 enum-told : tie.Need-enum-told
 enum-told c = search needs
 
 returns-3 : tie.Need-returns-3
 returns-3 c =
-    says-tick _ _ (tick-good _ _ _ _ _ (word-some (c .before .before .before .before .before .before .word .ensures) (c .before .before .before .before .if1 .left)) (c .before .before .before .field .ensures) (c .before .before .ending .ensures) _ (c .enum-told .given .1))
+    nothing-tick _ _ (tick-good _ _ _ _ _ (word-some (c .before .before .before .before .before .before .word .ensures) (c .before .before .before .before .if1 .left)) (c .before .before .before .field .ensures) (c .before .before .ending .ensures) _ (c .enum-told .given .1))
 
 pub tick-spec : {M : Type 1} → statement M
 tick-spec =

@@ -1,9 +1,9 @@
 -- `size` meets its contract: by the case of the message, as 01's table has it. Assumes nothing.
 use mathlib.Core.Path.{sym}
-use Rattle.rules.specs.Messages.{kind}
+use Rattle.rules.specs.Messages.{size}
 use Rattle.wire.specs.Meaning.{messageOf}
 use Rattle.wire.proofs.Statements.{new-view-said, propose-said}
-use Rattle.outgoing.proofs.Writing.{length-write}
+use Rattle.rules.proofs.Lengths.{length-write}
 use borrow.Author.Needs.{needs}
 use Rattle.outgoing.proofs.size.Statement.{statement}
 use Rattle.outgoing.proofs.size.Tie as tie
@@ -24,32 +24,32 @@ enum-told-4 : tie.Need-enum-told-4
 enum-told-4 c = search needs
 
 returns : tie.Need-returns
-unfolding messageOf kind
+unfolding messageOf size
 returns c =
     rw (c .before .before .message .given .1, new-view-said (c .before .before .message .given .0 .0) (c .if1 .taken)) (sym (length-write _))
 
 returns-2 : tie.Need-returns-2
-unfolding messageOf kind
+unfolding messageOf size
 returns-2 c =
     rw (c .before .before .message .given .1, propose-said (c .before .before .message .given .0 .0) (c .if1 .left)) (sym (length-write _))
 
 returns-3 : tie.Need-returns-3
-unfolding messageOf kind
+unfolding messageOf size
 returns-3 c =
     rw (c .enum-told .given .1) (sym (length-write _))
 
 returns-4 : tie.Need-returns-4
-unfolding messageOf kind
+unfolding messageOf size
 returns-4 c =
     rw (c .enum-told2 .given .1) (sym (length-write _))
 
 returns-5 : tie.Need-returns-5
-unfolding messageOf kind
+unfolding messageOf size
 returns-5 c =
     rw (c .enum-told3 .given .1) (sym (length-write _))
 
 returns-6 : tie.Need-returns-6
-unfolding messageOf kind
+unfolding messageOf size
 returns-6 c =
     rw (c .enum-told4 .given .1) (sym (length-write _))
 

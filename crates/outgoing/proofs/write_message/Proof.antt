@@ -1,7 +1,7 @@
 -- `write_message` meets its contract: by the case of the message, with the room for its kind. Assumes nothing.
 use lib.ListN.{length}
 use mathlib.Core.Path.{ap, _∙_}
-use Rattle.rules.specs.Messages.{kind}
+use Rattle.rules.specs.Messages.{size}
 use Rattle.wire.specs.Meaning.{messageOf}
 use Rattle.wire.proofs.Statements.{new-view-said, propose-said}
 use Rattle.outgoing.proofs.Writing.{room-of}
@@ -13,7 +13,7 @@ enum-known-message : tie.Need-enum-known-message
 enum-known-message c = search needs
 
 new-view-out-requires : tie.Need-new-view-out-requires
-unfolding messageOf kind
+unfolding messageOf size
 new-view-out-requires c κs =
     let after-message = c .before .before .before in
     let start = after-message .before .before .before in
@@ -22,7 +22,7 @@ new-view-out-requires c κs =
     (c .before .if1 .taken, link (c .before .if1 .taken), room-of (start .args .at) (length (start .args .out .now)) (ap messageOf (after-message .message .given .1) ∙ new-view-said x (c .before .if1 .taken)) (start .pre .1))
 
 propose-out-requires : tie.Need-propose-out-requires
-unfolding messageOf kind
+unfolding messageOf size
 propose-out-requires c κs =
     let after-message = c .before .before .before in
     let start = after-message .before .before .before in
@@ -33,7 +33,7 @@ enum-known-message-2 : tie.Need-enum-known-message-2
 enum-known-message-2 c = search needs
 
 vote-out-requires : tie.Need-vote-out-requires
-unfolding messageOf kind
+unfolding messageOf size
 vote-out-requires c κs =
     let after-message2 = c .before .before in
     let start = after-message2 .before .before .before in
@@ -43,7 +43,7 @@ enum-known-message-3 : tie.Need-enum-known-message-3
 enum-known-message-3 c = search needs
 
 blame-out-requires : tie.Need-blame-out-requires
-unfolding messageOf kind
+unfolding messageOf size
 blame-out-requires c κs =
     let after-message3 = c .before .before in
     let start = after-message3 .before .before .before in
@@ -53,7 +53,7 @@ enum-known-message-4 : tie.Need-enum-known-message-4
 enum-known-message-4 c = search needs
 
 blame-set-out-requires : tie.Need-blame-set-out-requires
-unfolding messageOf kind
+unfolding messageOf size
 blame-set-out-requires c κs =
     let after-message4 = c .before .before in
     let start = after-message4 .before .before .before in
@@ -63,7 +63,7 @@ enum-known-message-5 : tie.Need-enum-known-message-5
 enum-known-message-5 c = search needs
 
 status-out-requires : tie.Need-status-out-requires
-unfolding messageOf kind
+unfolding messageOf size
 status-out-requires c κs =
     let after-message5 = c .before .before in
     let start = after-message5 .before .before .before in

@@ -2,7 +2,7 @@
 use Prim.Native.Nat.{_+_, _^_}
 use mathlib.Core.Path.{_≡_, sym, ap, _∙_}
 use Rattle.settings.specs.Made.{settingsOf}
-use Rattle.groups.specs.Meaning.{groupOf}
+use Rattle.settings.specs.Made.{madeOf}
 use Rattle.slip.specs.Slips.{judged, answerOf}
 use Rattle.slip.specs.Meaning.{verdictOf}
 use Rattle.slip.proofs.Judging.{countOf, judged-most, group-bad, group-good}
@@ -22,7 +22,7 @@ enum-told c = search needs
 returns : tie.Need-returns
 returns c =
     let start = c .before .before .before .before in
-    group-bad (start .args .kind) (start .args .n) (start .args .slip .now) (sym (c .before .before .group-of .ensures) ∙ ap groupOf (c .enum-told .given .1))
+    group-bad (start .args .kind) (start .args .n) (start .args .slip .now) (sym (c .before .before .group-of .ensures) ∙ ap madeOf (c .enum-told .given .1))
 
 judge-requires : tie.Need-judge-requires
 judge-requires c κs = search needs
@@ -46,7 +46,7 @@ returns-2 c =
     let after-judge = c .before .before .before in
     let after-group = after-judge .before .before .before .before in
     let start = after-group .before .before in
-    group-good (start .args .kind) (start .args .n) (start .args .slip .now) (sym (after-group .group-of .ensures) ∙ ap groupOf (after-judge .before .before .settings .given .1))
+    group-good (start .args .kind) (start .args .n) (start .args .slip .now) (sym (after-group .group-of .ensures) ∙ ap madeOf (after-judge .before .before .settings .given .1))
     (sym (ap verdictOf (c .before .entries .given .1)) ∙ after-judge .judge .ensures)
 
 returns-3 : tie.Need-returns-3
@@ -55,7 +55,7 @@ returns-3 c =
     let after-judge = c .before .before .before in
     let after-group = after-judge .before .before .before .before in
     let start = after-group .before .before in
-    group-good (start .args .kind) (start .args .n) (start .args .slip .now) (sym (after-group .group-of .ensures) ∙ ap groupOf (after-judge .before .before .settings .given .1))
+    group-good (start .args .kind) (start .args .n) (start .args .slip .now) (sym (after-group .group-of .ensures) ∙ ap madeOf (after-judge .before .before .settings .given .1))
     (sym (ap verdictOf (c .before .place .given .1)) ∙ after-judge .judge .ensures)
 
 pub slip-check-spec : {M : Type 1} → statement M

@@ -1,5 +1,5 @@
 -- `enter` meets its contract: the header is written anew, with its counts as they were. Assumes nothing.
-use Rattle.store.proofs.Starts.{entered}
+use Rattle.store.proofs.Entered.{entered}
 use Rattle.store.proofs.Sized.{certificate-fits}
 use Rattle.store.proofs.Forms.{form-long}
 use Rattle.fields.proofs.Names.{name-lt}

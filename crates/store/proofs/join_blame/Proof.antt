@@ -1,10 +1,6 @@
 -- `join_blame` meets its contract: one mask of the table changes. Assumes nothing.
-use Rattle.fields.proofs.Laws.{number-lt}
-use lib.Bits.{or-lt}
 use Rattle.store.proofs.Changes.{put-blame}
 use Rattle.store.proofs.Forms.{form-long}
-use Rattle.store.specs.Decode.{blameFor}
-use Rattle.rules.specs.Sizes.{joined}
 use native.Mathlib.Omega.{arith}
 use borrow.Author.Needs.{needs}
 use Rattle.store.proofs.join_blame.Statement.{statement}
@@ -18,19 +14,16 @@ blame-at-requires c κs =
     let start = c .before .before in
     (form-long _ (start .pre .0), omega (arith, start .pre .1, start .pre .2))
 
+joined-requires : tie.Need-joined-requires
+joined-requires c κs = search needs
+
 blame-place-requires : tie.Need-blame-place-requires
 blame-place-requires c κs =
-    let start = c .before .before .before .before .before in
+    let start = c .before .before .before .before .before .before in
     (form-long _ (start .pre .0), omega (arith, start .pre .1, start .pre .2))
 
 cast-put : tie.Need-cast-put
-unfolding blameFor
-cast-put c =
-    let after-blame-at = c .before .before .before in
-    let after-slice-known = after-blame-at .before .before in
-    let start = after-slice-known .before in
-    let l = or-lt 16 (after-blame-at .blame-at .result) (start .args .mask) (rw (after-blame-at .blame-at .ensures) (number-lt (start .args .store .now) (after-slice-known .slice-known .given) _ 2)) (start .fits .mask .fits) in
-    omega arith
+cast-put c = search needs
 
 put-requires : tie.Need-put-requires
 put-requires c κs =
@@ -40,16 +33,17 @@ same-length : tie.Need-same-length
 same-length c = search needs
 
 returns : tie.Need-returns
-unfolding joined
 returns c =
     let after-put = c .before .before in
     let after-blame-place = after-put .before in
-    let after-blame-at = after-blame-place .before .before .before in
+    let after-joined = after-blame-place .before .before .before in
+    let after-blame-at = after-joined .before in
     let start = after-blame-at .before .before .before in
     let a = start .args in
-    rw (after-put .put .ensures, after-blame-place .blame-place .ensures .0, after-blame-at .blame-at .ensures) (put-blame (a .store .now) (start .pre .0) (a .view) (a .mask) (start .pre .1) (start .pre .2) (start .fits .mask .fits))
+    rw (after-put .put .ensures, after-blame-place .blame-place .ensures .0, after-joined .joined .ensures, after-blame-at .blame-at .ensures)
+    (put-blame (a .store .now) (start .pre .0) (a .view) (a .mask) (start .pre .1) (start .pre .2) (start .fits .mask .fits))
 
 pub join-blame-spec : {M : Type 1} → statement M
 join-blame-spec =
     tie.close
-    (tie.spec sub-i blame-at-requires blame-place-requires cast-put put-requires same-length returns)
+    (tie.spec sub-i blame-at-requires joined-requires blame-place-requires cast-put put-requires same-length returns)

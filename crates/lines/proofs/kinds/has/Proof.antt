@@ -1,5 +1,6 @@
 -- `lines::kinds::has` meets its contract: a test of each kind against the table. Assumes nothing.
-use Rattle.lines.proofs.Messages.{tried, has-by, last-kind}
+use Rattle.lines.proofs.Messages.{has-by, last-kind}
+use Rattle.wire.proofs.Reading.{tried}
 use Rattle.lines.specs.Kinds.{has}
 use mathlib.Core.Bool.{not, _&&_, _||_}
 use mathlib.Core.Path.{refl}

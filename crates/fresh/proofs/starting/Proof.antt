@@ -1,12 +1,12 @@
 -- `starting` meets its contract: each field is that of the fresh state. Assumes nothing.
 use Rattle.store.specs.Meaning.{headerOf}
 use Rattle.store.specs.Decode.{headerValues}
 use mathlib.Core.Path.{ap}
 use Rattle.rules.specs.Words.{Certificate, fresh}
 use Rattle.words.specs.Meaning.{blockOf}
 use borrow.Author.Needs.{needs}
-use Rattle.store.proofs.starting.Statement.{statement}
-use Rattle.store.proofs.starting.Tie as tie
+use Rattle.fresh.proofs.starting.Statement.{statement}
+use Rattle.fresh.proofs.starting.Tie as tie
 
 genesis-requires : tie.Need-genesis-requires
 genesis-requires c κs = search needs

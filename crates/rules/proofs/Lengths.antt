@@ -4,15 +4,13 @@ use Prim.Native.Nat.{ℕ, suc, _+_, _*_, _≤_}
 use native.Mathlib.Omega.{arith}
 use mathlib.Core.List.{List, [], _∷_, _++_}
 use lib.ListN.{length, length-append}
 use Rattle.rules.specs.Lists.{unbe}
-use Rattle.rules.specs.Messages.{Message, newView, propose, vote, blame, blameSet, status, field, width, rowOf, tagsOf, kind, values, writes, write, Effect, toAll, toOne, committed, effect, outgoing}
-use Rattle.rules.specs.Words.{Statement, message}
+use Rattle.rules.specs.Messages.{Message, newView, propose, vote, blame, blameSet, status, field, width, rowOf, tagsOf, kind, values, writes, write, size, Effect, toAll, toOne, committed, effect, outgoing}
 use Rattle.rules.specs.Inputs.{reports}
-use Rattle.rules.proofs.Tests.{by-bool}
 use Rattle.rules.proofs.Bytes.{length-unbe}
 use Rattle.rules.proofs.Written.{writes-cons}
 
-length-field : (t : ℕ) (bs : List ℕ) → length (field t bs) ≡ 3 + length bs
+pub length-field : (t : ℕ) (bs : List ℕ) → length (field t bs) ≡ 3 + length bs
 unfolding field unbe
 length-field t bs = omega arith
 
@@ -31,14 +29,6 @@ length-writes (t ∷ ts) (v ∷ vs) e =
     let c = length-unbe (width t) v in
     let d = length-append (field t (unbe (width t) v)) (writes ts vs) in
     rw writes-cons (omega arith)
-
-unfoldable pub size : Message → ℕ
-size (newView v h b c m a) = 69
-size (propose v h b p m a) = 97
-size (vote v h b a) = 57
-size (blame v a) = 15
-size (blameSet v m) = 16
-size (status h b c m) = 58
 
 spans : (m : Message) → (length (values m) ≡ length (tagsOf (kind m))) × (span (1 ∷ tagsOf (kind m)) ≡ size m)
 unfolding size tagsOf rowOf kind values span width
@@ -90,10 +80,24 @@ pub bytes-none : bytes [] ≡ 0
 unfolding outgoing
 bytes-none = refl
 
--- a statement takes 100 bytes at most
-pub statement-size : (x : Statement) → size (message x) ≤ 97
-unfolding message size
-statement-size x = by-bool (x .isNewView) (λ q. rw (q, message) (omega arith)) (λ q. rw (q, message) (omega arith))
+-- no message is shorter than a blame, or longer than a propose
+pub size-least : (m : Message) → 15 ≤ size m
+unfolding size
+size-least (newView v h b c m a) = omega arith
+size-least (propose v h b p m a) = omega arith
+size-least (vote v h b a) = omega arith
+size-least (blame v a) = omega arith
+size-least (blameSet v m) = omega arith
+size-least (status h b c m) = omega arith
+
+pub size-most : (m : Message) → size m ≤ 97
+unfolding size
+size-most (newView v h b c m a) = omega arith
+size-most (propose v h b p m a) = omega arith
+size-most (vote v h b a) = omega arith
+size-most (blame v a) = omega arith
+size-most (blameSet v m) = omega arith
+size-most (status h b c m) = omega arith
 
 pub reports-bytes : (h : ℕ) (l : List ℕ) → bytes (reports h l) ≡ 39 * length l
 unfolding reports weight

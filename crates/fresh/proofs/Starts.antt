@@ -1,6 +1,6 @@
--- A cleared store, with the header of fresh settings, holds the fresh state; the header of an entry holds the state that entered. Assumes nothing.
+-- A cleared store, with the header of fresh settings, holds the fresh state. Assumes nothing.
 use Prim.Native.Nat.{ℕ, zero, suc, _+_, _-_, _*_, _%_, _^_, _<_, _≤_}
-use mathlib.Core.Path.{_≡_, refl, sym, ap, ap₂, _∙_, subst}
+use mathlib.Core.Path.{_≡_, refl, sym, ap, ap₂, _∙_}
 use mathlib.Core.Bool.{Bool, true, false, _&&_}
 use mathlib.Core.List.{List, [], _∷_}
 use native.Mathlib.Omega.{arith}
@@ -11,32 +11,24 @@ use borrow.Author.Tests.{leb-true, ltb-true, eq-eqb, ne-eqb}
 use Rattle.rules.specs.Limits.{leastStations, mostStations, leastDelay, mostDelay, Size, lastView}
 use Rattle.rules.specs.Lists.{all, within}
 use Rattle.rules.specs.Sizes.{Settings, goodSettings}
-use Rattle.rules.specs.Words.{inView, State, fresh}
+use Rattle.rules.specs.Words.{State, fresh}
 use Rattle.settings.specs.Made.{made, pick, sizeFrom}
 use Rattle.settings.specs.declared.Size as declared-size
 use Rattle.settings.specs.declared.Settings as declared
 use Rattle.settings.specs.declared.Made.the-variants.{Good, Bad}
-use Rattle.rules.specs.Inputs.{entering}
 use Rattle.rules.proofs.Tests.{by-bool, and-left, and-right}
 use Rattle.rules.proofs.Bytes.{pow-pos}
 use Rattle.fields.specs.Places.{number, put, Bytes}
 use Rattle.fields.specs.Records.{fields, puts, Fit}
 use Rattle.fields.proofs.Laws.{number-put-same, number-split, length-put, bytes-put}
-use Rattle.fields.proofs.Records.{fit-fields}
-use Rattle.words.specs.Meaning.{blockOf}
-use Rattle.words.specs.declared.Certificate.{Certificate}
-use Rattle.store.specs.Layout.{headerFormat, certificateFormat, Table, statementTable, tallyTable, logTable, blameBase, storeLength, sizeIn, countOf}
-use Rattle.store.specs.Decode.{certificateValues, statementAt, tallyFor, blameFor, nameFor, kindAt, blames, blamesFor, kinds, rows, statements, tallies, names, stateFrom, stateOf, headerValues, Form, Left, encode}
-use Rattle.store.specs.Meaning.{headerOf, Loads}
-use Rattle.store.specs.declared.Phase.the-variants.{InView}
-use Rattle.store.specs.declared.Station.{Station}
-use Rattle.store.specs.Fresh.{answer, freshly}
-use Rattle.store.proofs.Loaded.{loaded-settings, loaded-clock, loaded-statements, loaded-tallies, loaded-logged}
+use Rattle.store.specs.Layout.{headerFormat, Table, statementTable, tallyTable, logTable, blameBase, storeLength, sizeIn, countOf}
+use Rattle.store.specs.Decode.{statementAt, tallyFor, blameFor, nameFor, kindAt, blames, blamesFor, kinds, rows, statements, tallies, stateFrom, stateOf, headerValues, Left, encode}
+use Rattle.fresh.specs.Fresh.{answer, freshly}
 use Rattle.store.proofs.Kept.{zero-end}
 use Rattle.store.proofs.Tables.{Holds}
 use Rattle.store.proofs.Forms.{left, sized}
 use Rattle.store.proofs.OneForm.{left-bytes}
 use Rattle.store.proofs.Changes.{put-station}
 
 -- ---- a cleared store
 
@@ -157,39 +149,3 @@ module _ (b : List ℕ) (n d own : ℕ) (y : declared-size.Size) (same : sizeFro
   pub made-bad : made n d own y ≡ Bad → goodSettings asked ≡ false
   made-bad e =
       by-bool (goodSettings asked) (λ t. let m = made-is true t in let z : _≡_ {A = ℕ} 0 1 = cc in absurd (omega arith)) (λ f. f)
-
--- ---- entry
-
-pub entered : (b : List ℕ) (k : Form b) (s : Station) → Loads s b → (v : ℕ) (t : Certificate) → v < 256 ^ 4 → Fit certificateFormat (certificateValues (blockOf t))
-    → Left
-    (puts b 0 headerFormat
-    (headerOf (record { settings = s .settings; phase = InView; view = v; entry = s .clock; clock = s .clock; lock = t; statements = s .statements; tallies = s .tallies; logged = s .logged })))
-    (entering v (blockOf t) (stateOf b))
-unfolding headerOf blockOf entering stateOf stateFrom
-entered b k s e v t lv lt =
-    let f : Fit headerFormat (headerOf s) = subst (Fit headerFormat) (sym (e .header)) (fit-fields b (k .bytes) 0 headerFormat) in
-    let g = f .1 in
-    let clock = g .1 .1 .1 .1 .1 .0 in
-    let counts = g .1 .1 .1 .1 .1 .1 .1 .1 .1 .1 in
-    let now : Station = record { settings = s .settings; phase = InView; view = v; entry = s .clock; clock = s .clock; lock = t; statements = s .statements; tallies = s .tallies; logged = s .logged } in
-    let h = put-station b k (headerOf now) (omega arith, (g .0, (g .1 .0, (g .1 .1 .0, (lv, (clock, (clock, (lt .0, (lt .1 .0, (lt .1 .1 .0, (lt .1 .1 .1 .0, counts)))))))))))
-    (loaded-statements s b e) (loaded-tallies s b e) (loaded-logged s b e) in
-    let settings = loaded-settings s b e in
-    let then = loaded-clock s b e in
-    record {
-      form = h .form;
-      is =
-          h .is
-          ∙ (λ i. record {
-            settings = record { n = settings i .n; D = settings i .D; own = settings i .own; size = sizeIn b };
-            phase = inView;
-            view = v;
-            entry = then i;
-            clock = then i;
-            lock = blockOf t;
-            statements = statements b;
-            tallies = tallies b;
-            blames = blames b;
-            log = names b;
-          });
-    }

@@ -3,12 +3,12 @@ use mathlib.Core.Path.{sym, _∙_}
 use native.Mathlib.Omega.{arith}
 use borrow.Author.Tests.{eqb-true, eqb-false}
 use borrow.Author.Tests.{not-true, not-false}
-use Rattle.store.proofs.Starts.{length-refused, settings-refused, made-good, made-bad, made-fresh, fresh-left}
+use Rattle.fresh.proofs.Starts.{length-refused, settings-refused, made-good, made-bad, made-fresh, fresh-left}
 use lib.ListN.{length}
 use Rattle.store.specs.Layout.{storeLength, sizeIn}
 use borrow.Author.Needs.{needs}
-use Rattle.store.proofs.fresh.Statement.{statement}
-use Rattle.store.proofs.fresh.Tie as tie
+use Rattle.fresh.proofs.fresh.Statement.{statement}
+use Rattle.fresh.proofs.fresh.Tie as tie
 
 is-whole-requires : tie.Need-is-whole-requires
 is-whole-requires c κs = search needs
