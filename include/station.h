@@ -23,8 +23,8 @@
  *   14  envelope: no good one, or one that can't be made                                     nothing changes
  *   15  slip: the first bad place as count; or a name that is not logged                     nothing changes
  *
- * Order: 1, 2, 3, then 4, 5, 11, 12, 6 for messages; 9, 6 for offers; 8, 7, 6 for ticks. A fresh store: 1, then 10. The display:
- * 1, then 2.
+ * Order: 1, 2, 3, then 4, 5, 11, 12, 6 for messages; 9, 6 for offers; 8, 7, 6 for ticks. A fresh store: 1, then 10. The display
+ * and when a block was certified: 1, then 2.
  */
 #ifndef STATION_H
 #define STATION_H
@@ -36,14 +36,14 @@
  * has at least the length beside it. The small store has room for 32 views, 128 statements and 512 tallies, the large one
  * for 256 views, 512 statements and 1,024 tallies. Take the small one where that is enough for a group's life: each call
  * looks at the whole store. All stations of one group have the same length. */
-#define STATION_STORE_LENGTH 36484
+#define STATION_STORE_LENGTH 38532
 #define STATION_OUT_LENGTH 32768
-#define STATION_STORE_LENGTH_LARGE 101956
+#define STATION_STORE_LENGTH_LARGE 106052
 #define STATION_OUT_LENGTH_LARGE 131072
 
 /* Where the log's names begin in a store, 32 bytes each, from height 1 on; bytes 66 and 67 say how many there are. */
-#define STATION_LOG 32388
-#define STATION_LOG_LARGE 85572
+#define STATION_LOG 34436
+#define STATION_LOG_LARGE 89668
 
 /* The length of a journal's slot, and the least length of a replay's report for so many slots. */
 #define JOURNAL_SLOT_LENGTH 128
@@ -95,6 +95,11 @@ uint64_t journal_replay(const uint8_t *journal, size_t journal_len, uint8_t *sto
  * complement). 0 is due on the tick just given, below 0 is overdue. A waiting or stopped station shows none. The store is
  * only read. Refusals 1 and 2. */
 uint64_t station_display(const uint8_t *store, size_t store_len, uint8_t *out, size_t out_len);
+
+/* When a block was certified: 0, or one more than the clock at which its tally first had f+1 voters in this store. 0 also for a
+ * tally that isn't there, for genesis in view 0, and for numbers out of range. A stopped station is answered as any. The store is
+ * only read. Refusals 1 (also for a name not of 32 bytes) and 2. */
+uint64_t station_certified(const uint8_t *store, size_t store_len, uint64_t view, uint64_t height, const uint8_t *name, size_t name_len);
 
 /* Two status messages, of which a new leader's host often holds two: whose certificate part to take, in a group of this
  * kind (0 with the small limits, 4 with the large ones) with n stations. Answers 1 for the first's part, 2 for the

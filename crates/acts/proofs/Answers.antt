@@ -5,7 +5,7 @@ use mathlib.Core.List.{List, [], _∷_, _++_}
 use mathlib.Core.Option.{none, some}
 use Rattle.rules.specs.Lists.{iff, first, any}
 use Rattle.rules.specs.Messages.{toAll}
-use Rattle.rules.specs.Words.{Statement, message, sameStatement, conflict, ownBlock, certificate, sameBlock, ofBlock, joinCertificate, State}
+use Rattle.rules.specs.Words.{Statement, message, sameStatement, conflict, ownBlock, certificate, sameBlock, ofBlock, joinCertificate, State, moment}
 use Rattle.rules.specs.Inputs.{Work, saying, withPhase, withTables, isIn, quit, voting, stored, statement, handled}
 use Rattle.rules.specs.Refusals.{hasRoom}
 use Rattle.rules.proofs.Tests.{by-bool, by-option, eqb-self}
@@ -83,7 +83,7 @@ module _ (x : Statement) (s : State) where
 
   stored-own : any (ofBlock (ownBlock x 0)) (stored x s .tallies) ≡ true
   unfolding stored withTables
-  stored-own = join-there none (ownBlock x 0) (ownBlock x 0) (joinCertificate none (certificate x) (s .tallies)) (block-self (ownBlock x 0))
+  stored-own = join-there (moment none s) (ownBlock x 0) (ownBlock x 0) (joinCertificate (moment none s) (certificate x) (s .tallies)) (block-self (ownBlock x 0))
 
   module _ (n : any (sameStatement x) (s .statements) ≡ false) where
     pub statement-new : statement x s ≡ answered x (stored x s)

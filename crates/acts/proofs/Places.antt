@@ -8,10 +8,10 @@ use native.Mathlib.Omega.{arith}
 use native.Mathlib.Nat.{add-zero, zero-add}
 use lib.ListN.{length}
 use borrow.Author.Tests.{not-true}
-use Rattle.rules.specs.Limits.{mostTallies}
+use Rattle.rules.specs.Limits.{mostTallies, lastClock}
 use Rattle.rules.specs.Lists.{any, distinct, alter}
 use Rattle.rules.specs.Sizes.{Settings, only}
-use Rattle.rules.specs.Words.{Statement, message, sameStatement, Certificate, Opener, Tally, ownBlock, sameBlock, ofBlock, join, State}
+use Rattle.rules.specs.Words.{Statement, message, sameStatement, Certificate, Opener, Tally, Moment, ownBlock, sameBlock, ofBlock, join, State, moment}
 use Rattle.rules.specs.Inputs.{withTables, noted, votedFor}
 use Rattle.rules.specs.WellFormed.{statementGood, talliesThere}
 use Rattle.rules.proofs.Tests.{by-bool, no-bool}
@@ -27,7 +27,7 @@ use Rattle.store.proofs.Rows.{rows-all}
 use Rattle.store.proofs.Searches.{alter-found}
 use Rattle.kept.specs.Said.{Sendable}
 use Rattle.kept.proofs.Statements.{stored-sendable}
-use Rattle.kept.proofs.Facts.{sizes-of}
+use Rattle.kept.proofs.Facts.{sizes-of, clocks-of}
 use Rattle.words.specs.Meaning.{Certifies}
 use Rattle.words.proofs.Statements.{same-unvoted, certifies-allowed}
 use Rattle.acts.specs.Works.{Formed}
@@ -137,21 +137,26 @@ module _ {b : List ℕ} (k : Formed b) {i : ℕ} {x : code.Statement} (t : Stand
       let a = alter-found (sameStatement X) (noted c) (s .statements) i place-first in
       let own = only (s .settings .own) in
       left-then (joining o u) l m
-      ((λ j. withTables ((sym a ∙ ap (λ (n : ℕ). alter (sameStatement X) (noted n) (s .statements)) d) j) (join o (e j) (s .tallies)) s)
-      ∙ ap (λ (us : List Tally). withTables (alter (sameStatement X) (noted (s .clock)) (s .statements)) us s) (there-same o (ownBlock X own) none (s .tallies) (place-own own)))
+      ((λ j. withTables ((sym a ∙ ap (λ (n : ℕ). alter (sameStatement X) (noted n) (s .statements)) d) j) (join (moment o s) (e j) (s .tallies)) s)
+      ∙ ap (λ (us : List Tally). withTables (alter (sameStatement X) (noted (s .clock)) (s .statements)) us s) (there-same s o none (ownBlock X own) (s .tallies) (place-own own)))
 
   pub place-message : message X ≡ message (statementAt b i)
   place-message = sym (unvoted-message x (statementAt b i .voted)) ∙ ap message (t .is)
 
   -- so its tally needs no record
-  pub place-room : {b₁ : List ℕ} (o : Opener) (c m : ℕ) (u : Certificate) → u ≡ ownBlock X m → Left b₁ (noting i c (stateOf b)) → length (join o u (tallies b₁)) ≤ mostTallies (sizeIn b₁)
+  pub place-room : {b₁ : List ℕ} (at : Moment) (c m : ℕ) (u : Certificate) → u ≡ ownBlock X m → Left b₁ (noting i c (stateOf b)) → length (join at u (tallies b₁)) ≤ mostTallies (sizeIn b₁)
   unfolding noting withTables stateOf stateFrom
-  place-room {b₁} o c m u e l =
+  place-room {b₁} at c m u e l =
       let s = stateOf b in
       let r : tallies b₁ ≡ tallies b = ap (λ (z : State). z .tallies) (l .is) in
-      let n = there-length o (ownBlock X m) (s .tallies) (place-own m) in
+      let n = there-length at (ownBlock X m) (s .tallies) (place-own m) in
       let z : sizeIn b₁ ≡ sizeIn b = ap (λ (y : State). y .settings .size) (l .is) in
       rw (r, e, z) (omega (arith, formed-parts k .fewTallies))
+
+  -- the clock is as it was
+  pub place-clock : {b₁ : List ℕ} (c : ℕ) → Left b₁ (noting i c (stateOf b)) → stateOf b₁ .clock ≤ lastClock
+  unfolding noting withTables
+  place-clock c l = omega (arith, ap (λ (z : State). z .clock) (l .is), clocks-of (formed-parts k .formed) .last)
 
   -- and its tally is where it was found
   pub place-found : {b₁ : List ℕ} (c m : ℕ) (u : Certificate) (r : Found) → u ≡ ownBlock X m → r ≡ blockAt (ownBlock X 0) (tallies b) → Left b₁ (noting i c (stateOf b)) → r ≡ blockAt u (tallies b₁)

@@ -9,7 +9,7 @@ use lib.ListN.{length}
 use borrow.Author.Tests.{eqb-true, eqb-false, eq-eqb, ne-eqb, le-leb, lt-leb}
 use Rattle.rules.specs.Limits.{mostTallies}
 use Rattle.rules.specs.Lists.{any}
-use Rattle.rules.specs.Words.{Statement, sameStatement, Certificate, Opener, Tally, ownBlock, certificate, sameBlock, join, joinCertificate, State}
+use Rattle.rules.specs.Words.{Statement, sameStatement, Certificate, Opener, Tally, Moment, ownBlock, certificate, sameBlock, join, joinCertificate, State, moment}
 use Rattle.rules.specs.Inputs.{saying, stored, statement, tallied}
 use Rattle.rules.specs.Refusals.{hasRoom}
 use Rattle.rules.proofs.Tests.{by-bool}
@@ -58,7 +58,7 @@ module _ (t : Certificate) where
   needed-few (At j) = by-bool (eqb (t .view) 0) (λ q. rw (q, needed) (omega arith)) (λ q. rw (q, needed) (omega arith))
 
   -- a block that is joined adds what it needs
-  module _ (k : Opener) (us : List Tally) (r : Found) where
+  module _ (k : Moment) (us : List Tally) (r : Found) where
     pub block-adds : (t .view ≡ 0 → ⊥) → r ≡ blockAt t us → length us + needed t r ≡ length (join k t us)
     block-adds d e = go r refl
       where
@@ -87,9 +87,9 @@ module _ {b : List ℕ} (f : Form b) (o : Opener) (u : Certificate) (m : ℕ) (r
   abbrev t : Certificate
   t = withVoters m u
 
-  k-is : k ≡ length (joinCertificate o t (tallies b))
+  k-is : k ≡ length (joinCertificate (moment o (stateOf b)) t (tallies b))
   unfolding stateOf stateFrom
-  k-is = omega (arith, d, needed-apart m u r, count-tallies b, certificate-adds t o (tallies b) r (e ∙ certified-apart m u (tallies b)))
+  k-is = omega (arith, d, needed-apart m u r, count-tallies b, certificate-adds t (moment o (stateOf b)) (tallies b) r (e ∙ certified-apart m u (tallies b)))
 
   room-by : leb k (mostTallies (sizeIn b)) ≡ hasRoom (tallied o t (stateOf b) .now)
   unfolding stateOf stateFrom
@@ -102,7 +102,7 @@ module _ {b : List ℕ} (f : Form b) (o : Opener) (u : Certificate) (m : ℕ) (r
       record { room = sym q; left = rw (q, fitting) (record { form = f; is = refl }) }
 
   module _ (l : k ≤ mostTallies (sizeIn b)) where
-    pub tallied-fits : length (joinCertificate o t (tallies b)) ≤ mostTallies (sizeIn b)
+    pub tallied-fits : length (joinCertificate (moment o (stateOf b)) t (tallies b)) ≤ mostTallies (sizeIn b)
     tallied-fits = omega (arith, k-is)
 
     pub tallied-done : {b′ : List ℕ} → Left b′ (certifying o t (stateOf b)) → Tried (tallied o t (stateOf b) .now) (stateOf b) b′ true

@@ -4,16 +4,16 @@ use Prim.Native.Nat.{ℕ, suc, _+_, _-_, _≤_}
 use mathlib.Core.Path.{_≡_, refl, sym, ap, ap₂, _∙_}
 use mathlib.Core.Bool.{Bool, true, false, _&&_, _||_}
 use mathlib.Core.List.{List, [], _∷_}
-use mathlib.Core.Option.{none}
+use mathlib.Core.Option.{Option, none, some}
 use native.Mathlib.Omega.{arith}
 use lib.Dec.{leb, ltb, eqb}
 use lib.ListN.{length, length-append}
 use borrow.Author.Tests.{eqb-true, leb-true, ltb-true, ltb-false, ne-eqb, le-leb, lt-leb}
 use Rattle.rules.specs.Limits.{mostStatements, mostTallies}
 use Rattle.rules.specs.Lists.{iff, any, alter}
-use Rattle.rules.specs.Sizes.{Settings, only}
+use Rattle.rules.specs.Sizes.{Settings, only, joined}
 use Rattle.rules.specs.Messages.{newView}
-use Rattle.rules.specs.Words.{Statement, message, sameStatement, Certificate, Opener, Tally, ownBlock, certificate, sameBlock, ofBlock, grown, join, joinCertificate, State}
+use Rattle.rules.specs.Words.{Statement, message, sameStatement, Certificate, Opener, Tally, Moment, reachedAt, ownBlock, certificate, sameBlock, ofBlock, grown, join, joinCertificate, State, moment}
 use Rattle.rules.specs.Inputs.{saying, withPhase, withTables, withBlames, isIn, quit, belowLock, noted, votedFor, voting, certificateJoined, stored, statement, tallied, blamed, blameFull, blaming}
 use Rattle.rules.specs.Refusals.{hasRoom}
 use Rattle.rules.specs.WellFormed.{talliesThere}
@@ -30,21 +30,32 @@ use Rattle.kept.proofs.Statements.{stated}
 
 -- ---- one tally
 
-block-grown : (t : Certificate) (u : Tally) (m : ℕ) → ofBlock t (grown u m) ≡ ofBlock t u
+block-grown : (k : Moment) (t : Certificate) (u : Tally) (m : ℕ) → ofBlock t (grown k u m) ≡ ofBlock t u
 unfolding sameBlock grown
-block-grown t u m = refl
+block-grown k t u m = refl
 
-module _ (k : Opener) (t : Certificate) where
+-- who opens is nothing to a tally that is there
+reached-anyhow : (s : State) (o p : Opener) (r : Option ℕ) (m : ℕ) → reachedAt (moment o s) r m ≡ reachedAt (moment p s) r m
+unfolding reachedAt
+reached-anyhow s o p none m = refl
+reached-anyhow s o p (some c) m = refl
+
+grown-anyhow : (s : State) (o p : Opener) (u : Tally) (m : ℕ) → grown (moment o s) u m ≡ grown (moment p s) u m
+unfolding grown
+grown-anyhow s o p u m =
+    λ i. record { view = u .view; height = u .height; name = u .name; mask = joined (u .mask) m; opener = u .opener; reached = reached-anyhow s o p (u .reached) (joined (u .mask) m) i }
+
+pub there-same : (s : State) (o p : Opener) (t : Certificate) (us : List Tally) → any (ofBlock t) us ≡ true → join (moment o s) t us ≡ join (moment p s) t us
+unfolding any join
+there-same s o p t [] h = no-bool (sym h)
+there-same s o p t (u ∷ us) h =
+    by-bool (ofBlock t u) (λ q. rw (q, join) (ap (_∷ us) (grown-anyhow s o p u (t .mask)))) (λ q. rw (q, join) (ap (u ∷_) (there-same s o p t us (rw (q, any) at h))))
+
+module _ (k : Moment) (t : Certificate) where
   pub there-length : (us : List Tally) → any (ofBlock t) us ≡ true → length (join k t us) ≡ length us
   unfolding any join
   there-length [] h = no-bool (sym h)
   there-length (u ∷ us) h = by-bool (ofBlock t u) (λ q. rw (q, join)) (λ q. rw (q, join) (ap suc (there-length us (rw (q, any) at h))))
-
-  -- a tally that is there is opened by nobody, whoever joins it
-  pub there-same : (j : Opener) (us : List Tally) → any (ofBlock t) us ≡ true → join k t us ≡ join j t us
-  unfolding any join
-  there-same j [] h = no-bool (sym h)
-  there-same j (u ∷ us) h = by-bool (ofBlock t u) (λ q. rw (q, join)) (λ q. rw (q, join) (ap (u ∷_) (there-same j us (rw (q, any) at h))))
 
   -- by its place: none is added where it is there, else one
   abbrev pub Adds : List Tally → Found → Type 0
@@ -73,10 +84,10 @@ module _ (k : Opener) (t : Certificate) where
   unfolding firstFrom join
   join-others x i [] n = rw n
   join-others x i (u ∷ us) n =
-      by-bool (ofBlock t u) (λ q. rw (q, join, block-grown x u (t .mask)))
+      by-bool (ofBlock t u) (λ q. rw (q, join, block-grown k x u (t .mask)))
       (λ q. by-bool (ofBlock x u) (λ r. rw (q, join, r)) (λ r. rw (q, join, r) (join-others x (suc i) us n)))
 
-module _ (k : Opener) (t : Certificate) (us : List Tally) where
+module _ (k : Moment) (t : Certificate) (us : List Tally) where
   pub certificate-there : (eqb (t .view) 0 || any (ofBlock t) us) ≡ true → length (joinCertificate k t us) ≡ length us
   unfolding joinCertificate
   certificate-there h = by-bool (eqb (t .view) 0) (λ q. rw (q, joinCertificate)) (λ q. rw (q, joinCertificate) (there-length k t us (rw q at h)))
@@ -122,12 +133,12 @@ module _ (x y : Statement) (e : sameStatement x y ≡ true) where
 
 -- a stored statement's tallies are there
 module _ {s : State} (f : Formed s) (x : Statement) (e : any (sameStatement x) (s .statements) ≡ true) where
-  pub repeat-length : length (joinCertificate none (certificate x) (s .tallies)) ≡ length (s .tallies)
+  pub repeat-length : length (joinCertificate (moment none s) (certificate x) (s .tallies)) ≡ length (s .tallies)
   unfolding talliesThere
   repeat-length =
       let (y, m, q) = any-find (sameStatement x) (s .statements) e in
       let t = and-2 (any (ofBlock (ownBlock y 0)) (s .tallies)) _ (all-mem (talliesThere (s .tallies)) (f .tables .opened) m) in
-      certificate-there none (certificate x) (s .tallies) (certificate-held x y q (s .tallies) ∙ t .1)
+      certificate-there (moment none s) (certificate x) (s .tallies) (certificate-held x y q (s .tallies) ∙ t .1)
 
 module _ (g : Settings) (x : Statement) (m : Sendable g (message x)) where
   -- its own block is another than its certified one
@@ -163,7 +174,7 @@ room-same : (s t : State) → s .settings ≡ t .settings → length (s .stateme
 unfolding hasRoom
 room-same s t g p q = rw (g, p, q)
 
-pub tallied-room : (s : State) (k : Opener) (t : Certificate) → length (s .statements) ≤ mostStatements (s .settings .size) → (n : ℕ) → n ≡ length (joinCertificate k t (s .tallies))
+pub tallied-room : (s : State) (k : Opener) (t : Certificate) → length (s .statements) ≤ mostStatements (s .settings .size) → (n : ℕ) → n ≡ length (joinCertificate (moment k s) t (s .tallies))
     → leb n (mostTallies (s .settings .size)) ≡ hasRoom (tallied k t s .now)
 unfolding hasRoom tallied saying withTables
 tallied-room s k t l n e = rw (le-leb _ _ l, e)
@@ -171,7 +182,7 @@ tallied-room s k t l n e = rw (le-leb _ _ l, e)
 next-below : (a b : ℕ) → ltb a b ≡ leb (a + 1) b
 next-below a b = by-bool (ltb a b) (λ q. rw (q, le-leb (a + 1) b (omega (arith, ltb-true a b q)))) (λ q. rw (q, lt-leb (a + 1) b (omega (arith, ltb-false a b q))))
 
-pub stored-room : (s : State) (x : Statement) (n : ℕ) → n ≡ length (join none (ownBlock x 0) (joinCertificate none (certificate x) (s .tallies)))
+pub stored-room : (s : State) (x : Statement) (n : ℕ) → n ≡ length (join (moment none s) (ownBlock x 0) (joinCertificate (moment none s) (certificate x) (s .tallies)))
     → (ltb (length (s .statements)) (mostStatements (s .settings .size)) && leb n (mostTallies (s .settings .size))) ≡ hasRoom (stored x s)
 unfolding hasRoom stored withTables
 stored-room s x n e =
@@ -198,7 +209,7 @@ voting-room x s h =
     by-bool (belowLock x s) (λ q. rw (q, voting))
     (λ q.
     rw (q, voting)
-    (room-same (votedFor x s) s refl (alter-length (sameStatement x) (noted (s .clock)) (s .statements)) (there-length none (ownBlock x m) (s .tallies) (own-any x m (s .tallies) ∙ h))))
+    (room-same (votedFor x s) s refl (alter-length (sameStatement x) (noted (s .clock)) (s .statements)) (there-length (moment none s) (ownBlock x m) (s .tallies) (own-any x m (s .tallies) ∙ h))))
 
 -- a blame mask is always there
 pub blaming-room : (v m : ℕ) (s : State) → hasRoom (blaming v m s .now) ≡ hasRoom s

@@ -9,9 +9,9 @@ use native.Mathlib.Nat.{zero-add}
 use lib.Dec.{leb, ltb}
 use lib.ListN.{length, getD, length-append}
 use lib.Seq.{getD-at}
-use Rattle.rules.specs.Limits.{mostStatements, mostTallies}
+use Rattle.rules.specs.Limits.{mostStatements, mostTallies, lastClock}
 use Rattle.rules.specs.Lists.{first, any}
-use Rattle.rules.specs.Words.{Statement, message, sameStatement, conflict, Certificate, Tally, ownBlock, certificate, join, joinCertificate, State}
+use Rattle.rules.specs.Words.{Statement, message, sameStatement, conflict, Certificate, Tally, Moment, ownBlock, certificate, join, joinCertificate, State, moment}
 use Rattle.rules.specs.Inputs.{saying, withTables, certificateJoined, stored, statement, handled}
 use Rattle.wire.specs.Meaning.{statementOf, messageOf}
 use Rattle.wire.specs.declared.Statement as code
@@ -82,8 +82,8 @@ module _ (b : List ℕ) (x : Statement) (r : Found) where
 module _ (b : List ℕ) (x : Statement) (m : Sendable (stateOf b .settings) (message x)) (t u : Certificate) (et : t ≡ certificate x) (eu : u ≡ ownBlock x 0) where
   module _ (q : Found) (eq : q ≡ blockAt u (tallies b)) where
     -- the certificate leaves its own block's tally where it is
-    own-stays : q ≡ blockAt u (joinCertificate none t (tallies b))
-    own-stays = eq ∙ sym (certificate-others none t (tallies b) u (rw (et, eu) (own-differs (stateOf b .settings) x m)))
+    own-stays : q ≡ blockAt u (joinCertificate (moment none (stateOf b)) t (tallies b))
+    own-stays = eq ∙ sym (certificate-others (moment none (stateOf b)) t (tallies b) u (rw (et, eu) (own-differs (stateOf b .settings) x m)))
 
     own-view : u .view ≡ 0 → ⊥
     unfolding ownBlock
@@ -95,31 +95,31 @@ module _ (b : List ℕ) (x : Statement) (m : Sendable (stateOf b .settings) (mes
     unfolding stateOf stateFrom
     new-planned new p ep i j k l few many ef em ei ej ek el =
         let s = stateOf b in
-        let n : j + (k + l) ≡ length (join none u (joinCertificate none t (s .tallies))) =
-        omega (arith, count-tallies b, certificate-adds t none (s .tallies) p ep, block-adds u none (joinCertificate none t (s .tallies)) q own-view own-stays) in
+        let n : j + (k + l) ≡ length (join (moment none s) u (joinCertificate (moment none s) t (s .tallies))) =
+        omega (arith, count-tallies b, certificate-adds t (moment none s) (s .tallies) p ep, block-adds u (moment none s) (joinCertificate (moment none s) t (s .tallies)) q own-view own-stays) in
         let room = (λ h. ltb ((ei ∙ sym (count-statements b)) h) (ef h) && leb (j + (k + l)) (em h))
-        ∙ stored-room s x (j + (k + l)) (n ∙ ap₂ (λ (v w : Certificate). length (join none w (joinCertificate none v (s .tallies)))) et eu) in
+        ∙ stored-room s x (j + (k + l)) (n ∙ ap₂ (λ (v w : Certificate). length (join (moment none s) w (joinCertificate (moment none s) v (s .tallies)))) et eu) in
         planned-new x s new room (rw (← et) ep) (rw (← eu) eq)
 
   -- ---- it is stored
 
   module _ {p q : Found} (k : Newly x (stateOf b) p q) where
-    few : (length (stateOf b .statements) < mostStatements (sizeIn b)) × (length (join none u (joinCertificate none t (stateOf b .tallies))) ≤ mostTallies (sizeIn b))
+    few : (length (stateOf b .statements) < mostStatements (sizeIn b)) × (length (join (moment none (stateOf b)) u (joinCertificate (moment none (stateOf b)) t (stateOf b .tallies))) ≤ mostTallies (sizeIn b))
     unfolding stored withTables stateOf stateFrom
     few =
         let r = room-parts (stored x (stateOf b)) (k .room) in
         (omega (arith, r .0, length-append (stateOf b .statements) (x ∷ [])), rw (et, eu) (r .1))
 
-    pub certificate-fits : length (joinCertificate none t (tallies b)) ≤ mostTallies (sizeIn b)
+    pub certificate-fits : length (joinCertificate (moment none (stateOf b)) t (tallies b)) ≤ mostTallies (sizeIn b)
     unfolding stateOf stateFrom
-    certificate-fits = omega (arith, few .1, join-grows none u (joinCertificate none t (tallies b)))
+    certificate-fits = omega (arith, few .1, join-grows (moment none (stateOf b)) u (joinCertificate (moment none (stateOf b)) t (tallies b)))
 
     pub certificate-found : p ≡ certifiedAt t (tallies b)
     unfolding stateOf stateFrom
     certificate-found = rw et (k .certified)
 
     module _ {b₁ : List ℕ} (l : Left b₁ (certifying none t (stateOf b))) where
-      certified-tallies : tallies b₁ ≡ joinCertificate none t (tallies b)
+      certified-tallies : tallies b₁ ≡ joinCertificate (moment none (stateOf b)) t (tallies b)
       unfolding certifying withTables stateOf stateFrom
       certified-tallies = ap (λ (s : State). s .tallies) (l .is)
 
@@ -127,9 +127,16 @@ module _ (b : List ℕ) (x : Statement) (m : Sendable (stateOf b .settings) (mes
       unfolding certifying withTables stateOf stateFrom
       certified-size = ap (λ (s : State). s .settings .size) (l .is)
 
-      pub own-fits : length (join none u (tallies b₁)) ≤ mostTallies (sizeIn b₁)
-      unfolding stateOf stateFrom
-      own-fits = rw (certified-tallies, certified-size) (few .1)
+      -- the moment after is that before
+      certified-moment : moment none (stateOf b₁) ≡ moment none (stateOf b)
+      unfolding certifying withTables
+      certified-moment = ap (moment none) (l .is)
+
+      pub certified-clock : stateOf b .clock ≤ lastClock → stateOf b₁ .clock ≤ lastClock
+      certified-clock h = omega (arith, ap (λ (k : Moment). k .clock) certified-moment)
+
+      pub own-fits : length (join (moment none (stateOf b₁)) u (tallies b₁)) ≤ mostTallies (sizeIn b₁)
+      own-fits = rw (certified-moment, certified-tallies, certified-size) (unfold stateOf stateFrom in few .1)
 
       pub own-found : q ≡ blockAt u (tallies b₁)
       unfolding stateOf stateFrom
@@ -156,7 +163,7 @@ module _ (b : List ℕ) (x : Statement) (m : Sendable (stateOf b .settings) (mes
                     form = g .form;
                     is =
                         g .is ∙ ap (storing x) (h .left .is ∙ ap (joining none u) (l .is))
-                        ∙ ap₂ (λ (v w : Certificate). withTables (stateOf b .statements ++ x ∷ []) (join none w (joinCertificate none v (stateOf b .tallies))) (stateOf b)) et eu;
+                        ∙ ap₂ (λ (v w : Certificate). withTables (stateOf b .statements ++ x ∷ []) (join (moment none (stateOf b)) w (joinCertificate (moment none (stateOf b)) v (stateOf b .tallies))) (stateOf b)) et eu;
                   };
               place = h .place ∙ ap₂ blockAt eu (sym e);
             }
@@ -183,7 +190,7 @@ module _ (x : Statement) (s : State) where
   statement-repeat q = rw (q, statement)
 
 module _ {b : List ℕ} (k : Formed b) (x : Statement) (t : Certificate) (e : t ≡ certificate x) where
-  pub repeat-fits : any (sameStatement x) (stateOf b .statements) ≡ true → length (joinCertificate none t (tallies b)) ≤ mostTallies (sizeIn b)
+  pub repeat-fits : any (sameStatement x) (stateOf b .statements) ≡ true → length (joinCertificate (moment none (stateOf b)) t (tallies b)) ≤ mostTallies (sizeIn b)
   unfolding stateOf stateFrom
   repeat-fits q = let w = formed-parts k in rw e (omega (arith, repeat-length (w .formed) x q, w .fewTallies))
 

@@ -5,9 +5,9 @@ ghost use mathlib.Core.List.{[], _∷_};
 ghost use mathlib.Core.Option.{none};
 ghost use Prim.Native.Nat.{_+_, _^_, _≤_, _<_};
 ghost use lib.ListN.{length};
-ghost use Rattle.rules.specs.Limits.{maskBits, mostTallies};
+ghost use Rattle.rules.specs.Limits.{maskBits, mostTallies, lastClock};
 ghost use Rattle.rules.specs.Messages.{viewAllowed, toAll, blameSet, outgoing};
-ghost use Rattle.rules.specs.Words.{message as said, ownBlock, joinCertificate};
+ghost use Rattle.rules.specs.Words.{message as said, ownBlock, joinCertificate, moment};
 ghost use Rattle.rules.specs.Inputs as inputs;
 ghost use Rattle.rules.specs.Refusals.{hasRoom};
 ghost use Rattle.wire.specs.Meaning.{statementOf, messageOf, Writable, Linked};
@@ -131,7 +131,7 @@ fn needed(block: Certificate, place: Found) -> usize
 
 // Whoever joins the tally of a block, as it was found; genesis has none in view 0.
 fn join_certified(store: &mut [u8], block: Certificate, place: Found, voters: Voters)
-    requires { ⌜ (Form (now store)) × (length (joinCertificate (authorOf voters) (withVoters (votersOf voters) (blockOf block)) (tallies (now store))) ≤ mostTallies (sizeIn (now store))) × (place ≡ certifiedAt (blockOf block) (tallies (now store))) × (Numbered voters) ⌝ }
+    requires { ⌜ (Form (now store)) × (length (joinCertificate (moment (authorOf voters) (stateOf (now store))) (withVoters (votersOf voters) (blockOf block)) (tallies (now store))) ≤ mostTallies (sizeIn (now store))) × (place ≡ certifiedAt (blockOf block) (tallies (now store))) × (Numbered voters) × (stateOf (now store) .clock ≤ lastClock) ⌝ }
     ensures { λ _. ⌜ Left (now (store .exit)) (certifying (authorOf voters) (withVoters (votersOf voters) (blockOf block)) (stateOf (now (store .entry)))) ⌝ }
 {
     if block.view != 0 {
@@ -152,7 +152,7 @@ pub fn used_up(store: &[u8], place: Found, author: u64) -> bool
 
 // A vote or a status joins its tally, as it was found, if the record that it may need is free; if not, nothing changes.
 pub fn tallied(store: &mut [u8], block: Certificate, place: Found, voters: Voters) -> bool
-    requires { ⌜ (Form (now store)) × (place ≡ certifiedAt (blockOf block) (tallies (now store))) × (Numbered voters) ⌝ }
+    requires { ⌜ (Form (now store)) × (place ≡ certifiedAt (blockOf block) (tallies (now store))) × (Numbered voters) × (stateOf (now store) .clock ≤ lastClock) ⌝ }
     ensures { λ r. ⌜ Tried (inputs.tallied (authorOf voters) (withVoters (votersOf voters) (blockOf block)) (stateOf (now (store .entry))) .now) (stateOf (now (store .entry))) (now (store .exit)) r ⌝ }
 {
     let station = Station::load(store);
@@ -252,7 +252,7 @@ pub fn fits(plan: Plan) -> bool
 
 // A new statement is stored, and the tallies of its two blocks are opened as they were found; gives back where its own now stands.
 fn store_new(store: &mut [u8], x: Statement, certified: Found, own: Found) -> usize
-    requires { ⌜ (Form (now store)) × (Sendable (stateOf (now store) .settings) (said (statementOf x none))) × (Newly (statementOf x none) (stateOf (now store)) certified own) ⌝ }
+    requires { ⌜ (Form (now store)) × (Sendable (stateOf (now store) .settings) (said (statementOf x none))) × (Newly (statementOf x none) (stateOf (now store)) certified own) × (stateOf (now store) .clock ≤ lastClock) ⌝ }
     ensures { λ r. ⌜ Stored (statementOf x none) (stateOf (now (store .entry))) (now (store .exit)) r ⌝ }
 {
     let certificate = words::certificate_of(x);

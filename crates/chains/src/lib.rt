@@ -62,8 +62,8 @@ pub fn hang(
     heads[chain] = left as u16;
 }
 
-// Whether a record of this block is among the last so many of a table, on their chain.
-pub fn has_block(
+// Whether a record of this block is among the last so many of a table, on their chain: a walk along it.
+fn walked(
     store: &[u8],
     base: usize,
     size: usize,
@@ -86,4 +86,24 @@ pub fn has_block(
         rest = nexts[i] as usize;
     }
     false
+}
+
+// The same without a walk where the chain is empty, as most are.
+pub fn has_block(
+    store: &[u8],
+    base: usize,
+    size: usize,
+    count: usize,
+    nexts: &[u16; Settings::MOST_TALLIES_LARGE],
+    left: usize,
+    key: u64,
+    at: usize,
+) -> bool
+    requires { ⌜ (40 ≤ size) × (base + size * count ≤ length (now store)) × (count ≤ mostTalliesLarge) × (at + 32 ≤ length (now store)) × Walk (isOf (now store) base size key at) count left (now nexts) ⌝ }
+    ensures { λ r. ⌜ r ≡ any (isOf (now (store .entry)) base size key at) (behind count left) ⌝ }
+{
+    if left == 0 {
+        return false;
+    }
+    walked(store, base, size, count, nexts, left, key, at)
 }

@@ -130,7 +130,7 @@ all-good s =
     seventh-last
     (goodSettings (s .settings) && viewAllowed (s .settings) (s .view) && clocksInOrder s && lockGood s && leb (length (s .statements)) (mostStatements (s .settings .size))
     && leb (length (s .tallies)) (mostTallies (s .settings .size)))
-    (all (statementGood s) (s .statements)) (distinct sameStatement (s .statements)) (all (tallyGood (s .settings)) (s .tallies)) (distinct sameTally (s .tallies))
+    (all (statementGood s) (s .statements)) (distinct sameStatement (s .statements)) (all (tallyGood (s .settings) (s .clock)) (s .tallies)) (distinct sameTally (s .tallies))
     (all (talliesThere (s .tallies)) (s .statements)) (blamesGood (s .settings) (s .blames)) (linked (s .statements) 0 0 (s .log)) (fewOpened (s .settings .n) (s .tallies))
 
 propose-high : (s : State) (x : Statement) → statementGood s x ≡ true → x .isNewView ≡ false → 1 ≤ x .height

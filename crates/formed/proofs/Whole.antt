@@ -34,7 +34,7 @@ headerGood s = goodSettings (alone s .settings) && viewAllowed (alone s .setting
 -- a header looks at no table, a table at no more of the header than settings and clock
 parts-are : (s : Station) (xs : List Statement) (ts : List Tally) (ms l : List ℕ) → length xs ≤ mostStatements (sizeFrom (s .settings .size))
     → length ts ≤ mostTallies (sizeFrom (s .settings .size))
-    → (headerGood s && all (statementGood (alone s)) xs && distinct sameStatement xs && all (tallyGood (settingsOf (s .settings))) ts && distinct sameTally ts
+    → (headerGood s && all (statementGood (alone s)) xs && distinct sameStatement xs && all (tallyGood (settingsOf (s .settings)) (s .clock)) ts && distinct sameTally ts
     && all (talliesThere ts) xs && blamesGood (settingsOf (s .settings)) ms && linked xs 0 0 l && fewOpened (s .settings .n) ts)
     ≡ wellFormed (stateFrom (sizeFrom (s .settings .size)) (headerOf s) xs ts ms l)
 unfolding wellFormed clocksInOrder lockGood statementGood stateFrom headerOf
@@ -50,15 +50,15 @@ grouped true a b c d e f = refl
 grouped false a b c d e f = refl
 
 -- where two tallies are of one block nothing else of the tables counts
-pub tables-not : (g : Settings) (b : List ℕ) (r : Bool) → r ≡ distinct sameTally (tallies b) → not r ≡ true → false ≡ tablesGood g b
+pub tables-not : (g : Settings) (now : ℕ) (b : List ℕ) (r : Bool) → r ≡ distinct sameTally (tallies b) → not r ≡ true → false ≡ tablesGood g now b
 unfolding tablesGood
-tables-not g b r e n = rw (sym e ∙ not-true r n, and-false)
+tables-not g now b r e n = rw (sym e ∙ not-true r n, and-false)
 
 -- where they are apart, the others do
-pub tables-then : (g : Settings) (b : List ℕ) (r : Bool) → r ≡ distinct sameTally (tallies b) → not r ≡ false
-    → (all (tallyGood g) (tallies b) && all (talliesThere (tallies b)) (statements b) && blamesGood g (blames b) && linked (statements b) 0 0 (names b) && fewOpened (g .n) (tallies b)) ≡ tablesGood g b
+pub tables-then : (g : Settings) (now : ℕ) (b : List ℕ) (r : Bool) → r ≡ distinct sameTally (tallies b) → not r ≡ false
+    → (all (tallyGood g now) (tallies b) && all (talliesThere (tallies b)) (statements b) && blamesGood g (blames b) && linked (statements b) 0 0 (names b) && fewOpened (g .n) (tallies b)) ≡ tablesGood g now b
 unfolding tablesGood
-tables-then g b r e n = rw (sym e ∙ not-false r n, and-true)
+tables-then g now b r e n = rw (sym e ∙ not-false r n, and-true)
 
 -- without the form nothing else counts
 pub formless : (b : List ℕ) (r : Bool) → r ≡ hasForm b → not r ≡ true → false ≡ (hasForm b && wellFormed (stateOf b))
@@ -92,7 +92,7 @@ module _ (b : List ℕ) (s : Station) (long : length b ≡ storeLength (sizeIn b
   apart = distinct sameStatement (statements b)
 
   abbrev rest : Bool
-  rest = tablesGood (settingsOf (s .settings)) b
+  rest = tablesGood (settingsOf (s .settings)) (s .clock) b
 
   -- with the form, the rest of the definition is all there is
   formed-is : (headerGood s && good && apart && rest) ≡ (hasForm b && wellFormed (stateOf b))
@@ -102,7 +102,7 @@ module _ (b : List ℕ) (s : Station) (long : length b ≡ storeLength (sizeIn b
       let xs = statements b in
       let ts = tallies b in
       let whole = wellFormed (stateOf b) in
-      grouped (headerGood s && good && apart) (all (tallyGood g) ts) (distinct sameTally ts) (all (talliesThere ts) xs) (blamesGood g (blames b)) (linked xs 0 0 (names b)) (fewOpened (g .n) ts)
+      grouped (headerGood s && good && apart) (all (tallyGood g (s .clock)) ts) (distinct sameTally ts) (all (talliesThere ts) xs) (blamesGood g (blames b)) (linked xs 0 0 (names b)) (fewOpened (g .n) ts)
       ∙ parts-are s xs ts (blames b) (names b) few-statements few-tallies
       ∙ ap (λ (z : Size). wellFormed (stateFrom z (headerOf s) xs ts (blames b) (names b))) (holds .size)
       ∙ ap (λ (vs : List ℕ). wellFormed (stateFrom (sizeIn b) vs xs ts (blames b) (names b))) (holds .header)

@@ -24,7 +24,7 @@ pub record Ready (b : List ℕ) (s : Station) : Type 0 where
   pub stations : s .settings .n ≤ mostStations
 
 -- the parts of the definition after the statements
-unfoldable pub tablesGood : Settings → List ℕ → Bool
-tablesGood g b =
-    all (tallyGood g) (tallies b) && distinct sameTally (tallies b) && all (talliesThere (tallies b)) (statements b)
+unfoldable pub tablesGood : Settings → ℕ → List ℕ → Bool
+tablesGood g now b =
+    all (tallyGood g now) (tallies b) && distinct sameTally (tallies b) && all (talliesThere (tallies b)) (statements b)
     && blamesGood g (blames b) && linked (statements b) 0 0 (names b) && fewOpened (g .n) (tallies b)

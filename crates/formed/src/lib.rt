@@ -22,7 +22,7 @@ use tallied::tallies;
 // Whether tallies, blame masks and log are well formed, where the statements are.
 fn tables_good(store: &[u8], station: Station, salt: u64) -> bool
     requires { ⌜ Ready (now store) station ⌝ }
-    ensures { λ r. ⌜ r ≡ tablesGood (settingsOf (station .settings)) (now (store .entry)) ⌝ }
+    ensures { λ r. ⌜ r ≡ tablesGood (settingsOf (station .settings)) (station .clock) (now (store .entry)) ⌝ }
 {
     let settings = station.settings;
     let count = station.tallies;
@@ -31,7 +31,7 @@ fn tables_good(store: &[u8], station: Station, salt: u64) -> bool
     if !tallied::apart::distinct(store, salt, count, &mut heads, &mut nexts) {
         return false;
     }
-    tallies::all_good(store, settings, count)
+    tallies::all_good(store, settings, station.clock, count)
         & there::all_there(store, salt, count, &heads, &nexts, station.statements)
         & blames::all_good(store, settings)
         & linked::is_linked(store, station.logged, station.statements)

@@ -5,7 +5,7 @@ ghost use mathlib.Core.Option.{none};
 ghost use Prim.Native.Nat.{_+_, _^_, _≤_, _<_};
 ghost use lib.ListN.{length};
 ghost use lib.Dec.{ltb};
-ghost use Rattle.rules.specs.Limits.{mostStations, maskBits};
+ghost use Rattle.rules.specs.Limits.{mostStations, maskBits, lastClock};
 ghost use Rattle.rules.specs.Sizes.{only};
 ghost use Rattle.rules.specs.Messages.{viewOf, viewAllowed};
 ghost use Rattle.rules.specs.Words.{message as said};
@@ -70,7 +70,7 @@ pub fn stated(store: &mut [u8], out: &mut [u8], x: Statement) -> u64
 
 // A vote or a status: whoever joins the tally of a block, as it was found.
 fn counted(store: &mut [u8], block: Certificate, place: Found, voters: Voters) -> u64
-    requires { ⌜ (Form (now store)) × (place ≡ certifiedAt (blockOf block) (tallies (now store))) × (Numbered voters) ⌝ }
+    requires { ⌜ (Form (now store)) × (place ≡ certifiedAt (blockOf block) (tallies (now store))) × (Numbered voters) × (stateOf (now store) .clock ≤ lastClock) ⌝ }
     ensures { λ r. ⌜ Mutely (ifRoom (stateOf (now (store .entry))) (inputs.tallied (authorOf voters) (withVoters (votersOf voters) (blockOf block)) (stateOf (now (store .entry))))) (now (store .exit)) r ⌝ }
 {
     if !acts::tallied(store, block, place, voters) {
@@ -81,7 +81,7 @@ fn counted(store: &mut [u8], block: Certificate, place: Found, voters: Voters) -
 
 // A vote for a block: refused where its author would open one tally too many.
 fn voted(store: &mut [u8], block: Certificate, author: u64) -> u64
-    requires { ⌜ (Form (now store)) × (blockOf block .view ≡ 0 → ⊥) × (author < maskBits) ⌝ }
+    requires { ⌜ (Form (now store)) × (blockOf block .view ≡ 0 → ⊥) × (author < maskBits) × (stateOf (now store) .clock ≤ lastClock) ⌝ }
     ensures { λ r. ⌜ Mutely (heard (voteFor (blockOf block) author) (stateOf (now (store .entry)))) (now (store .exit)) r ⌝ }
 {
     let place = acts::find_certificate(store, block);

@@ -24,9 +24,9 @@ use Rattle.kept.proofs.WellFormed.{parts}
 use Rattle.kept.proofs.Tables.{isAbove}
 use Rattle.kept.proofs.Lists.{all-mem, any-find}
 use Rattle.kept.proofs.Logs.{block-parts, linked-cons}
-use Rattle.kept.proofs.Facts.{sizes-of, clocks-of, view-of, lock-of, statement-of, statement-limits, vote-clock, tally-of, tally-limits, opener-below, lock-limits, log-length}
+use Rattle.kept.proofs.Facts.{sizes-of, clocks-of, view-of, lock-of, statement-of, statement-limits, vote-clock, tally-of, tally-limits, opener-below, reached-clock, lock-limits, log-length}
 use Rattle.store.specs.Layout.{headerFormat, statementFormat, tallyFormat, maskFormat, nameFormat}
-use Rattle.store.specs.Decode.{phaseNumber, voteNumber, openerNumber, kindNumber, statementValues, tallyValues, headerValues}
+use Rattle.store.specs.Decode.{phaseNumber, voteNumber, openerNumber, reachedNumber, kindNumber, statementValues, tallyValues, headerValues}
 use Rattle.store.proofs.ReadBack.{Each}
 use Rattle.store.proofs.Decoded.{Fitted}
 
@@ -78,10 +78,14 @@ module _ {s : State} (w : WellFormed s) where
   opener-fits t m none e = omega arith
   opener-fits t m (some a) e = let g = sizes-of f in omega (arith, opener-below f t m a e)
 
+  reached-fits : (t : Tally) → Mem t (s .tallies) → (r : Option ℕ) → t .reached ≡ r → reachedNumber r < 256 ^ 4
+  reached-fits t m none e = omega arith
+  reached-fits t m (some c) e = let k = clocks-of f in omega (arith, reached-clock f t m c e)
+
   tally-fits : (t : Tally) → Mem t (s .tallies) → Fit tallyFormat (tallyValues t)
   tally-fits t m =
       let l = tally-limits f t m in
-      (omega arith, (omega arith, (tally-of f t m .name, (omega arith, (opener-fits t m (t .opener) refl, tt)))))
+      (omega arith, (omega arith, (tally-of f t m .name, (omega arith, (opener-fits t m (t .opener) refl, (reached-fits t m (t .reached) refl, tt))))))
 
   name-fits : (b h parent : ℕ) (l : List ℕ) → linked (s .statements) h parent (b ∷ l) ≡ true → Fit nameFormat (b ∷ [])
   name-fits b h parent l e =

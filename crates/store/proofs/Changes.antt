@@ -1,5 +1,5 @@
 -- What each write makes of the state that a store holds. Assumes nothing.
-use Prim.Native.Nat.{ℕ, suc, _+_, _-_, _*_, _^_, _<_, _≤_}
+use Prim.Native.Nat.{ℕ, zero, suc, _+_, _-_, _*_, _^_, _<_, _≤_}
 use mathlib.Core.Path.{_≡_, refl, sym, ap, _∙_}
 use mathlib.Core.Bool.{true}
 use mathlib.Core.List.{List, [], _∷_, _++_}
@@ -11,7 +11,7 @@ use lib.ListN.{length, getD, set}
 use Rattle.rules.specs.Limits.{Size, small, lastView, mostStatements, mostTallies}
 use Rattle.rules.specs.Lists.{all, within}
 use Rattle.rules.specs.Sizes.{joined}
-use Rattle.rules.specs.Words.{Statement, Tally, Phase, grown}
+use Rattle.rules.specs.Words.{Statement, Tally, Moment, reachedAt, Phase, grown}
 use Rattle.rules.specs.Inputs.{withPhase, withClock, withTables, withBlames, withLog, noted, blamesOf, blamed}
 use Rattle.rules.proofs.Bounds.{statements-most, tallies-most}
 use Rattle.rules.proofs.Masks.{joined-lt}
@@ -24,13 +24,13 @@ use Rattle.store.specs.Layout.{headerFormat, statementFormat, tallyForma
 use Rattle.store.specs.Decode.{nth, phaseNumber, kindNumber, voteOf, statementFrom, statementValues, tallyFrom, tallyValues, statementAt, tallyFor, tallyAt, blameFor, nameFor, kindAt, statements, tallies, blames, blamesFor, names, kinds, rows, stateFrom, stateOf, Form, Left}
 use Rattle.store.specs.Meaning.{tallyOf}
 use Rattle.store.specs.declared.Tally as code
-use Rattle.store.specs.Changes.{growing, opening, storing, noting, appending}
+use Rattle.store.specs.Changes.{changeAt, changing, growing, Voted, opening, storing, noting, appending}
 use Rattle.store.proofs.Values.{number-phase, number-kind}
 use Rattle.store.proofs.Rows.{rows-at, change-none}
 use Rattle.store.proofs.Kept.{SameIn, part, put-low, put-high, puts-high, fields-same, field-put}
 use Rattle.store.proofs.Decoded.{statement-back, tally-back}
 use Rattle.store.proofs.Tables.{Holds, holds-same, rows-kept, rows-put}
-use Rattle.store.proofs.Forms.{orderedHeader, orderedStatement, orderedTally, localStatement, localKind, localTally, localBlame, localName, Parts, parts, left}
+use Rattle.store.proofs.Forms.{orderedHeader, orderedStatement, orderedTally, localStatement, localKind, localTally, localBlame, localName, Parts, parts, sized, left}
 use Rattle.store.proofs.Writes.{Placed, put-record, add-record}
 
 -- where the tables stand
@@ -69,9 +69,28 @@ noted-row : (b : List ℕ) (i c : ℕ) → statementFrom (set (fields b (placeOf
 unfolding noted statementAt
 noted-row b i c = let e : voteOf (c + 1) ≡ some c = rw add-one in simp e
 
-grown-row : (z : Size) (b : List ℕ) (i m : ℕ) → tallyFrom (set (fields b (placeOf tallyTable z i) tallyFormat) 3 (joined (tallyFor z b i .mask) m)) ≡ grown (tallyFor z b i) m
-unfolding grown tallyFor
-grown-row z b i m = refl
+-- what the two writes of a joining do to a tally: the mask, then the clock
+abbrev masked : ℕ → Tally → Tally
+masked m t = record { view = t .view; height = t .height; name = t .name; mask = joined (t .mask) m; opener = t .opener; reached = t .reached }
+
+abbrev clocked : Moment → Tally → Tally
+clocked k t = record { view = t .view; height = t .height; name = t .name; mask = t .mask; opener = t .opener; reached = reachedAt k (t .reached) (t .mask) }
+
+masked-row : (z : Size) (b : List ℕ) (i m v : ℕ) → v ≡ joined (tallyFor z b i .mask) m
+    → tallyFrom (set (fields b (placeOf tallyTable z i) tallyFormat) 3 v) ≡ masked m (tallyFor z b i)
+unfolding tallyFor
+masked-row z b i m v e = rw e
+
+clocked-row : (z : Size) (b : List ℕ) (i : ℕ) (k : Moment) (v : ℕ) → voteOf v ≡ reachedAt k (tallyFor z b i .reached) (tallyFor z b i .mask)
+    → tallyFrom (set (fields b (placeOf tallyTable z i) tallyFormat) 5 v) ≡ clocked k (tallyFor z b i)
+unfolding tallyFor
+clocked-row z b i k v e = simp e
+
+changed-twice : {A : Type 0} (f g : A → A) (i : ℕ) (xs : List A) → changeAt g i (changeAt f i xs) ≡ changeAt (λ x. g (f x)) i xs
+unfolding changeAt
+changed-twice f g i [] = refl
+changed-twice f g zero (x ∷ xs) = refl
+changed-twice f g (suc i) (x ∷ xs) = ap (x ∷_) (changed-twice f g i xs)
 
 -- the kinds of statements are another reading of their table
 kinds-held : (b : List ℕ) (k : Form b) → Holds (sizeIn b) statementTable kindAt b (kinds b)
@@ -220,27 +239,33 @@ module _ (b : List ℕ) (k : Form b) where
       let a = add-record (sizeIn b) tallyTable (tallyFor (sizeIn b)) (localTally (sizeIn b)) b (q .tallies) 12 (placedTallies (sizeIn b)) tallyFormat orderedTally (k .bytes) (q .long) (tallyValues t) t l fit (λ e. tally-row (sizeIn b) b′ n e ∙ tally-back t) in
       in-tallies b′ (a .bytes) (a .long) (a .header) (part (a .low) (omega arith) (omega arith)) (a .mid) (a .high) (a .holds)
 
-  put-voters : (j m : ℕ) → j < countOf tallyTable b → joined (tallyFor (sizeIn b) b j .mask) m < 256 ^ 2
-      → Left (put b (placeOf tallyTable (sizeIn b) j + 40) 2 (joined (tallyFor (sizeIn b) b j .mask) m)) (growing j m (stateOf b))
-  unfolding growing withTables stateOf stateFrom
-  put-voters j m l fit =
-      let at = placeOf tallyTable (sizeIn b) j in
-      let v = joined (tallyFor (sizeIn b) b j .mask) m in
-      let b′ = put b (at + 40) 2 v in
-      let n = q .tallies .used .within in
-      let row : fields b′ at tallyFormat ≡ set (fields b at tallyFormat) 3 v =
-      field-put b at 0 (tallyTable .size) tallyFormat orderedTally (omega (arith, q .long)) 3 v (omega arith) fit in
-      let x = put-record (sizeIn b) tallyTable (tallyFor (sizeIn b)) (localTally (sizeIn b)) b (q .tallies) 12 (placedTallies (sizeIn b)) j 40 2 v (λ t. grown t m) l (omega arith) (tally-row (sizeIn b) b′ j row ∙ grown-row (sizeIn b) b j m) in
-      in-tallies b′ (bytes-put b (k .bytes) (at + 40) 2 v) (length-put b (at + 40) 2 v) (header-kept b b′ k (part (x .low) (omega arith) (omega arith)))
+  -- one number of record j is written
+  put-tally : (j o w v : ℕ) (f : Tally → Tally) → j < countOf tallyTable b → o + w ≤ tallyTable .size
+      → tallyFor (sizeIn b) (put b (placeOf tallyTable (sizeIn b) j + o) w v) j ≡ f (tallyFor (sizeIn b) b j)
+      → Left (put b (placeOf tallyTable (sizeIn b) j + o) w v) (changing j f (stateOf b))
+  unfolding changing withTables stateOf stateFrom
+  put-tally j o w v f l i e =
+      let at = placeOf tallyTable (sizeIn b) j + o in
+      let b′ = put b at w v in
+      let x = put-record (sizeIn b) tallyTable (tallyFor (sizeIn b)) (localTally (sizeIn b)) b (q .tallies) 12 (placedTallies (sizeIn b)) j o w v f l i e in
+      in-tallies b′ (bytes-put b (k .bytes) at w v) (length-put b at w v) (header-kept b b′ k (part (x .low) (omega arith) (omega arith)))
       (part (x .low) (omega arith) (omega arith)) (part (x .low) (omega arith) (omega arith)) (x .high) (x .holds)
 
-  -- by the tally that grew
-  pub grown-at : (j m : ℕ) (t u : code.Tally) → j < countOf tallyTable b → tallyOf t ≡ tallyAt b j → tallyOf u ≡ grown (tallyOf t) m
-      → {b′ : List ℕ} → b′ ≡ put b (placeOf tallyTable (sizeIn b) j + 40) 2 (u .mask) → u .mask < 256 ^ 2 → Left b′ (growing j m (stateOf b))
-  unfolding tallyOf grown
-  grown-at j m t u l e f p fit =
-      let mask : u .mask ≡ joined (tallyAt b j .mask) m = ap (λ (t : Tally). t .mask) f ∙ ap (λ (t : Tally). joined (t .mask) m) e in
-      rw (p, mask) (put-voters j m l (rw (← mask) fit))
+  put-mask : (j m v : ℕ) → j < countOf tallyTable b → v ≡ joined (tallyAt b j .mask) m → v < 256 ^ 2
+      → (tallyFor (sizeIn b) (put b (placeOf tallyTable (sizeIn b) j + 40) 2 v) j ≡ masked m (tallyAt b j)) × (Left (put b (placeOf tallyTable (sizeIn b) j + 40) 2 v) (changing j (masked m) (stateOf b)))
+  put-mask j m v l e fit =
+      let at = placeOf tallyTable (sizeIn b) j in
+      let n = q .tallies .used .within in
+      let row = tally-row (sizeIn b) (put b (at + 40) 2 v) j (field-put b at 0 (tallyTable .size) tallyFormat orderedTally (omega (arith, q .long)) 3 v (omega arith) fit) ∙ masked-row (sizeIn b) b j m v e in
+      (row, put-tally j 40 2 v (masked m) l (omega arith) row)
+
+  put-since : (j : ℕ) (at : Moment) (v : ℕ) → j < countOf tallyTable b → voteOf v ≡ reachedAt at (tallyAt b j .reached) (tallyAt b j .mask) → v < 256 ^ 4
+      → Left (put b (placeOf tallyTable (sizeIn b) j + 43) 4 v) (changing j (clocked at) (stateOf b))
+  put-since j a v l e fit =
+      let at = placeOf tallyTable (sizeIn b) j in
+      let n = q .tallies .used .within in
+      put-tally j 43 4 v (clocked a) l (omega arith)
+      (tally-row (sizeIn b) (put b (at + 43) 4 v) j (field-put b at 0 (tallyTable .size) tallyFormat orderedTally (omega (arith, q .long)) 5 v (omega arith) fit) ∙ clocked-row (sizeIn b) b j a v e)
 
   -- ---- the blame masks
 
@@ -288,3 +313,26 @@ module _ (b : List ℕ) (k : Form b) where
       rw (← e)
       (left (sizeIn b) (a .bytes) (a .long ∙ q .long) (a .header) (statements-kept b b′ k xs) (tallies-kept b b′ k ts) (blames-kept b b′ k (part (a .mid) (omega arith) (omega arith)))
       (a .holds) (kinds-kept b b′ k xs))
+
+-- ---- a joining, by the tally that grew
+
+pub grown-at : (b : List ℕ) (k : Form b) (at : Moment) (j m : ℕ) (t u : code.Tally) → j < countOf tallyTable b → tallyOf t ≡ tallyAt b j
+    → tallyOf u ≡ grown at (tallyOf t) m → {b′ : List ℕ} → Voted b j (u .mask) (u .reached) b′ → Left b′ (growing at j m (stateOf b))
+unfolding tallyOf grown growing changing withTables
+grown-at b k at j m t u l e f {b′} p =
+    let z = sizeIn b in
+    let place = placeOf tallyTable z j in
+    let g : tallyOf u ≡ grown at (tallyAt b j) m = f ∙ ap (λ (w : Tally). grown at w m) e in
+    let mask : u .mask ≡ joined (tallyAt b j .mask) m = ap (λ (w : Tally). w .mask) g in
+    let since : voteOf (u .reached) ≡ reachedAt at (tallyAt b j .reached) (joined (tallyAt b j .mask) m) = ap (λ (w : Tally). w .reached) g in
+    let b₁ = put b (place + 40) 2 (u .mask) in
+    let (row, one) = put-mask b k j m (u .mask) l mask (p .maskFits) in
+    let size : sizeIn b₁ ≡ z = sized z b₁ (length-put b (place + 40) 2 (u .mask) ∙ parts b (k .form) .long) in
+    let again : voteOf (u .reached) ≡ reachedAt at (tallyFor z b₁ j .reached) (tallyFor z b₁ j .mask) = since ∙ ap (λ (w : Tally). reachedAt at (w .reached) (w .mask)) (sym row) in
+    let count : countOf tallyTable b₁ ≡ countOf tallyTable b = put-low b (place + 40) 2 (u .mask) .same 64 2 (omega arith) (omega arith) in
+    let two = put-since b₁ (one .form) j at (u .reached) (omega arith) (rw size again) (p .reachedFits) in
+    let two′ : Left b′ (changing j (clocked at) (stateOf b₁)) = rw (p .is) (rw size at two) in
+    record {
+      form = two′ .form;
+      is = two′ .is ∙ ap (changing j (clocked at)) (one .is) ∙ ap (λ (us : List Tally). withTables (stateOf b .statements) us (stateOf b)) (changed-twice (masked m) (clocked at) j (stateOf b .tallies));
+    }

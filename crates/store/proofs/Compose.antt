@@ -5,7 +5,7 @@ use mathlib.Core.List.{List, [], _∷_, _++_, append-assoc, append-nil}
 use mathlib.Core.Option.{none}
 use lib.ListN.{length}
 use Rattle.rules.specs.Sizes.{only}
-use Rattle.rules.specs.Words.{Statement, sameStatement, ownBlock, certificate, join, State}
+use Rattle.rules.specs.Words.{Statement, sameStatement, ownBlock, certificate, join, State, moment}
 use Rattle.rules.specs.Inputs.{withTables, withLog, noted, votedFor, certificateJoined, stored}
 use Rattle.store.specs.Layout.{statementTable, tallyTable, logTable, countOf}
 use Rattle.store.specs.Decode.{statementAt, tallyAt, nameAt, statements, tallies, names, stateFrom, stateOf, Left}
@@ -67,7 +67,7 @@ pub voted-is : (x : Statement) (s : State) (j : ℕ) → firstFrom (sameStatemen
     → joining none (ownBlock x (only (s .settings .own))) (noting j (s .clock) s) ≡ votedFor x s
 unfolding joining noting votedFor withTables
 voted-is x s j e =
-    ap (λ (xs : List Statement). withTables xs (join none (ownBlock x (only (s .settings .own))) (s .tallies)) s)
+    ap (λ (xs : List Statement). withTables xs (join (moment none s) (ownBlock x (only (s .settings .own))) (s .tallies)) s)
     (sym (alter-found (sameStatement x) (noted (s .clock)) (s .statements) j e))
 
 -- names logged one after the other

@@ -41,7 +41,7 @@ abbrev tiledStatement : Tiled 0 statementFormat
 tiledStatement = (tt, (tt, (tt, (tt, (tt, (tt, (tt, (tt, tt))))))))
 
 pub tally-back : (t : Tally) → tallyFrom (tallyValues t) ≡ t
-tally-back t = λ i. record { view = t .view; height = t .height; name = t .name; mask = t .mask; opener = number-vote (t .opener) i }
+tally-back t = λ i. record { view = t .view; height = t .height; name = t .name; mask = t .mask; opener = number-vote (t .opener) i; reached = number-vote (t .reached) i }
 
 pub statement-back : (x : Statement) → statementFrom (statementValues x) ≡ x
 statement-back x = λ i. record {
@@ -70,7 +70,7 @@ module _ (z : Size) (p q : List ℕ) (i : ℕ) where
 
   tally-reads : (t : Tally) → Fit tallyFormat (tallyValues t) → tallyTable .base z + tallyTable .size * i ≡ length p → tallyFor z (p ++ (bytesOf tallyFormat (tallyValues t) ++ q)) i ≡ t
   unfolding tallyFor
-  tally-reads t f e = ap tallyFrom (fields-bytes p q (placeOf tallyTable z i) 0 tallyFormat (tallyValues t) (tt, (tt, (tt, (tt, (tt, tt))))) f (omega arith)) ∙ tally-back t
+  tally-reads t f e = ap tallyFrom (fields-bytes p q (placeOf tallyTable z i) 0 tallyFormat (tallyValues t) (tt, (tt, (tt, (tt, (tt, (tt, tt)))))) f (omega arith)) ∙ tally-back t
 
   single-reads : (at w v : ℕ) → Fit ((0, w) ∷ []) (v ∷ []) → at ≡ length p → number (p ++ (bytesOf ((0, w) ∷ []) (v ∷ []) ++ q)) at w ≡ v
   single-reads at w v f e =

@@ -43,8 +43,8 @@ module _ (b : List ℕ) (k : Form b) where
   tally-is : (i : ℕ) → bytesOf tallyFormat (tallyValues (tallyAt b i)) ≡ bytesAt b (placeOf tallyTable z i) (tallyTable .size)
   unfolding tallyFor
   tally-is i =
-      ap (bytesOf tallyFormat) (simp (vote-number (number b (placeOf tallyTable z i + 42) 1)))
-      ∙ record-bytes b (k .bytes) (placeOf tallyTable z i) tallyFormat (tt, (tt, (tt, (tt, (tt, tt)))))
+      ap (bytesOf tallyFormat) (simp vote-number)
+      ∙ record-bytes b (k .bytes) (placeOf tallyTable z i) tallyFormat (tt, (tt, (tt, (tt, (tt, (tt, tt))))))
 
   mask-is : (i : ℕ) → bytesOf maskFormat (blameAt b i ∷ []) ≡ bytesAt b (blameBase z + 2 * i) 2
   unfolding blameFor

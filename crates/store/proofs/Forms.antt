@@ -27,7 +27,7 @@ abbrev pub orderedStatement : Ordered 0 statementFormat (statementTable .size)
 orderedStatement = (tt, (tt, (tt, (tt, (tt, (tt, (tt, (tt, tt))))))))
 
 abbrev pub orderedTally : Ordered 0 tallyFormat (tallyTable .size)
-orderedTally = (tt, (tt, (tt, (tt, (tt, tt)))))
+orderedTally = (tt, (tt, (tt, (tt, (tt, (tt, tt))))))
 
 -- each table's reader looks at its records alone
 pub localStatement : (z : Size) → Local (statementTable .base z) (statementTable .size) statementAt

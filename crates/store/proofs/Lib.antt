@@ -12,8 +12,8 @@ pub mod OneForm
 pub mod Writes
 pub mod Changes
 pub mod Searches
+pub mod OneByOne
 pub mod Joining
 pub mod Starts
 pub mod Sized
-pub mod OneByOne
 pub mod Compose

@@ -2,17 +2,21 @@
 use Prim.Native.Nat.{ℕ, zero, suc, _+_, _*_, _/_, _%_, _^_, _≤_, _<_}
 use mathlib.Core.Path.{_≡_, refl, sym, ap, _∙_}
 use mathlib.Core.Bool.{true, false}
+use mathlib.Core.Option.{Option, none, some}
 use native.Mathlib.Omega.{arith}
 use native.Mathlib.Nat.{pow-suc, mul-comm, one-mul, mod-one, mod-lt, mod-eq-of-lt}
 use lib.Dec.{eqb}
 use lib.Arith.{mod-mul}
 use lib.Pow.{pow-pos, pow-lt}
 use lib.Bits.{bitOr, or-zero-r, or-shr, or-mod, or-shifted-r}
-use borrow.Author.Tests.{eqb-true, eqb-false}
+use borrow.Author.Tests.{eqb-true, eqb-false, not-true}
 use Rattle.rules.specs.Limits.{maskBits}
-use Rattle.rules.specs.Sizes.{only, bit, holds, joined}
-use Rattle.rules.specs.Words.{Tally, grown}
-use Rattle.rules.proofs.Tests.{by-bool}
+use Rattle.rules.specs.Sizes.{only, bit, holds, joined, quorum}
+use Rattle.rules.specs.Words.{Tally, Moment, reachedAt, grown}
+use Rattle.rules.specs.WellFormed.{reachedGood}
+use Rattle.rules.proofs.Tests.{by-bool, no-bool}
+use Rattle.rules.proofs.Masks.{quorum-joined}
+use Rattle.rules.proofs.Tallies.{count-quorum}
 
 -- ---- joining is associative
 
@@ -79,20 +83,44 @@ one-by-one (suc d) k m l h =
 pub joined-one-by-one : (m k : ℕ) → m < 2 ^ maskBits → k < 2 ^ maskBits → joined m k ≡ oneByOne maskBits k m
 joined-one-by-one m k h l = sym (one-by-one maskBits k m (omega arith) h ∙ ap (joined m) (mod-eq-of-lt l))
 
+-- the clock of the first quorum: who join at one moment may join one after the other
+pub reached-again : (at : Moment) (r : Option ℕ) (a b : ℕ) → reachedAt at (reachedAt at r a) (joined a b) ≡ reachedAt at r (joined a b)
+unfolding reachedAt
+reached-again at (some c) a b = refl
+reached-again at none a b =
+    by-bool (quorum (at .settings) a)
+    (λ q. rw (q, reachedAt, count-quorum (at .settings) (joined a b) (quorum-joined (at .settings) a b q), reachedAt))
+    (λ q. rw (q, reachedAt))
+
+-- and a tally that keeps its clock as it should has it already
+reached-kept : (at : Moment) (now m : ℕ) (r : Option ℕ) → reachedGood (at .settings) now m r ≡ true → reachedAt at r m ≡ r
+unfolding reachedGood reachedAt
+reached-kept at now m (some c) e = refl
+reached-kept at now m none e = rw (not-true (quorum (at .settings) m) e, reachedAt)
+
 -- a tally that a mask joins is the tally with its voters added one by one
-pub votersAdded : ℕ → ℕ → Tally → Tally
-unfolding holds grown only
-votersAdded zero k t = t
-votersAdded (suc d) k t = elim (holds k d) [ true ↦ grown (votersAdded d k t) (only d) | false ↦ votersAdded d k t ]
+module _ (at : Moment) where
+  pub votersAdded : ℕ → ℕ → Tally → Tally
+  unfolding holds grown only
+  votersAdded zero k t = t
+  votersAdded (suc d) k t = elim (holds k d) [ true ↦ grown at (votersAdded d k t) (only d) | false ↦ votersAdded d k t ]
 
-voters-mask : (d k : ℕ) (t : Tally) → votersAdded d k t ≡ record { view = t .view; height = t .height; name = t .name; mask = oneByOne d k (t .mask); opener = t .opener }
-unfolding votersAdded oneByOne grown
-voters-mask zero k t = refl
-voters-mask (suc d) k t =
-    by-bool (holds k d) (λ e. rw (e, votersAdded, oneByOne) (ap (λ (u : Tally). grown u (only d)) (voters-mask d k t)))
-    (λ e. rw (e, votersAdded, oneByOne) (voters-mask d k t))
+  -- with this mask at that moment
+  with : Tally → ℕ → Tally
+  with t m = record { view = t .view; height = t .height; name = t .name; mask = m; opener = t .opener; reached = reachedAt at (t .reached) m }
 
-pub grown-one-by-one : (t : Tally) (k : ℕ) → t .mask < 2 ^ maskBits → k < 2 ^ maskBits → grown t k ≡ votersAdded maskBits k t
-unfolding grown
-grown-one-by-one t k h l =
-    ap (λ (m : ℕ). record { view = t .view; height = t .height; name = t .name; mask = m; opener = t .opener }) (joined-one-by-one (t .mask) k h l) ∙ sym (voters-mask maskBits k t)
+  module _ (t : Tally) (now : ℕ) (good : reachedGood (at .settings) now (t .mask) (t .reached) ≡ true) where
+    voters-mask : (d k : ℕ) → votersAdded d k t ≡ with t (oneByOne d k (t .mask))
+    unfolding votersAdded oneByOne grown with
+    voters-mask zero k = λ i. record { view = t .view; height = t .height; name = t .name; mask = t .mask; opener = t .opener; reached = sym (reached-kept at now (t .mask) (t .reached) good) i }
+    voters-mask (suc d) k =
+        by-bool (holds k d)
+        (λ e.
+        rw (e, votersAdded, oneByOne)
+        (ap (λ (u : Tally). grown at u (only d)) (voters-mask d k)
+        ∙ (λ i. record { view = t .view; height = t .height; name = t .name; mask = joined (oneByOne d k (t .mask)) (only d); opener = t .opener; reached = reached-again at (t .reached) (oneByOne d k (t .mask)) (only d) i })))
+        (λ e. rw (e, votersAdded, oneByOne) (voters-mask d k))
+
+    pub grown-one-by-one : (k : ℕ) → t .mask < 2 ^ maskBits → k < 2 ^ maskBits → grown at t k ≡ votersAdded maskBits k t
+    unfolding grown with
+    grown-one-by-one k h l = ap (with t) (joined-one-by-one (t .mask) k h l) ∙ sym (voters-mask maskBits k)

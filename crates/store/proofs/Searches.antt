@@ -11,7 +11,7 @@ use lib.Dec.{eqb}
 use lib.ListN.{length}
 use borrow.Author.Tests.{not-true, not-false}
 use Rattle.rules.specs.Lists.{iff, first, any, alter}
-use Rattle.rules.specs.Words.{Statement, sameStatement, Certificate, Opener, Tally, certificateOf, opened, sameBlock, ofBlock, grown, join}
+use Rattle.rules.specs.Words.{Statement, sameStatement, Certificate, Moment, Tally, certificateOf, opened, sameBlock, ofBlock, grown, join}
 use Rattle.rules.proofs.Tests.{eqb-self}
 use Rattle.fields.specs.Places.{number, Bytes}
 use Rattle.fields.proofs.Laws.{number-lt, number-split}
@@ -122,10 +122,10 @@ module _ {A : Type 0} (p : A → Bool) (g : A → A) where
   pub alter-found : (xs : List A) (j : ℕ) → firstFrom p 0 xs ≡ At j → alter p g xs ≡ changeAt g j xs
   alter-found xs j q = let z : j - 0 ≡ j = omega arith in subst (Alters 0 xs) q (alters 0 xs) .1 ∙ ap (λ (k : ℕ). changeAt g k xs) z
 
-module _ (k : Opener) (t : Certificate) where
+module _ (k : Moment) (t : Certificate) where
   abbrev Joins : ℕ → List Tally → Found → Type 0
   Joins i us Nothing = join k t us ≡ us ++ opened k t ∷ []
-  Joins i us (At j) = (i ≤ j) × (join k t us ≡ changeAt (λ u. grown u (t .mask)) (j - i) us)
+  Joins i us (At j) = (i ≤ j) × (join k t us ≡ changeAt (λ u. grown k u (t .mask)) (j - i) us)
 
   joins : (i : ℕ) (us : List Tally) → Joins i us (firstFrom (ofBlock t) i us)
   unfolding firstFrom join changeAt
@@ -137,8 +137,8 @@ module _ (k : Opener) (t : Certificate) where
       go false Nothing e h = rw (e, join) (ap (u ∷_) h)
       go false (At j) e h = (omega (arith, h .0), let z : j - i ≡ suc (j - suc i) = omega (arith, h .0) in rw (e, join, z) (ap (u ∷_) (h .1)))
 
-  pub join-found : (us : List Tally) (j : ℕ) → firstFrom (ofBlock t) 0 us ≡ At j → join k t us ≡ changeAt (λ u. grown u (t .mask)) j us
-  join-found us j q = let z : j - 0 ≡ j = omega arith in subst (Joins 0 us) q (joins 0 us) .1 ∙ ap (λ (n : ℕ). changeAt (λ u. grown u (t .mask)) n us) z
+  pub join-found : (us : List Tally) (j : ℕ) → firstFrom (ofBlock t) 0 us ≡ At j → join k t us ≡ changeAt (λ u. grown k u (t .mask)) j us
+  join-found us j q = let z : j - 0 ≡ j = omega arith in subst (Joins 0 us) q (joins 0 us) .1 ∙ ap (λ (n : ℕ). changeAt (λ u. grown k u (t .mask)) n us) z
 
   pub join-missing : (us : List Tally) → firstFrom (ofBlock t) 0 us ≡ Nothing → join k t us ≡ us ++ opened k t ∷ []
   join-missing us q = subst (Joins 0 us) q (joins 0 us)

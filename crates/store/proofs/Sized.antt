@@ -23,10 +23,10 @@ pub certificate-fits : (t : Certificate) → t .view < 2 ^ 32 → t .height < 2 
 unfolding blockOf
 certificate-fits t v h n m = (v, (h, (n, (m, tt))))
 
-pub tally-fits : (t : Tally) → t .view < 2 ^ 32 → t .height < 2 ^ 32 → nameOf (t .name) < 256 ^ 32 → t .mask < 2 ^ 16 → t .opener < 2 ^ 8
+pub tally-fits : (t : Tally) → t .view < 2 ^ 32 → t .height < 2 ^ 32 → nameOf (t .name) < 256 ^ 32 → t .mask < 2 ^ 16 → t .opener < 2 ^ 8 → t .reached < 2 ^ 32
     → Fit tallyFormat (tallyValues (tallyOf t))
 unfolding tallyOf
-tally-fits t v h n m o = (v, (h, (n, (m, (rw (vote-number (t .opener)) o, tt)))))
+tally-fits t v h n m o r = (v, (h, (n, (m, (rw (vote-number (t .opener)) o, (rw (vote-number (t .reached)) r, tt))))))
 
 -- one voter's mask has the width of a mask
 pub voter-fits : (i : ℕ) → i < maskBits → only i < 256 ^ 2

@@ -1,5 +1,6 @@
 -- Each number of the store is one value's, and each value one number's. Assumes nothing.
 use Prim.Native.Nat.{ℕ, zero, suc, _+_, _-_, _≤_}
+use native.Mathlib.Numerals.{add-one}
 use mathlib.Core.Path.{_≡_, refl, sym, ap, _∙_}
 use mathlib.Core.Bool.{Bool, true, false}
 use mathlib.Core.List.{List}
@@ -10,9 +11,10 @@ use borrow.Author.Tests.{leb-true, eqb-true, eqb-false, eq-eqb, ne-eqb}
 use Rattle.rules.specs.Lists.{within}
 use Rattle.rules.proofs.Tests.{by-bool, no-bool, and-right}
 use Rattle.rules.specs.Limits.{Size}
+use Rattle.rules.specs.Sizes.{quorum}
 use Rattle.fields.specs.Places.{number}
 use Rattle.store.specs.Layout.{tallyTable, placeOf}
-use Rattle.rules.specs.Words.{isAuthor, Phase, inView, waiting, stopped, full, split, clock}
+use Rattle.rules.specs.Words.{Moment, reachedAt, isAuthor, Phase, inView, waiting, stopped, full, split, clock}
 use Rattle.store.specs.Decode.{phaseOf, phaseNumber, voteOf, voteNumber, openerOf, kindNumber, statementAt, tallyFor, openerFor, voteAt}
 
 pub phase-waiting : (k : ℕ) → 4 ≤ k → waiting (k - 4) ≡ phaseOf k
@@ -43,6 +45,21 @@ vote-number (suc c) = refl
 pub number-vote : (v : Option ℕ) → voteOf (voteNumber v) ≡ v
 number-vote none = refl
 number-vote (some c) = refl
+
+-- the number of the clock that a tally keeps: it stays, or a quorum sets it, or there is none
+module _ (k : Moment) (m : ℕ) where
+  pub reached-stays : (n : ℕ) → (n ≡ 0 → ⊥) → voteOf n ≡ reachedAt k (voteOf n) m
+  unfolding reachedAt
+  reached-stays zero d = absurd (d refl)
+  reached-stays (suc c) d = refl
+
+  pub reached-set : (n : ℕ) → n ≡ 0 → quorum (k .settings) m ≡ true → voteOf (k .clock + 1) ≡ reachedAt k (voteOf n) m
+  unfolding reachedAt
+  reached-set n z q = rw (z, q, reachedAt, add-one)
+
+  pub reached-unset : (n : ℕ) → n ≡ 0 → quorum (k .settings) m ≡ false → none ≡ reachedAt k (voteOf n) m
+  unfolding reachedAt
+  reached-unset n z q = rw (z, q, reachedAt)
 
 -- a tally's opener is an author where the record's number is one more
 pub author-is : (a m : ℕ) → isAuthor a (openerOf m) ≡ eqb (suc a) m

@@ -50,6 +50,13 @@ openerOf k = voteOf k
 abbrev pub openerNumber : Opener → ℕ
 openerNumber k = voteNumber k
 
+-- 0 the tally had no quorum yet; else one more than the clock at which it first had one
+abbrev pub reachedFrom : ℕ → Option ℕ
+reachedFrom k = voteOf k
+
+abbrev pub reachedNumber : Option ℕ → ℕ
+reachedNumber r = voteNumber r
+
 -- the kind as on the wire: 1 new-view, 2 propose
 abbrev pub kindNumber : Bool → ℕ
 kindNumber true = 1
@@ -81,10 +88,10 @@ abbrev pub certificateValues : Certificate → List ℕ
 certificateValues t = t .view ∷ t .height ∷ t .name ∷ t .mask ∷ []
 
 abbrev pub tallyFrom : List ℕ → Tally
-tallyFrom vs = record { view = nth vs 0; height = nth vs 1; name = nth vs 2; mask = nth vs 3; opener = openerOf (nth vs 4) }
+tallyFrom vs = record { view = nth vs 0; height = nth vs 1; name = nth vs 2; mask = nth vs 3; opener = openerOf (nth vs 4); reached = reachedFrom (nth vs 5) }
 
 abbrev pub tallyValues : Tally → List ℕ
-tallyValues t = t .view ∷ t .height ∷ t .name ∷ t .mask ∷ openerNumber (t .opener) ∷ []
+tallyValues t = t .view ∷ t .height ∷ t .name ∷ t .mask ∷ openerNumber (t .opener) ∷ reachedNumber (t .reached) ∷ []
 
 -- record i of each table
 unfoldable pub statementAt : List ℕ → ℕ → Statement
@@ -120,6 +127,13 @@ openerFor z b i = number b (placeOf tallyTable z i + 42) 1
 
 abbrev pub openerAt : List ℕ → ℕ → ℕ
 openerAt b i = openerFor (sizeIn b) b i
+
+-- the number of the clock at which tally i first had a quorum
+unfoldable pub sinceFor : Size → List ℕ → ℕ → ℕ
+sinceFor z b i = number b (placeOf tallyTable z i + 43) 4
+
+abbrev pub sinceAt : List ℕ → ℕ → ℕ
+sinceAt b i = sinceFor (sizeIn b) b i
 
 -- n records from record i on
 unfoldable pub rows : {A : Type 0} → (ℕ → A) → ℕ → ℕ → List A

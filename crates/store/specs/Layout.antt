@@ -21,9 +21,9 @@ statementFormat = (0, 4) ∷ (4, 4) ∷ (8, 32) ∷ (40, 1) ∷ (41, 1) ∷ (42,
 abbrev pub certificateFormat : Format
 certificateFormat = (0, 4) ∷ (4, 4) ∷ (8, 32) ∷ (40, 2) ∷ []
 
--- a certificate's numbers, then who opened the tally
+-- a certificate's numbers, then who opened the tally, then when it first had a quorum
 abbrev pub tallyFormat : Format
-tallyFormat = (0, 4) ∷ (4, 4) ∷ (8, 32) ∷ (40, 2) ∷ (42, 1) ∷ []
+tallyFormat = (0, 4) ∷ (4, 4) ∷ (8, 32) ∷ (40, 2) ∷ (42, 1) ∷ (43, 4) ∷ []
 
 abbrev pub maskFormat : Format
 maskFormat = (0, 2) ∷ []

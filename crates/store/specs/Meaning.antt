@@ -8,14 +8,15 @@ use Rattle.rules.specs.Limits.{maskBits}
 use Rattle.rules.specs.Sizes.{only}
 use Rattle.rules.specs.Words as words
 use Rattle.fields.specs.Records.{fields}
-use Rattle.settings.specs.Made.{sizeFrom}
+use Rattle.settings.specs.Made.{sizeFrom, settingsOf}
 use Rattle.store.specs.Layout.{headerFormat, sizeIn}
-use Rattle.store.specs.Decode.{phaseNumber, openerOf}
+use Rattle.store.specs.Decode.{phaseNumber, openerOf, reachedFrom}
 use Rattle.store.specs.declared.Cause.{Cause}
 use Rattle.store.specs.declared.Cause.the-variants.{Full, Split, Clock}
 use Rattle.store.specs.declared.Phase.{Phase}
 use Rattle.store.specs.declared.Phase.the-variants.{InView, Waiting, Stopped}
 use Rattle.store.specs.declared.Tally.{Tally}
+use Rattle.store.specs.declared.Moment.{Moment}
 use Rattle.store.specs.declared.Voters.{Voters}
 use Rattle.store.specs.declared.Voters.the-variants.{One, Mask}
 use Rattle.store.specs.declared.Station.{Station}
@@ -35,7 +36,11 @@ courseOf (Stopped c) = words.stopped (causeOf c)
 -- a record of the table
 unfoldable pub tallyOf : Tally → words.Tally
 unfolding nameOf
-tallyOf t = record { view = t .view; height = t .height; name = nameOf (t .name); mask = t .mask; opener = openerOf (t .opener) }
+tallyOf t = record { view = t .view; height = t .height; name = nameOf (t .name); mask = t .mask; opener = openerOf (t .opener); reached = reachedFrom (t .reached) }
+
+-- what a joining is told
+unfoldable pub momentOf : Moment → words.Moment
+momentOf k = record { settings = settingsOf (k .settings); clock = k .clock; opener = openerOf (k .opener) }
 
 -- who joins a tally, as a mask; one voter is a station that a mask has a bit for
 abbrev pub votersOf : Voters → ℕ

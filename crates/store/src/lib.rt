@@ -7,7 +7,7 @@ ghost use lib.ListN.{length};
 ghost use lib.Dec.{eqb};
 ghost use Rattle.rules.specs.Limits.{lastView, mostStatements, mostTallies, lastClock, leastOut, maskBits};
 ghost use Rattle.rules.specs.Sizes.{only};
-ghost use Rattle.rules.specs.Words.{sameStatement, certificateOf, opened, ofBlock, grown, join, joinCertificate, fresh};
+ghost use Rattle.rules.specs.Words.{sameStatement, reachedAt, certificateOf, opened, ofBlock, grown, join, joinCertificate, moment, fresh};
 ghost use Rattle.rules.specs.Inputs.{withPhase, withClock, entering, blamed};
 ghost use Rattle.fields.specs.Names.{nameOf};
 ghost use Rattle.fields.specs.Places.{number, put as written};
@@ -16,10 +16,10 @@ ghost use Rattle.settings.specs.Made.{sizeFrom, settingsOf};
 ghost use Rattle.wire.specs.Meaning.{statementOf};
 ghost use Rattle.words.specs.Meaning.{blockOf};
 ghost use Rattle.store.specs.Layout.{headerFormat, statementFormat, certificateFormat, tallyFormat, headerSize, statementSize, certificateSize, tallySize, statementTable, tallyTable, logTable, blameBase, storeLength, sizeIn, countOf, placeOf};
-ghost use Rattle.store.specs.Decode.{phaseOf, phaseNumber, kindNumber, openerOf, statementValues, certificateFrom, certificateValues, statementAt, tallyAt, openerAt, tallyValues, blameAt, nameAt, kindAt, voteAt, rows, statements, tallies, stateOf, headerValues, Form, Left};
-ghost use Rattle.store.specs.Meaning.{courseOf, tallyOf, votersOf, authorOf, Numbered, headerOf, Loads};
+ghost use Rattle.store.specs.Decode.{phaseOf, phaseNumber, kindNumber, openerOf, reachedFrom, statementValues, certificateFrom, certificateValues, statementAt, tallyAt, openerAt, sinceAt, tallyValues, blameAt, nameAt, kindAt, voteAt, rows, statements, tallies, stateOf, headerValues, Form, Left};
+ghost use Rattle.store.specs.Meaning.{courseOf, tallyOf, momentOf, votersOf, authorOf, Numbered, headerOf, Loads};
 ghost use Rattle.store.specs.Fresh.{answer, freshly};
-ghost use Rattle.store.specs.Changes.{firstFrom, blockAt, withVoters, growing, opening, joining, Joined, certifying, storing, noting, appending};
+ghost use Rattle.store.specs.Changes.{firstFrom, blockAt, withVoters, growing, Voted, opening, joining, Joined, certifying, storing, noting, appending};
 use fields::Name;
 use settings::Made;
 use settings::Settings;
@@ -64,7 +64,7 @@ const TALLIES: usize = STATEMENTS + STATEMENT_SIZE * Settings::MOST_STATEMENTS;
 
 const TALLIES_LARGE: usize = STATEMENTS + STATEMENT_SIZE * Settings::MOST_STATEMENTS_LARGE;
 
-pub const TALLY_SIZE: usize = OPENER + 1;
+pub const TALLY_SIZE: usize = REACHED + 4;
 
 const BLAMES: usize = TALLIES + TALLY_SIZE * Settings::MOST_TALLIES;
 
@@ -88,6 +88,8 @@ const NAME: usize = 8;
 const VOTERS: usize = 40;
 
 const OPENER: usize = 42;
+
+const REACHED: usize = 43;
 
 const KIND: usize = 40;
 
@@ -113,13 +115,21 @@ pub enum Phase {
     Stopped(Cause),
 }
 
-// A record of the table of tallies: a block of a view, with the mask of its voters, and who opened it: 0 nobody, else one more than
-// the author of the vote that did.
+// A record of the table of tallies: a block of a view, with the mask of its voters, who opened it (0 nobody, else one more than the
+// author of the vote that did), and when it first had a quorum (0 not yet, else one more than the clock).
 pub struct Tally {
     pub view: u32,
     pub height: u32,
     pub name: Name,
     pub mask: u16,
+    pub opener: u8,
+    pub reached: u32,
+}
+
+// What a joining is told: the settings, the clock, and who opens the tally if it is missing, as a record has it.
+pub struct Moment {
+    pub settings: Settings,
+    pub clock: u32,
     pub opener: u8,
 }
 
@@ -316,6 +326,7 @@ pub fn tally_at(store: &[u8], i: usize) -> Tally
 {
     let block = get_certificate(store, tally_place(store, i));
     let opener = opener_at(store, i);
+    let reached = reached_at(store, i);
     let name = block.name;
     Tally {
         view: block.view,
@@ -323,6 +334,7 @@ pub fn tally_at(store: &[u8], i: usize) -> Tally
         name,
         mask: block.mask,
         opener,
+        reached,
     }
 }
 
@@ -332,6 +344,14 @@ pub fn opener_at(store: &[u8], i: usize) -> u8
     ensures { λ r. ⌜ r ≡ openerAt (now (store .entry)) i ⌝ }
 {
     fields::get(store, tally_place(store, i) + OPENER, 1) as u8
+}
+
+// When tally i first had a quorum: 0 not yet, else one more than the clock.
+pub fn reached_at(store: &[u8], i: usize) -> u32
+    requires { ⌜ (length (now store) ≡ storeLength (sizeIn (now store))) × (i < mostTallies (sizeIn (now store))) ⌝ }
+    ensures { λ r. ⌜ r ≡ sinceAt (now (store .entry)) i ⌝ }
+{
+    get_four(store, tally_place(store, i) + REACHED)
 }
 
 // The kind of statement i, as on the wire: 1 new-view, 2 propose.
@@ -415,8 +435,8 @@ fn phase_number(phase: Phase) -> u64
 
 impl Tally {
     // A block's tally before anybody joins it, with who opens it.
-    pub fn empty(block: Certificate, opener: u8) -> Tally
-        ensures { λ r. ⌜ tallyOf r ≡ opened (openerOf opener) (withVoters 0 (blockOf block)) ⌝ }
+    pub fn empty(block: Certificate, moment: Moment) -> Tally
+        ensures { λ r. ⌜ tallyOf r ≡ opened (momentOf moment) (withVoters 0 (blockOf block)) ⌝ }
     {
         let name = block.name;
         Tally {
@@ -424,7 +444,8 @@ impl Tally {
             height: block.height,
             name,
             mask: 0,
-            opener,
+            opener: moment.opener,
+            reached: 0,
         }
     }
 
@@ -442,31 +463,52 @@ impl Tally {
     }
 
     // The tally with a voter's bit joined.
-    pub fn with_voter(self, station: u64) -> Tally
-        requires { ⌜ station < maskBits ⌝ }
-        ensures { λ r. ⌜ tallyOf r ≡ grown (tallyOf self) (only station) ⌝ }
+    pub fn with_voter(self, moment: Moment, station: u64) -> Tally
+        requires { ⌜ (moment .clock ≤ lastClock) × (station < maskBits) ⌝ }
+        ensures { λ r. ⌜ tallyOf r ≡ grown (momentOf moment) (tallyOf self) (only station) ⌝ }
     {
-        self.grown(settings::only(station) as u16)
+        self.grown(moment, settings::only(station) as u16)
     }
 
     // The tally with a mask joined.
-    pub fn grown(self, mask: u16) -> Tally
-        ensures { λ r. ⌜ tallyOf r ≡ grown (tallyOf self) mask ⌝ }
+    pub fn grown(self, moment: Moment, mask: u16) -> Tally
+        requires { ⌜ moment .clock ≤ lastClock ⌝ }
+        ensures { λ r. ⌜ tallyOf r ≡ grown (momentOf moment) (tallyOf self) mask ⌝ }
     {
+        let voters = self.mask | mask;
+        let reached = moment.reached(self.reached, voters);
         let mut tally = self;
-        tally.mask = tally.mask | mask;
+        tally.mask = voters;
+        tally.reached = reached;
         tally
     }
 
     // The tally with whoever joins it.
-    pub fn joined(self, voters: Voters) -> Tally
-        requires { ⌜ Numbered voters ⌝ }
-        ensures { λ r. ⌜ tallyOf r ≡ grown (tallyOf self) (votersOf voters) ⌝ }
+    pub fn joined(self, moment: Moment, voters: Voters) -> Tally
+        requires { ⌜ (moment .clock ≤ lastClock) × (Numbered voters) ⌝ }
+        ensures { λ r. ⌜ tallyOf r ≡ grown (momentOf moment) (tallyOf self) (votersOf voters) ⌝ }
     {
         match voters {
-            Voters::One(station) => self.with_voter(station),
-            Voters::Mask(mask) => self.grown(mask),
+            Voters::One(station) => self.with_voter(moment, station),
+            Voters::Mask(mask) => self.grown(moment, mask),
         }
+    }
+}
+
+impl Moment {
+    // The clock that a tally has kept stays; one that has none keeps the present one once this mask is a quorum.
+    fn reached(self, kept: u32, mask: u16) -> u32
+        requires { ⌜ self .clock ≤ lastClock ⌝ }
+        ensures { λ r. ⌜ reachedFrom r ≡ reachedAt (momentOf self) (reachedFrom kept) mask ⌝ }
+    {
+        if kept != 0 {
+            return kept;
+        }
+        let settings = self.settings;
+        if settings.quorum(mask as u64) {
+            return self.clock + 1;
+        }
+        0
     }
 }
 
@@ -615,6 +657,21 @@ pub fn note_vote(store: &mut [u8], i: usize, clock: u32)
     );
 }
 
+// What the store's station tells a joining.
+fn moment_in(store: &[u8], voters: Voters) -> Moment
+    requires { ⌜ (Form (now store)) × (Numbered voters) ⌝ }
+    ensures { λ r. ⌜ momentOf r ≡ moment (authorOf voters) (stateOf (now (store .entry))) ⌝ }
+{
+    let opener = voters.opener();
+    let station = Station::load(store);
+    let settings = station.settings;
+    Moment {
+        settings,
+        clock: station.clock,
+        opener,
+    }
+}
+
 // Writes a tally's record.
 fn put_tally(store: &mut [u8], at: usize, tally: Tally)
     requires { ⌜ at + tallySize ≤ length (now store) ⌝ }
@@ -622,6 +679,7 @@ fn put_tally(store: &mut [u8], at: usize, tally: Tally)
 {
     put_certificate(store, at, tally.certificate());
     fields::put(store, at + OPENER, 1, tally.opener as u64);
+    fields::put(store, at + REACHED, 4, tally.reached as u64);
 }
 
 // A tally is opened behind the others, at the place given back.
@@ -635,40 +693,43 @@ pub fn open_tally(store: &mut [u8], tally: Tally) -> usize
     count
 }
 
-// Tally i has its new mask.
-fn put_voters(store: &mut [u8], i: usize, mask: u16)
+// Tally i has its new mask and clock.
+fn put_voters(store: &mut [u8], i: usize, mask: u16, reached: u32)
     requires { ⌜ (Form (now store)) × (i < countOf tallyTable (now store)) ⌝ }
-    ensures { λ _. ⌜ (now (store .exit) ≡ written (now (store .entry)) (placeOf tallyTable (sizeIn (now (store .entry))) i + 40) 2 mask) × (mask < 256 ^ 2) ⌝ }
+    ensures { λ _. ⌜ Voted (now (store .entry)) i mask reached (now (store .exit)) ⌝ }
 {
-    fields::put(store, tally_place(store, i) + VOTERS, 2, mask as u64);
+    let at = tally_place(store, i);
+    fields::put(store, at + VOTERS, 2, mask as u64);
+    fields::put(store, at + REACHED, 4, reached as u64);
 }
 
 // Whoever joins tally i.
-fn join_at(store: &mut [u8], i: usize, voters: Voters)
-    requires { ⌜ (Form (now store)) × (i < countOf tallyTable (now store)) × (Numbered voters) ⌝ }
-    ensures { λ _. ⌜ Left (now (store .exit)) (growing i (votersOf voters) (stateOf (now (store .entry)))) ⌝ }
+fn join_at(store: &mut [u8], i: usize, moment: Moment, voters: Voters)
+    requires { ⌜ (Form (now store)) × (i < countOf tallyTable (now store)) × (moment .clock ≤ lastClock) × (Numbered voters) ⌝ }
+    ensures { λ _. ⌜ Left (now (store .exit)) (growing (momentOf moment) i (votersOf voters) (stateOf (now (store .entry)))) ⌝ }
 {
-    let tally = tally_at(store, i).joined(voters);
-    put_voters(store, i, tally.mask);
+    let tally = tally_at(store, i).joined(moment, voters);
+    put_voters(store, i, tally.mask, tally.reached);
 }
 
 // Whoever joins the tally of a block, opened if missing, as a search found it; gives back where it now stands.
 pub fn join_found(store: &mut [u8], block: Certificate, place: Found, voters: Voters) -> usize
-    requires { ⌜ (Form (now store)) × (length (join (authorOf voters) (withVoters (votersOf voters) (blockOf block)) (tallies (now store))) ≤ mostTallies (sizeIn (now store))) × (place ≡ blockAt (blockOf block) (tallies (now store))) × (Numbered voters) ⌝ }
+    requires { ⌜ (Form (now store)) × (length (join (moment (authorOf voters) (stateOf (now store))) (withVoters (votersOf voters) (blockOf block)) (tallies (now store))) ≤ mostTallies (sizeIn (now store))) × (place ≡ blockAt (blockOf block) (tallies (now store))) × (stateOf (now store) .clock ≤ lastClock) × (Numbered voters) ⌝ }
     ensures { λ r. ⌜ Joined (authorOf voters) (withVoters (votersOf voters) (blockOf block)) (stateOf (now (store .entry))) (now (store .exit)) r ⌝ }
 {
+    let moment = moment_in(store, voters);
     match place {
         Found::At(i) => {
-            join_at(store, i, voters);
+            join_at(store, i, moment, voters);
             i
         }
-        Found::Nothing => open_tally(store, Tally::empty(block, voters.opener()).joined(voters)),
+        Found::Nothing => open_tally(store, Tally::empty(block, moment).joined(moment, voters)),
     }
 }
 
 // A certificate's mask joins the tally of its block, with the search.
 fn join_tally(store: &mut [u8], certificate: Certificate)
-    requires { ⌜ (Form (now store)) × (length (join none (blockOf certificate) (tallies (now store))) ≤ mostTallies (sizeIn (now store))) ⌝ }
+    requires { ⌜ (Form (now store)) × (length (join (moment none (stateOf (now store))) (blockOf certificate) (tallies (now store))) ≤ mostTallies (sizeIn (now store))) × (stateOf (now store) .clock ≤ lastClock) ⌝ }
     ensures { λ _. ⌜ Left (now (store .exit)) (joining none (blockOf certificate) (stateOf (now (store .entry)))) ⌝ }
 {
     let place = find_tally(store, certificate);
@@ -677,7 +738,7 @@ fn join_tally(store: &mut [u8], certificate: Certificate)
 
 // The same, but that genesis has no tally in view 0.
 pub fn join_certificate(store: &mut [u8], certificate: Certificate)
-    requires { ⌜ (Form (now store)) × (length (joinCertificate none (blockOf certificate) (tallies (now store))) ≤ mostTallies (sizeIn (now store))) ⌝ }
+    requires { ⌜ (Form (now store)) × (length (joinCertificate (moment none (stateOf (now store))) (blockOf certificate) (tallies (now store))) ≤ mostTallies (sizeIn (now store))) × (stateOf (now store) .clock ≤ lastClock) ⌝ }
     ensures { λ _. ⌜ Left (now (store .exit)) (certifying none (blockOf certificate) (stateOf (now (store .entry)))) ⌝ }
 {
     if certificate.view != 0 {

@@ -1,28 +1,51 @@
 -- A tally as the code tests it. Assumes nothing.
-use Prim.Native.Nat.{ℕ, zero, suc, _-_, _^_, _<_, _≤_}
+use Prim.Native.Nat.{ℕ, zero, suc, _+_, _-_, _^_, _<_, _≤_}
 use mathlib.Core.Path.{_≡_, refl, ap, _∙_}
-use mathlib.Core.Bool.{Bool, true, false, _&&_, and-true}
+use mathlib.Core.Bool.{Bool, true, false, not, _&&_, and-true}
+use native.Mathlib.Nat.{add-zero}
+use Rattle.rules.specs.Limits.{lastHeight}
+use Rattle.rules.specs.Lists.{iff}
+use Rattle.fields.specs.Places.{Bytes, number}
+use Rattle.fields.proofs.Laws.{number-lt}
+use mathlib.Core.List.{List}
+use Rattle.store.specs.Layout.{sizeIn, tallyTable, placeOf}
+use Rattle.store.specs.Decode.{openerOf, reachedFrom, tallyAt, tallyFor, openerAt, openerFor, sinceAt, sinceFor}
 use native.Mathlib.Omega.{arith}
-use lib.Dec.{ltb}
+use lib.Dec.{leb, ltb, eqb}
 use borrow.Author.Tests.{lt-ltb, le-ltb}
-use Rattle.rules.specs.Sizes.{holds}
+use Rattle.rules.specs.Sizes.{holds, quorum}
 use Rattle.rules.specs.Messages.{viewAllowed, blockAllowed}
-use Rattle.rules.specs.Words.{opened}
-use Rattle.rules.specs.WellFormed.{isMask, openerGood, tallyGood}
-use Rattle.fields.specs.Names.{nameOf}
-use Rattle.fields.specs.Places.{number}
-use Rattle.fields.proofs.Names.{Words}
+use Rattle.rules.specs.WellFormed.{isName, isMask, openerGood, reachedGood, tallyGood}
 use Rattle.settings.specs.Made.{settingsOf}
 use Rattle.settings.specs.declared.Settings.{Settings}
-use Rattle.store.specs.Decode.{openerOf}
-use Rattle.store.specs.Meaning.{tallyOf}
-use Rattle.store.specs.declared.Tally.{Tally}
-use Rattle.heading.proofs.Parts.{words-name}
 
-pub tally-is : (g : Settings) (t : Tally) → Words (t .name)
-    → (viewAllowed (settingsOf g) (t .view) && blockAllowed (t .height) (nameOf (t .name)) && ltb (t .mask) (2 ^ g .n) && openerGood (settingsOf g) (t .mask) (openerOf (t .opener))) ≡ tallyGood (settingsOf g) (tallyOf t)
-unfolding tallyGood tallyOf isMask
-tally-is g t w = rw (words-name (t .name) w, and-true)
+stored-name : (b : List ℕ) → Bytes b → (at : ℕ) → isName (number b at 32) ≡ true
+unfolding isName
+stored-name b bytes at = lt-ltb _ _ (number-lt b bytes at 32)
+
+-- by the numbers of its record
+module _ (g : Settings) (now : ℕ) (b : List ℕ) (bytes : Bytes b) (i at : ℕ) (e : at ≡ placeOf tallyTable (sizeIn b) i) where
+  pub tally-is : (view height mask opener reached : ℕ) (bare : Bool) → view ≡ number b at 4 → height ≡ number b (at + 4) 4 → bare ≡ eqb (number b (at + 8) 32) 0 → mask ≡ number b (at + 40) 2
+      → opener ≡ openerAt b i → reached ≡ sinceAt b i
+      → (viewAllowed (settingsOf g) view && (leb height lastHeight && iff (eqb height 0) bare) && ltb mask (2 ^ g .n) && openerGood (settingsOf g) mask (openerOf opener)
+      && reachedGood (settingsOf g) now mask (reachedFrom reached)) ≡ tallyGood (settingsOf g) now (tallyAt b i)
+  unfolding tallyGood blockAllowed isMask tallyFor openerFor sinceFor
+  tally-is view height mask opener reached bare p q z m o r =
+      rw (p, q, z, m, o, r, e, add-zero (placeOf tallyTable (sizeIn b) i), stored-name b bytes (placeOf tallyTable (sizeIn b) i + 8), and-true)
+
+-- the clock of the first quorum, by the record's number
+module _ (g : Settings) (now m k : ℕ) where
+  pub reached-none : k ≡ 0 → not (quorum (settingsOf g) m) ≡ reachedGood (settingsOf g) now m (reachedFrom k)
+  unfolding reachedGood
+  reached-none e = rw e
+
+  pub reached-some : (k ≡ 0 → ⊥) → (quorum (settingsOf g) m && leb (k - 1) now) ≡ reachedGood (settingsOf g) now m (reachedFrom k)
+  unfolding reachedGood
+  reached-some d = go k refl
+    where
+      go : (j : ℕ) → k ≡ j → (quorum (settingsOf g) m && leb (k - 1) now) ≡ reachedGood (settingsOf g) now m (reachedFrom j)
+      go zero e = absurd (d e)
+      go (suc c) e = let f : k - 1 ≡ c = omega arith in rw f
 
 -- who opened a tally, by the record's number
 module _ (g : Settings) (m k : ℕ) where

@@ -2,18 +2,18 @@
 -- store before its clock moves on. Assumes nothing.
 use Prim.Native.Nat.{ℕ, suc, _+_, _-_, _*_, _≤_, _<_}
 use mathlib.Core.Path.{_≡_, refl, sym, ap, _∙_, subst}
-use mathlib.Core.Bool.{Bool, true, false, not}
-use mathlib.Core.List.{List, append-assoc}
+use mathlib.Core.Bool.{Bool, true, false, not, _&&_}
+use mathlib.Core.List.{List, [], _∷_, _++_, append-assoc}
 use mathlib.Core.Option.{none, some, Option·map, Option·some-injective}
 use native.Mathlib.Omega.{arith}
-use lib.Dec.{eqb, lit≤}
+use lib.Dec.{leb, eqb, lit≤}
 use lib.ListN.{length, drop, length-drop}
 use borrow.Author.Tests.{eq-eqb, ne-eqb, not-true, not-false}
-use Rattle.rules.specs.Limits.{Size, small, large, mostStatements, lastClock, leastOut, mostStatementsLarge}
+use Rattle.rules.specs.Limits.{Size, small, large, mostStatements, mostTallies, lastClock, leastOut, mostStatementsLarge}
 use Rattle.rules.specs.Lists.{any}
 use Rattle.rules.specs.Sizes.{Settings}
 use Rattle.rules.specs.Words as words
-use Rattle.rules.specs.Words.{Statement, sameStatement, message, State, clock, split}
+use Rattle.rules.specs.Words.{Statement, sameStatement, message, ownBlock, certificate, State, moment, clock, split}
 use Rattle.rules.specs.Inputs.{Work, saying, _▸_, withClock, withTables, withLog, isIn, certificateJoined, stored, statement, leads, due, commits, logging, complain, leadsNow, ownNewView, lead, enter, ticked}
 use Rattle.rules.specs.Refusals.{refused, stopping, hasRoom, ifRoom, running, tick}
 use Rattle.rules.specs.WellFormed.{linked}
@@ -46,6 +46,7 @@ use Rattle.turns.proofs.Moments.{clock-leads}
 use Rattle.turns.proofs.Names.{grown-length, gained-log, gained-enough}
 use Rattle.turns.proofs.Parts.{left-size, works-then}
 use Rattle.turns.proofs.Room.{lead-complained, lead-logged, tick-room}
+use Rattle.ticks.proofs.Clocks.{certificate-length, both-length}
 use Rattle.refusals.specs.Answers.{Answers, Mutely}
 use Rattle.ticks.specs.Turns.{later, moving, turning}
 use Rattle.refusals.proofs.Answers.{answers-is}
@@ -70,11 +71,15 @@ module _ (s : State) where
 
   joined-later : (x : Statement) → hasRoom (certificateJoined x s) ≡ hasRoom (certificateJoined x (later s))
   unfolding later withClock certificateJoined withTables hasRoom
-  joined-later x = refl
+  joined-later x =
+      ap (λ (n : ℕ). leb (length (s .statements)) (mostStatements (s .settings .size)) && leb n (mostTallies (s .settings .size)))
+      (certificate-length (moment none s) (moment none (later s)) (certificate x) (ownBlock x 0) (s .tallies))
 
   stored-later : (x : Statement) → hasRoom (stored x s) ≡ hasRoom (stored x (later s))
   unfolding later withClock stored withTables hasRoom
-  stored-later x = refl
+  stored-later x =
+      ap (λ (n : ℕ). leb (length (s .statements ++ x ∷ [])) (mostStatements (s .settings .size)) && leb n (mostTallies (s .settings .size)))
+      (both-length (moment none s) (moment none (later s)) (certificate x) (ownBlock x 0) (s .tallies))
 
   later-statements : later s .statements ≡ s .statements
   unfolding later withClock

@@ -141,4 +141,4 @@ module _ {b : List ℕ} (k : Formed b) (q : entersNow (stateOf b) ≡ true) wher
       let f = formed-parts k .formed in
       let l = enters-at s q .2 in
       left-formed (w .left)
-      (entering-formed f (s .view + 1) (nextLock s) (omega arith) (omega arith) (highest-good (s .settings) (s .view + 1) (s .tallies) (omega arith) (f .tables .tallies)))
+      (entering-formed f (s .view + 1) (nextLock s) (omega arith) (omega arith) (highest-good (s .settings) (s .clock) (s .view + 1) (s .tallies) (omega arith) (f .tables .tallies)))

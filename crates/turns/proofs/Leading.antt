@@ -50,7 +50,7 @@ own-sendable : {s : State} → kept.Formed s → leads s ≡ true → Sendable (
 unfolding ownNewView allowed
 own-sendable {s} f e =
     let t = highest (s .settings) (s .view) (s .tallies) in
-    let c = highest-good (s .settings) (s .view) (s .tallies) (view-within (s .settings) (s .view) (f .view) .0) (f .tables .tallies) in
+    let c = highest-good (s .settings) (s .clock) (s .view) (s .tallies) (view-within (s .settings) (s .view) (f .view) .0) (f .tables .tallies) in
     let o = eq-eqb (s .settings .own) (leader (s .settings) (s .view)) (leads-own s e) in
     sendable (newView (s .view) (t .height) (t .name) (t .view) (t .mask) (s .settings .own)) (sizes-of f)
     (both (both (both (both (f .view) (c .block)) (lt-ltb (t .view) (s .view) (c .earlier))) (c .isAllowed)) o) (c .name)

@@ -11,7 +11,7 @@ use borrow.Author.Tests.{eqb-true, leb-true}
 use Rattle.rules.specs.Lists.{first, any}
 use Rattle.rules.specs.Sizes.{only, holds}
 use Rattle.rules.specs.Messages.{Effect, toAll, blameSet}
-use Rattle.rules.specs.Words.{Statement, sameStatement, conflict, ownBlock, ofBlock, highest, State}
+use Rattle.rules.specs.Words.{Statement, sameStatement, conflict, ownBlock, ofBlock, highest, State, moment}
 use Rattle.rules.specs.Inputs.{Work, saying, _▸_, withPhase, withTables, withBlames, withLog, isIn, quit, belowLock, votedFor, voting, certificateJoined, stored, statement, handled, blamesOf, blamed, blameFull, blaming, leads, logging, votes, overdue, complain, leadsNow, ownNewView, lead, entersNow, nextLock, entering, entered, current, pair, inOrder, votingAll, arrive, enter}
 use Rattle.rules.specs.Refusals.{hasRoom}
 use Rattle.rules.specs.WellFormed.{talliesThere, linked}
@@ -51,7 +51,7 @@ voting-opened : (x y : Statement) (s : State) → Opened s y → Opened (voting 
 unfolding voting saying votedFor withTables
 voting-opened x y s h =
     by-bool (belowLock x s) (λ q. rw (q, voting) h)
-    (λ q. rw (q, voting) (join-any none (ownBlock x (only (s .settings .own))) (ownBlock y 0) (s .tallies) h))
+    (λ q. rw (q, voting) (join-any (moment none s) (ownBlock x (only (s .settings .own))) (ownBlock y 0) (s .tallies) h))
 
 still-opened : (x : Statement) (xs : List Statement) (s : State) → Each (Opened s) xs → Each (Opened (voting x s .now)) xs
 still-opened x [] s h = tt

@@ -148,6 +148,14 @@ impl Look<'_> {
             && Self::block(four(s, at + 4), name(s, at + 8))
             && u64::from(two(s, at + 40)) < 1 << self.n
             && self.opener(two(s, at + 40), s[at + 42])
+            && self.reached(two(s, at + 40), four(s, at + 43))
+    }
+
+    /// Whether the clock at which a tally first had f+1 voters is there exactly when it has them, and not
+    /// after the present one.
+    fn reached(&self, mask: u16, reached: u32) -> bool {
+        let has_quorum = u64::from(mask.count_ones()) > self.n / 2;
+        has_quorum == (reached > 0) && reached <= four(self.s, 16) + 1
     }
 
     /// Whether who opened a tally by a vote is one of these stations, and among its voters.

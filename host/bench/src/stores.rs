@@ -38,7 +38,7 @@ fn put(s: &mut [u8], at: usize, width: usize, value: usize) {
 }
 
 fn random(i: usize, word: usize) -> [u8; 8] {
-    let mut x = ((i * 8 + word) as u64).wrapping_mul(0x9e37_79b9_7f4a_7c15);
+    let mut x = ((i * 8 + word + 1) as u64).wrapping_mul(0x9e37_79b9_7f4a_7c15);
     x = (x ^ x >> 30).wrapping_mul(0xbf58_476d_1ce4_e5b9);
     x = (x ^ x >> 27).wrapping_mul(0x94d0_49bb_1331_11eb);
     (x ^ x >> 31).to_be_bytes()
@@ -139,6 +139,7 @@ pub fn store(
         put(&mut s, at + 4, 4, *height);
         s[at + 8..at + 40].copy_from_slice(name);
         put(&mut s, at + 40, 2, 3);
+        put(&mut s, at + 43, 4, 1);
     }
     put(&mut s, 62, 2, said.len());
     put(&mut s, 64, 2, kept.len());

@@ -23,7 +23,7 @@ pub enum Size {
 /// Bytes of a store's header, and of one record of each of its tables: docs/STORE.md.
 pub const HEADER: usize = 68;
 pub const STATEMENT: usize = 80;
-pub const TALLY: usize = 43;
+pub const TALLY: usize = 47;
 pub const BLAME: usize = 2;
 pub const NAME: usize = 32;
 

@@ -4,6 +4,7 @@ use Rattle.store.proofs.Joining.{certificate-joins, certified-some, certified-n
 use Rattle.words.specs.Meaning.{blockOf}
 use Rattle.store.specs.Decode.{tallies, stateOf}
 use mathlib.Core.Path.{_∙_}
+use Rattle.rules.specs.Words.{moment}
 use borrow.Author.Needs.{needs}
 use Rattle.store.specs.Changes.{withVoters}
 use Rattle.store.specs.Meaning.{votersOf, authorOf}
@@ -18,7 +19,7 @@ join-found-requires c κs =
     let t = blockOf (a .block) in
     let ts = tallies (a .store .now) in
     let d = c .before .if1 .taken in
-    (start .pre .0, rw (← certificate-joins (authorOf (a .voters)) (withVoters (votersOf (a .voters)) t) ts d) (start .pre .1), start .pre .2 ∙ certified-block t ts d, start .pre .3)
+    (start .pre .0, rw (← certificate-joins (moment (authorOf (a .voters)) (stateOf (a .store .now))) (withVoters (votersOf (a .voters)) t) ts d) (start .pre .1), start .pre .2 ∙ certified-block t ts d, start .pre .4, start .pre .3)
 
 same-length : tie.Need-same-length
 same-length c = search needs

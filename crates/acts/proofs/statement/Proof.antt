@@ -6,6 +6,7 @@ use Rattle.acts.proofs.Places.{sendable-certifies}
 use Rattle.acts.proofs.Works.{formed-parts, left-formed, works-is, works-none}
 use Rattle.acts.specs.Answers.{answered}
 use Rattle.acts.specs.declared.Plan.the-variants.{Repeat, New, Full}
+use Rattle.kept.proofs.Facts.{clocks-of}
 use Rattle.kept.proofs.Tables.{stored-formed}
 use Rattle.rules.proofs.Tests.{no-bool}
 use Rattle.store.proofs.Loaded.{loaded-statements}
@@ -33,7 +34,7 @@ join-certificate-requires c κs =
     let start = c .before .before .before .before .before .before in
     let x = statementOf (start .args .x) none in
     let repeats = plan-tells x (stateOf (start .args .store .now)) Repeat (sym (c .before .before .enum-told .given .1) ∙ start .pre .3) in
-    (start .pre .0 .form, repeat-fits (start .pre .0) x (blockOf (c .certificate-of .result)) (c .certificate-of .ensures) repeats)
+    (start .pre .0 .form, repeat-fits (start .pre .0) x (blockOf (c .certificate-of .result)) (c .certificate-of .ensures) repeats, clocks-of (formed-parts (start .pre .0) .formed) .last)
 
 enum-known-plan : tie.Need-enum-known-plan
 enum-known-plan c = search needs
@@ -45,7 +46,7 @@ load-requires c κs =
 store-new-requires : tie.Need-store-new-requires
 store-new-requires c κs =
     let start = c .before .before .before .before .before .before .before .before in
-    (start .pre .0 .form, start .pre .1, plan-tells (statementOf (start .args .x) none) (stateOf (start .args .store .now)) (New _ _) (sym (c .before .before .before .before .plan .given .1) ∙ start .pre .3))
+    (start .pre .0 .form, start .pre .1, plan-tells (statementOf (start .args .x) none) (stateOf (start .args .store .now)) (New _ _) (sym (c .before .before .before .before .plan .given .1) ∙ start .pre .3), clocks-of (formed-parts (start .pre .0) .formed) .last)
 
 answer-requires : tie.Need-answer-requires
 answer-requires c κs =

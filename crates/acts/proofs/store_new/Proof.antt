@@ -1,5 +1,5 @@
 -- `acts::store_new` meets its contract. Assumes nothing.
-use Rattle.acts.proofs.Statements.{certificate-fits, certificate-found, own-fits, own-found, one-more-fits, new-stored}
+use Rattle.acts.proofs.Statements.{certificate-fits, certificate-found, certified-clock, own-fits, own-found, one-more-fits, new-stored}
 use Rattle.store.specs.Changes.{withVoters}
 use Rattle.acts.proofs.Places.{voter-block, sendable-certifies}
 use Rattle.rules.specs.Words.{ownBlock}
@@ -25,7 +25,7 @@ join-certified-requires c κs =
     let x = statementOf (start .args .x) none in
     let certificate = c .before .certificate-of in
     let t = blockOf (certificate .result) in
-    (start .pre .0, certificate-fits b x (start .pre .1) t (ownBlock x 0) (certificate .ensures) refl (start .pre .2), certificate-found b x (start .pre .1) t (ownBlock x 0) (certificate .ensures) refl (start .pre .2), tt)
+    (start .pre .0, certificate-fits b x (start .pre .1) t (ownBlock x 0) (certificate .ensures) refl (start .pre .2), certificate-found b x (start .pre .1) t (ownBlock x 0) (certificate .ensures) refl (start .pre .2), tt, start .pre .3)
 
 own-block-requires : tie.Need-own-block-requires
 own-block-requires c κs = search needs
@@ -40,8 +40,13 @@ join-found-requires c κs =
     let joined = c .before .before .before .before .join-certified in
     let t = blockOf (certificate .result) in
     let u = blockOf (c .own-block .result) in
-    let e = voter-block x 0 (c .own-block .ensures) in
-    (joined .ensures .form, own-fits b x (start .pre .1) t (withVoters 0 u) (certificate .ensures) e (start .pre .2) (joined .ensures), own-found b x (start .pre .1) t u (certificate .ensures) (c .own-block .ensures) (start .pre .2) (joined .ensures), tt)
+    let e = voter-block x 0 (c .own-block .ensures) in (
+      joined .ensures .form,
+      own-fits b x (start .pre .1) t (withVoters 0 u) (certificate .ensures) e (start .pre .2) (joined .ensures),
+      own-found b x (start .pre .1) t u (certificate .ensures) (c .own-block .ensures) (start .pre .2) (joined .ensures),
+      certified-clock b x (start .pre .1) t u (certificate .ensures) (c .own-block .ensures) (start .pre .2) (joined .ensures) (start .pre .3),
+      tt,
+    )
 
 append-statement-requires : tie.Need-append-statement-requires
 unfolding blockOf

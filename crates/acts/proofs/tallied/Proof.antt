@@ -41,7 +41,7 @@ join-certified-requires : tie.Need-join-certified-requires
 join-certified-requires c κs =
     let start = c .before .before .before .before .before .before .before .before .before in
     let load = c .before .before .before .before .before .before .load in
-    (start .pre .0, tallied-fits (start .pre .0) (authorOf (start .args .voters)) (blockOf (start .args .block)) (votersOf (start .args .voters)) (start .args .place) (start .pre .1) _ (ap₂ _+_ (loaded-tallies (load .result) (start .args .store .now) (load .ensures)) (c .before .before .before .needed .ensures)) (omega (arith, c .before .if1 .left, c .before .before .before .before .most-tallies-in .ensures)), start .pre .1, start .pre .2)
+    (start .pre .0, tallied-fits (start .pre .0) (authorOf (start .args .voters)) (blockOf (start .args .block)) (votersOf (start .args .voters)) (start .args .place) (start .pre .1) _ (ap₂ _+_ (loaded-tallies (load .result) (start .args .store .now) (load .ensures)) (c .before .before .before .needed .ensures)) (omega (arith, c .before .if1 .left, c .before .before .before .before .most-tallies-in .ensures)), start .pre .1, start .pre .2, start .pre .3)
 
 same-length-2 : tie.Need-same-length-2
 same-length-2 c = search needs

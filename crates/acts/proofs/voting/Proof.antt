@@ -2,7 +2,7 @@
 use Rattle.fields.specs.Names.{nameOf}
 use Rattle.acts.proofs.Votes.{voting-below, voting-cast, ballot-is, loaded-own, own-small, loaded-below}
 use Rattle.store.specs.Changes.{withVoters}
-use Rattle.acts.proofs.Places.{voter-block, sendable-certifies, sendable-linked, place-sendable, place-voted, place-room, place-found}
+use Rattle.acts.proofs.Places.{voter-block, sendable-certifies, sendable-linked, place-sendable, place-voted, place-room, place-clock, place-found}
 use Rattle.acts.proofs.Works.{formed-parts, ballot-bytes, works-is, works-none, works-saying}
 use Rattle.kept.proofs.Facts.{clocks-of}
 use Rattle.store.proofs.Loaded.{loaded-clock}
@@ -56,7 +56,7 @@ join-found-requires c κs =
     let block = c .own-block in
     let m = only (load .result .settings .own) in
     let own = own-small (p .0) (load .result) (load .ensures) in
-    (vote .ensures .form, place-room (p .0) (p .1) (some (load .result .settings .own)) _ m (withVoters m (blockOf (block .result))) (voter-block x m (block .ensures)) (vote .ensures), place-found (p .0) (p .1) _ _ (blockOf (block .result)) _ (block .ensures) (p .2) (vote .ensures), own)
+    (vote .ensures .form, place-room (p .0) (p .1) _ _ m (withVoters m (blockOf (block .result))) (voter-block x m (block .ensures)) (vote .ensures), place-found (p .0) (p .1) _ _ (blockOf (block .result)) _ (block .ensures) (p .2) (vote .ensures), place-clock (p .0) (p .1) _ (vote .ensures), own)
 
 cast-t24 : tie.Need-cast-t24
 cast-t24 c =

@@ -21,7 +21,7 @@ distinct-requires c κs = search needs
 -- src/lib.rt:32:9
 returns : tie.Need-returns
 returns c =
-    tables-not _ _ _ (c .before .distinct .ensures .is) (c .if1 .taken)
+    tables-not _ _ _ _ (c .before .distinct .ensures .is) (c .if1 .taken)
 
 -- src/lib.rt:34:5
 all-good-requires : tie.Need-all-good-requires
@@ -49,7 +49,7 @@ few-opened-requires c κs = search needs
 returns-2 : tie.Need-returns-2
 returns-2 c =
     rw (c .before .before .before .before .before .before .all-good .ensures, c .before .before .before .all-there .ensures, c .before .before .all-good2 .ensures, c .before .is-linked .ensures, c .few-opened .ensures)
-    (tables-then (settingsOf (c .before .before .before .before .before .before .before .before .before .before .before .before .before .args .station .settings)) _ _ (c .before .before .before .before .before .before .before .before .distinct .ensures .is) (c .before .before .before .before .before .before .before .if1 .left))
+    (tables-then (settingsOf (c .before .before .before .before .before .before .before .before .before .before .before .before .before .args .station .settings)) _ _ _ (c .before .before .before .before .before .before .before .before .distinct .ensures .is) (c .before .before .before .before .before .before .before .if1 .left))
 
 pub tables-good-spec : {M : Type 1} → statement M
 tables-good-spec =

@@ -5,6 +5,8 @@ use Rattle.words.specs.Meaning.{blockOf}
 use Rattle.store.specs.Decode.{stateOf}
 use Rattle.refusals.proofs.Answers.{answers-is}
 use Rattle.messages.proofs.Handling.{stated-handled, vote-handled, status-handled, blame-handled, set-handled, stated-sendable, vote-author, blame-author, set-mask}
+use Rattle.kept.proofs.Facts.{clocks-of}
+use Rattle.acts.proofs.Works.{formed-parts}
 use borrow.Author.Needs.{needs}
 use Rattle.messages.proofs.handled.Statement.{statement}
 use Rattle.messages.proofs.handled.Tie as tie
@@ -28,7 +30,7 @@ unfolding blockOf
 voted-requires c κs =
     let p = c .before .before .before .before .before .before .pre in
     let t = vote-author (p .0) (p .1) (c .before .before .message2 .given .1) in
-    (p .0 .form, t .0, omega (arith, t .1))
+    (p .0 .form, t .0, omega (arith, t .1), clocks-of (formed-parts (p .0) .formed) .last)
 
 enum-known-message-3 : tie.Need-enum-known-message-3
 enum-known-message-3 c = search needs
@@ -61,7 +63,7 @@ find-certificate-requires c κs = search needs
 counted-requires : tie.Need-counted-requires
 counted-requires c κs =
     let p = c .before .before .before .before .before .before .before .before .pre in
-    (p .0 .form, c .before .find-certificate .ensures, tt)
+    (p .0 .form, c .before .find-certificate .ensures, tt, clocks-of (formed-parts (p .0) .formed) .last)
 
 same-length : tie.Need-same-length
 same-length c = search needs

@@ -28,7 +28,7 @@ returns c =
 counted-requires : tie.Need-counted-requires
 counted-requires c κs =
     let start = c .before .before .before .before .before .before .before in
-    (start .pre .0, c .before .before .before .before .find-certificate .ensures, start .pre .2)
+    (start .pre .0, c .before .before .before .before .find-certificate .ensures, start .pre .2, start .pre .3)
 
 same-length-2 : tie.Need-same-length-2
 same-length-2 c = search needs

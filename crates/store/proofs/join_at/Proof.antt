@@ -1,7 +1,7 @@
--- `join_at` meets its contract: the mask of a record changes. Assumes nothing.
+-- `join_at` meets its contract: the mask and the clock of a record change. Assumes nothing.
 use native.Mathlib.Omega.{arith}
 use borrow.Author.Needs.{needs}
-use Rattle.store.specs.Meaning.{votersOf}
+use Rattle.store.specs.Meaning.{votersOf, momentOf}
 use Rattle.store.proofs.Changes.{grown-at}
 use Rattle.store.proofs.Forms.{form-long, form-tallies}
 use Rattle.store.proofs.join_at.Statement.{statement}
@@ -28,7 +28,7 @@ returns c =
     let after-tally-at = after-joined .before in
     let start = after-tally-at .before .before .before in
     let a = start .args in
-    grown-at (a .store .now) (start .pre .0) (a .i) (votersOf (a .voters)) (after-tally-at .tally-at .result) (after-joined .joined .result) (start .pre .1) (after-tally-at .tally-at .ensures) (after-joined .joined .ensures) (after-put .put-voters .ensures .0) (after-put .put-voters .ensures .1)
+    grown-at (a .store .now) (start .pre .0) (momentOf (a .moment)) (a .i) (votersOf (a .voters)) (after-tally-at .tally-at .result) (after-joined .joined .result) (start .pre .1) (after-tally-at .tally-at .ensures) (after-joined .joined .ensures) (after-put .put-voters .ensures)
 
 pub join-at-spec : {M : Type 1} → statement M
 join-at-spec =

@@ -3,6 +3,7 @@ use Rattle.store.proofs.Joining.{certificate-joins, certified-some, cer
 use Rattle.words.specs.Meaning.{blockOf}
 use Rattle.store.specs.Decode.{tallies, stateOf}
 use mathlib.Core.Option.{none}
+use Rattle.rules.specs.Words.{moment}
 use borrow.Author.Needs.{needs}
 use Rattle.store.proofs.join_certificate.Statement.{statement}
 use Rattle.store.proofs.join_certificate.Tie as tie
@@ -11,7 +12,7 @@ join-tally-requires : tie.Need-join-tally-requires
 unfolding blockOf
 join-tally-requires c κs =
     let start = c .before .before .before .before in
-    (start .pre .0, rw (← certificate-joins none (blockOf (start .args .certificate)) (tallies (start .args .store .now)) (c .before .if1 .taken)) (start .pre .1))
+    (start .pre .0, rw (← certificate-joins (moment none (stateOf (start .args .store .now))) (blockOf (start .args .certificate)) (tallies (start .args .store .now)) (c .before .if1 .taken)) (start .pre .1), start .pre .2)
 
 same-length : tie.Need-same-length
 same-length c = search needs

@@ -11,7 +11,7 @@ join-found-requires : tie.Need-join-found-requires
 unfolding blockOf
 join-found-requires c κs =
     let start = c .before .before .before .before in
-    (start .pre .0, start .pre .1, c .before .find-tally .ensures, tt)
+    (start .pre .0, start .pre .1, c .before .find-tally .ensures, start .pre .2, tt)
 
 same-length : tie.Need-same-length
 same-length c = search needs

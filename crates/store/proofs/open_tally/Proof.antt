@@ -45,7 +45,7 @@ returns c =
     let name = name-lt (a .tally .name) (n .0 .1) (n .1 .0 .1) (n .1 .1 .0 .1) (n .1 .1 .1 .0 .1) in (
       after-get-count .get-count .ensures .0,
       rw (after-put .put .ensures, after-put-tally .put-tally .ensures, after-tally-place .tally-place .ensures .0, after-get-count .get-count .ensures .0)
-          (add-tally (a .store .now) (start .pre .0) (tallyOf (a .tally)) (start .pre .1) (tally-fits (a .tally) (g .0 .1) (g .1 .0 .1) name (g .1 .1 .1 .0 .1) (g .1 .1 .1 .1 .0 .1))),
+          (add-tally (a .store .now) (start .pre .0) (tallyOf (a .tally)) (start .pre .1) (tally-fits (a .tally) (g .0 .1) (g .1 .0 .1) name (g .1 .1 .1 .0 .1) (g .1 .1 .1 .1 .0 .1) (g .1 .1 .1 .1 .1 .0 .1))),
     )
 
 pub open-tally-spec : {M : Type 1} → statement M

@@ -1,4 +1,4 @@
--- `opener_at` meets its contract: the last byte of the record of place i. Assumes nothing.
+-- `opener_at` meets its contract: one byte of the record of place i. Assumes nothing.
 use borrow.Author.Needs.{needs}
 use Rattle.store.specs.Decode.{openerFor}
 use Rattle.store.proofs.opener_at.Statement.{statement}

@@ -1,4 +1,4 @@
--- `put_tally` meets its contract: the certificate's numbers, then who opened the tally. Assumes nothing.
+-- `put_tally` meets its contract: the certificate's numbers, who opened the tally, and when it first had a quorum. Assumes nothing.
 use borrow.Author.Needs.{needs}
 use Rattle.store.specs.Meaning.{tallyOf}
 use Rattle.store.proofs.Values.{vote-number}
@@ -20,16 +20,27 @@ cast-put c = search needs
 put-requires : tie.Need-put-requires
 put-requires c κs = search needs
 
+add-put-2 : tie.Need-add-put-2
+add-put-2 c = search needs
+
+cast-put-2 : tie.Need-cast-put-2
+cast-put-2 c = search needs
+
+put-requires-2 : tie.Need-put-requires-2
+put-requires-2 c κs = search needs
+
 same-length : tie.Need-same-length
 same-length c = search needs
 
 returns : tie.Need-returns
 unfolding tallyOf
 returns c =
-    let after-put = c .before .before in
+    let after-put-2 = c .before .before in
+    let after-put = after-put-2 .before .before .before .before .before in
     let after-put-certificate = after-put .before .before .before .before .before in
     let start = after-put-certificate .before .before .before .before in
-    rw (after-put .put .ensures, after-put-certificate .put-certificate .ensures, after-put-certificate .before .certificate .ensures, vote-number (start .args .tally .opener))
+    let t = start .args .tally in
+    rw (after-put-2 .put2 .ensures, after-put .put .ensures, after-put-certificate .put-certificate .ensures, after-put-certificate .before .certificate .ensures, vote-number (t .opener), vote-number (t .reached))
 
 pub put-tally-spec : {M : Type 1} → statement M
 put-tally-spec =
@@ -40,5 +51,8 @@ put-tally-spec =
     add-put
     cast-put
     put-requires
+    add-put-2
+    cast-put-2
+    put-requires-2
     same-length
     returns)

@@ -2,7 +2,7 @@
 use mathlib.Core.Path.{_∙_, ap, sym, subst}
 use borrow.Author.Needs.{needs}
 use Rattle.rules.specs.Words.{grown}
-use Rattle.store.specs.Meaning.{tallyOf, votersOf, Numbered}
+use Rattle.store.specs.Meaning.{tallyOf, momentOf, votersOf, Numbered}
 use Rattle.store.specs.declared.Voters.{Voters}
 use Rattle.store.proofs.Tally.joined.Statement.{statement}
 use Rattle.store.proofs.Tally.joined.Tie as tie
@@ -12,7 +12,7 @@ enum-known-voters c = search needs
 
 with-voter-requires : tie.Need-with-voter-requires
 with-voter-requires c κs =
-    subst Numbered (c .before .voters .given .1) (c .before .before .before .pre)
+    (c .before .before .before .pre .0, subst Numbered (c .before .voters .given .1) (c .before .before .before .pre .1))
 
 enum-known-voters-2 : tie.Need-enum-known-voters-2
 enum-known-voters-2 c = search needs
@@ -22,11 +22,11 @@ grown-requires c κs = search needs
 
 returns : tie.Need-returns
 returns c =
-    c .with-voter .ensures ∙ ap (λ (v : Voters). grown (tallyOf (c .before .before .before .before .args .self)) (votersOf v)) (sym (c .before .before .voters .given .1))
+    c .with-voter .ensures ∙ ap (λ (v : Voters). grown (momentOf (c .before .before .before .before .args .moment)) (tallyOf (c .before .before .before .before .args .self)) (votersOf v)) (sym (c .before .before .voters .given .1))
 
 returns-2 : tie.Need-returns-2
 returns-2 c =
-    c .grown .ensures ∙ ap (λ (v : Voters). grown (tallyOf (c .before .before .before .before .args .self)) (votersOf v)) (sym (c .before .before .voters2 .given .1))
+    c .grown .ensures ∙ ap (λ (v : Voters). grown (momentOf (c .before .before .before .before .args .moment)) (tallyOf (c .before .before .before .before .args .self)) (votersOf v)) (sym (c .before .before .voters2 .given .1))
 
 pub joined-spec : {M : Type 1} → statement M
 joined-spec =

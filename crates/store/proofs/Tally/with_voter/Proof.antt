@@ -2,7 +2,7 @@
 use mathlib.Core.Path.{ap, _∙_}
 use borrow.Author.Needs.{needs}
 use Rattle.rules.specs.Words.{grown}
-use Rattle.store.specs.Meaning.{tallyOf}
+use Rattle.store.specs.Meaning.{tallyOf, momentOf}
 use Rattle.store.proofs.Sized.{voter-fits}
 use Rattle.store.proofs.Tally.with_voter.Statement.{statement}
 use Rattle.store.proofs.Tally.with_voter.Tie as tie
@@ -12,14 +12,14 @@ only-requires c κs = search needs
 
 cast-grown : tie.Need-cast-grown
 cast-grown c =
-    record { fits = rw (c .only .ensures) (voter-fits _ (c .before .pre)) }
+    record { fits = rw (c .only .ensures) (voter-fits _ (c .before .pre .1)) }
 
 grown-requires : tie.Need-grown-requires
 grown-requires c κs = search needs
 
 returns : tie.Need-returns
 returns c =
-    c .grown .ensures ∙ ap (grown (tallyOf (c .before .before .args .self))) (c .before .only .ensures)
+    c .grown .ensures ∙ ap (grown (momentOf (c .before .before .args .moment)) (tallyOf (c .before .before .args .self))) (c .before .only .ensures)
 
 pub with-voter-spec : {M : Type 1} → statement M
 with-voter-spec = tie.close (tie.spec only-requires cast-grown grown-requires returns)

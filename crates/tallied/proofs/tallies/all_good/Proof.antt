@@ -12,11 +12,11 @@ use Rattle.tallied.proofs.tallies.all_good.Statement.{statement}
 use Rattle.tallied.proofs.tallies.all_good.Tie as tie
 
 abbrev Inv-loop : tie.InvT-loop
-Inv-loop store settings count i₀ i =
-    all (tallyGood (settingsOf settings)) (tallies store) ≡ all (tallyGood (settingsOf settings)) (rows (tallyAt store) i (count - i))
+Inv-loop store settings clock count i₀ i =
+    all (tallyGood (settingsOf settings) clock) (tallies store) ≡ all (tallyGood (settingsOf settings) clock) (rows (tallyAt store) i (count - i))
 
 abbrev μ-loop : tie.MeasureT-loop
-μ-loop store settings count i₀ i =
+μ-loop store settings clock count i₀ i =
     count - i
 
 loop-holds : tie.Need-loop-holds Inv-loop μ-loop
@@ -24,15 +24,12 @@ unfolding tallies
 loop-holds c =
     ap (all _) (rows-whole (tallyAt _) _ _ (c .before .pre .0 .is))
 
-tally-at-requires : tie.Need-tally-at-requires Inv-loop μ-loop
-tally-at-requires c κs = search needs
-
 tally-good-requires : tie.Need-tally-good-requires Inv-loop μ-loop
 tally-good-requires c κs = search needs
 
 returns : tie.Need-returns Inv-loop μ-loop
 returns c =
-    sym (c .before .before .before .before .loop .inv ∙ all-here (tallyAt _) _ _ _ (c .before .before .before .loop-test .taken) (ap (tallyGood _) (sym (c .before .before .tally-at .ensures)) ∙ sym (c .before .tally-good .ensures) ∙ not-true _ (c .if1 .taken)))
+    sym (c .before .before .before .loop .inv ∙ all-here (tallyAt _) _ _ _ (c .before .before .loop-test .taken) (sym (c .before .tally-good .ensures) ∙ not-true _ (c .if1 .taken)))
 
 add-i : tie.Need-add-i Inv-loop μ-loop
 add-i c = search needs
@@ -42,7 +39,7 @@ loop-less c = search needs
 
 loop-again : tie.Need-loop-again Inv-loop μ-loop
 loop-again c =
-    c .before .before .before .before .loop .inv ∙ all-next (tallyAt _) _ _ _ (c .before .before .before .loop-test .taken) (ap (tallyGood _) (sym (c .before .before .tally-at .ensures)) ∙ sym (c .before .tally-good .ensures) ∙ not-false _ (c .if1 .left))
+    c .before .before .before .loop .inv ∙ all-next (tallyAt _) _ _ _ (c .before .before .loop-test .taken) (sym (c .before .tally-good .ensures) ∙ not-false _ (c .if1 .left))
 
 returns-2 : tie.Need-returns-2 Inv-loop μ-loop
 returns-2 c =
@@ -55,7 +52,6 @@ all-good-spec =
     Inv-loop
     μ-loop
     loop-holds
-    tally-at-requires
     tally-good-requires
     returns
     add-i
