@@ -1,7 +1,7 @@
 -- The whole definition by its parts, and what the answer says of decoding. Assumes nothing.
 use Prim.Native.Nat.{ℕ, _≤_}
 use mathlib.Core.Path.{_≡_, refl, sym, ap, _∙_}
-use mathlib.Core.Bool.{Bool, true, false, not, _&&_, and-true}
+use mathlib.Core.Bool.{Bool, true, false, not, _&&_, and-true, and-false}
 use mathlib.Core.List.{List}
 use mathlib.Core.Option.{none, some}
 use native.Mathlib.Omega.{arith}
@@ -9,7 +9,7 @@ use lib.ListN.{length}
 use borrow.Author.Tests.{le-leb, not-true, not-false}
 use Rattle.rules.specs.Limits.{Size, mostStations, mostStatements, mostTallies}
 use Rattle.rules.specs.Lists.{all, distinct}
-use Rattle.rules.specs.Sizes.{goodSettings}
+use Rattle.rules.specs.Sizes.{Settings, goodSettings}
 use Rattle.rules.specs.Messages.{viewAllowed}
 use Rattle.rules.specs.Words.{Statement, sameStatement, Tally}
 use Rattle.rules.specs.WellFormed.{clocksInOrder, lockGood, statementGood, tallyGood, sameTally, talliesThere, blamesGood, linked, fewOpened, wellFormed}
@@ -22,9 +22,11 @@ use Rattle.store.specs.Decode.{statementAt, tallyAt, statements, tallies, blame
 use Rattle.store.specs.Meaning.{Loads, headerOf}
 use Rattle.store.specs.declared.Station.{Station}
 use Rattle.store.proofs.Rows.{rows-length, rows-all}
-use Rattle.formed.specs.Lent.{Lent, Counts, Ready, AllCertify, alone, tablesGood}
-use Rattle.formed.proofs.Forms.{form-tables, counts-statements, counts-tallies, counts-log}
-use Rattle.formed.proofs.Parts.{good-certifies}
+use Rattle.heading.specs.Lent.{Lent, Counts, alone}
+use Rattle.stated.specs.Stated.{AllCertify}
+use Rattle.formed.specs.Ready.{Ready, tablesGood}
+use Rattle.heading.proofs.Forms.{form-tables, counts-statements, counts-tallies, counts-log}
+use Rattle.stated.proofs.Parts.{good-certifies}
 
 abbrev pub headerGood : Station → Bool
 headerGood s = goodSettings (alone s .settings) && viewAllowed (alone s .settings) (alone s .view) && clocksInOrder (alone s) && lockGood (alone s)
@@ -46,6 +48,17 @@ state-is b = refl
 grouped : (x a b c d e f : Bool) → (x && (a && b && c && d && e && f)) ≡ (x && a && b && c && d && e && f)
 grouped true a b c d e f = refl
 grouped false a b c d e f = refl
+
+-- where two tallies are of one block nothing else of the tables counts
+pub tables-not : (g : Settings) (now : ℕ) (b : List ℕ) (r : Bool) → r ≡ distinct sameTally (tallies b) → not r ≡ true → false ≡ tablesGood g now b
+unfolding tablesGood
+tables-not g now b r e n = rw (sym e ∙ not-true r n, and-false)
+
+-- where they are apart, the others do
+pub tables-then : (g : Settings) (now : ℕ) (b : List ℕ) (r : Bool) → r ≡ distinct sameTally (tallies b) → not r ≡ false
+    → (all (tallyGood g now) (tallies b) && all (talliesThere (tallies b)) (statements b) && blamesGood g (blames b) && linked (statements b) 0 0 (names b) && fewOpened (g .n) (tallies b)) ≡ tablesGood g now b
+unfolding tablesGood
+tables-then g now b r e n = rw (sym e ∙ not-false r n, and-true)
 
 -- without the form nothing else counts
 pub formless : (b : List ℕ) (r : Bool) → r ≡ hasForm b → not r ≡ true → false ≡ (hasForm b && wellFormed (stateOf b))

@@ -1,4 +1,4 @@
-// The check that a lent store is well formed, part by part in the order of the definition.
+// The check that a lent store is well formed, part by part: the form, then the heading and the statements, then the other tables.
 // Any bytes of a store's length are taken; parts after the form know that the counts are in range.
 ghost use mathlib.Core.Path.{_≡_};
 ghost use mathlib.Core.Bool.{_&&_};
@@ -7,30 +7,35 @@ ghost use Rattle.rules.specs.WellFormed.{wellFormed};
 ghost use Rattle.settings.specs.Made.{settingsOf};
 ghost use Rattle.store.specs.Layout.{sizeIn, storeLength};
 ghost use Rattle.store.specs.Decode.{stateOf, hasForm};
-ghost use Rattle.formed.specs.Lent.{Ready, tablesGood};
+ghost use Rattle.formed.specs.Ready.{Ready, tablesGood};
+use chains::CHAINS;
+use heading::blames;
+use heading::form;
+use heading::header;
+use settings::Settings;
+use stated::statements;
+use stated::there;
 use store::Station;
-
-mod blames;
-mod form;
-mod header;
-pub mod log;
-mod marks;
-mod openers;
-mod statements;
-mod tallies;
+use tallied::openers;
+use tallied::tallies;
 
 // Whether tallies, blame masks and log are well formed, where the statements are.
-fn tables_good(store: &[u8], station: Station) -> bool
+fn tables_good(store: &[u8], station: Station, salt: u64) -> bool
     requires { ⌜ Ready (now store) station ⌝ }
     ensures { λ r. ⌜ r ≡ tablesGood (settingsOf (station .settings)) (station .clock) (now (store .entry)) ⌝ }
 {
     let settings = station.settings;
-    tallies::all_good(store, settings, station.clock, station.tallies)
-        & tallies::distinct(store, station.tallies)
-        & tallies::all_there(store, station.tallies, station.statements)
+    let count = station.tallies;
+    let mut heads: [u16; CHAINS] = [0; CHAINS];
+    let mut nexts: [u16; Settings::MOST_TALLIES_LARGE] = [0; Settings::MOST_TALLIES_LARGE];
+    if !tallied::apart::distinct(store, salt, count, &mut heads, &mut nexts) {
+        return false;
+    }
+    tallies::all_good(store, settings, station.clock, count)
+        & there::all_there(store, salt, count, &heads, &nexts, station.statements)
         & blames::all_good(store, settings)
-        & log::is_linked(store, station.logged, station.statements)
-        & openers::few_opened(store, settings, station.tallies)
+        & linked::is_linked(store, station.logged, station.statements)
+        & openers::few_opened(store, settings, count)
 }
 
 // Whether a store of the exact length is well formed.
@@ -42,11 +47,12 @@ pub fn well_formed(store: &[u8]) -> bool
     if !form::has_form(store, station) {
         return false;
     }
+    let salt = chains::salt(station.clock);
     let good = header::header_good(station)
         & statements::all_good(store, station, station.statements)
-        & statements::distinct(store, station.statements);
+        & stated::apart::distinct(store, salt, station.statements);
     if !good {
         return false;
     }
-    tables_good(store, station)
+    tables_good(store, station, salt)
 }

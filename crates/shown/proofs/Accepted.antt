@@ -24,7 +24,7 @@ use Rattle.kept.specs.Parts.{WellFormed}
 use Rattle.kept.proofs.WellFormed.{parts}
 use Rattle.kept.proofs.Logs.{linked-cons}
 use Rattle.groups.specs.Groups.{sizeOfKind, stations, group}
-use Rattle.formed.specs.Lent.{isLink}
+use Rattle.linked.specs.Links.{isLink}
 use Rattle.slip.specs.Slips.{isEntry, follows, isChain, isSlip, slipBytes, accepted, judged, answerOf, checked}
 use Rattle.slip.proofs.Judging.{group-good}
 use Rattle.slip_writer.specs.Writer.{loggedAt, heightFrom, logChain, slipOf}

@@ -31,7 +31,7 @@ use Rattle.store.specs.declared.Found.{Found}
 use Rattle.store.specs.declared.Found.the-variants.{At, Nothing}
 use Rattle.store.proofs.Rows.{rows-at, rows-length}
 use Rattle.store.proofs.Searches.{found-within, found-matches, found-first, missing-first}
-use Rattle.formed.specs.Lent.{isLink}
+use Rattle.linked.specs.Links.{isLink}
 use Rattle.slip.specs.Slips.{entryBytes, entriesBytes, slipBytes}
 use Rattle.slip_writer.specs.Writer.{loggedAt, heightFrom, logChain}
 

@@ -7,7 +7,7 @@ use lib.ListN.{getD}
 use lib.Dec.{eqb}
 use Rattle.rules.specs.Lists.{first}
 use Rattle.rules.specs.Words.{Statement, State}
-use Rattle.formed.specs.Lent.{isLink}
+use Rattle.linked.specs.Links.{isLink}
 use Rattle.slip.specs.Slips.{slipBytes}
 
 -- the name logged at a height; below the first stands genesis

@@ -10,7 +10,7 @@ ghost use Rattle.outgoing.specs.Wrote.{Says};
 ghost use Rattle.store.specs.Layout.{sizeIn, statementTable, logTable, countOf};
 ghost use Rattle.store.specs.Decode.{statementAt, statements, names, Form};
 ghost use Rattle.store.specs.Changes.{firstFrom};
-ghost use Rattle.formed.specs.Lent.{isLink};
+ghost use Rattle.linked.specs.Links.{isLink};
 ghost use Rattle.calls.specs.Calls.{Gives};
 ghost use Rattle.slip.specs.Slips.{entryBytes, entriesBytes, slipBytes};
 ghost use Rattle.slip_writer.specs.Writer.{loggedAt, logChain};
@@ -58,7 +58,7 @@ fn find_link(store: &[u8], stored: usize, height: u32, name: Name, parent: Name)
         if stored <= i {
             break Found::Nothing;
         }
-        if formed::log::links(store, i, height, name, parent) {
+        if linked::links(store, i, height, name, parent) {
             break Found::At(i);
         }
         i += 1;

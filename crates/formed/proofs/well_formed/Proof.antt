@@ -16,29 +16,32 @@ returns : tie.Need-returns
 returns c =
     formless _ _ (c .before .has-form .ensures) (c .if1 .taken)
 
+salt-requires : tie.Need-salt-requires
+salt-requires c κs = search needs
+
 header-good-requires : tie.Need-header-good-requires
 header-good-requires c κs = search needs
 
 all-good-requires : tie.Need-all-good-requires
 all-good-requires c κs =
-    counted _ (c .before .before .before .load .result) (c .before .before .before .before .before .pre) (c .before .before .before .load .ensures) _ (c .before .before .has-form .ensures) (c .before .if1 .left)
+    counted _ (c .before .before .before .before .load .result) (c .before .before .before .before .before .before .pre) (c .before .before .before .before .load .ensures) _ (c .before .before .before .has-form .ensures) (c .before .before .if1 .left)
 
 distinct-requires : tie.Need-distinct-requires
 distinct-requires c κs =
-    counted _ (c .before .before .before .before .load .result) (c .before .before .before .before .before .before .pre) (c .before .before .before .before .load .ensures) _ (c .before .before .before .has-form .ensures) (c .before .before .if1 .left)
+    counted _ (c .before .before .before .before .before .load .result) (c .before .before .before .before .before .before .before .pre) (c .before .before .before .before .before .load .ensures) _ (c .before .before .before .before .has-form .ensures) (c .before .before .before .if1 .left)
 
 returns-2 : tie.Need-returns-2
 returns-2 c =
-    formed-not _ (c .before .before .before .before .before .before .load .result) (c .before .before .before .before .before .before .before .before .pre) (c .before .before .before .before .before .before .load .ensures) _ (c .before .before .before .before .before .has-form .ensures) (c .before .before .before .before .if1 .left) _ _ _ (c .before .before .before .header-good .ensures) (c .before .before .all-good .ensures) (c .before .distinct .ensures) (c .if2 .taken)
+    formed-not _ (c .before .before .before .before .before .before .before .load .result) (c .before .before .before .before .before .before .before .before .before .pre) (c .before .before .before .before .before .before .before .load .ensures) _ (c .before .before .before .before .before .before .has-form .ensures) (c .before .before .before .before .before .if1 .left) _ _ _ (c .before .before .before .header-good .ensures) (c .before .before .all-good .ensures) (c .before .distinct .ensures) (c .if2 .taken)
 
 tables-good-requires : tie.Need-tables-good-requires
 tables-good-requires c κs =
-    ready _ (c .before .before .before .before .before .before .load .result) (c .before .before .before .before .before .before .before .before .pre) (c .before .before .before .before .before .before .load .ensures) _ (c .before .before .before .before .before .has-form .ensures) (c .before .before .before .before .if1 .left) _ _ _ (c .before .before .before .header-good .ensures) (c .before .before .all-good .ensures) (c .before .distinct .ensures) (c .if2 .left)
+    ready _ (c .before .before .before .before .before .before .before .load .result) (c .before .before .before .before .before .before .before .before .before .pre) (c .before .before .before .before .before .before .before .load .ensures) _ (c .before .before .before .before .before .before .has-form .ensures) (c .before .before .before .before .before .if1 .left) _ _ _ (c .before .before .before .header-good .ensures) (c .before .before .all-good .ensures) (c .before .distinct .ensures) (c .if2 .left)
 
 returns-3 : tie.Need-returns-3
 returns-3 c =
     c .tables-good .ensures
-    ∙ formed-then _ (c .before .before .before .before .before .before .before .load .result) (c .before .before .before .before .before .before .before .before .before .pre) (c .before .before .before .before .before .before .before .load .ensures) _ (c .before .before .before .before .before .before .has-form .ensures) (c .before .before .before .before .before .if1 .left) _ _ _ (c .before .before .before .before .header-good .ensures) (c .before .before .before .all-good .ensures) (c .before .before .distinct .ensures) (c .before .if2 .left)
+    ∙ formed-then _ (c .before .before .before .before .before .before .before .before .load .result) (c .before .before .before .before .before .before .before .before .before .before .pre) (c .before .before .before .before .before .before .before .before .load .ensures) _ (c .before .before .before .before .before .before .before .has-form .ensures) (c .before .before .before .before .before .before .if1 .left) _ _ _ (c .before .before .before .before .header-good .ensures) (c .before .before .before .all-good .ensures) (c .before .before .distinct .ensures) (c .before .if2 .left)
 
 pub well-formed-spec : {M : Type 1} → statement M
 well-formed-spec =
@@ -47,6 +50,7 @@ well-formed-spec =
     load-requires
     has-form-requires
     returns
+    salt-requires
     header-good-requires
     all-good-requires
     distinct-requires

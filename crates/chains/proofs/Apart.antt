@@ -1,0 +1,37 @@
+-- Records found apart from the last one down, and a test of places for a test of records. Each once, for every table. Assumes nothing.
+use Prim.Native.Nat.{ℕ, zero, suc, _+_, _-_, _<_, _≤_}
+use mathlib.Core.Path.{_≡_, refl, sym, ap, _∙_}
+use mathlib.Core.Bool.{Bool, true, false, not, _&&_, and-false}
+use mathlib.Core.List.{List}
+use native.Mathlib.Omega.{arith}
+use native.Mathlib.Nat.{sub-zero}
+use native.Mathlib.Numerals.{add-one}
+use Rattle.rules.specs.Lists.{any, distinct}
+use Rattle.rules.proofs.Tests.{by-bool}
+use Rattle.store.specs.Decode.{rows}
+use Rattle.store.proofs.Rows.{rows-from}
+use Rattle.heading.proofs.Walks.{distinct-here}
+use Rattle.chains.specs.Chains.{places}
+
+-- the same of the records as of their places
+pub any-same : {A : Type 0} (f : ℕ → A) (p : A → Bool) (q : ℕ → Bool) (i n : ℕ) → ((k : ℕ) → i ≤ k → k < i + n → q k ≡ p (f k)) → any q (places i n) ≡ any p (rows f i n)
+unfolding rows any
+any-same f p q i zero h = refl
+any-same f p q i (suc n) h =
+    let e = h i (omega arith) (omega arith) in
+    let rest = any-same f p q (suc i) n (λ k a b. h k (omega arith) (omega arith)) in
+    by-bool (p (f i)) (λ t. rw (e, t, any)) (λ t. rw (e, t, any) rest)
+
+module _ {A : Type 0} (f : ℕ → A) (same : A → A → Bool) where
+  -- a record met again below spoils the whole
+  distinct-below : (i n : ℕ) → i ≤ n → distinct same (rows f i (n - i)) ≡ false → distinct same (rows f 0 n) ≡ false
+  unfolding distinct
+  distinct-below zero n l e = rw sub-zero at e
+  distinct-below (suc i) n l e =
+      distinct-below i n (omega arith) (ap (distinct same) (rows-from f i n (omega arith)) ∙ rw (add-one i, e) (and-false (not (any (same (f i)) (rows f (suc i) (n - suc i))))))
+
+  pub distinct-not : (i n m : ℕ) → n ≡ m → i < n → any (same (f i)) (rows f (i + 1) (n - (i + 1))) ≡ true → distinct same (rows f 0 m) ≡ false
+  distinct-not i n m e l t = rw (← e) (distinct-below i n (omega arith) (distinct-here f n same i l t))
+
+  pub distinct-whole : (i n m : ℕ) → n ≡ m → i ≤ 0 → distinct same (rows f i (n - i)) ≡ true → distinct same (rows f 0 m) ≡ true
+  distinct-whole i n m e l t = let z : i ≡ 0 = omega arith in rw (z, sub-zero, e) at t

@@ -1,0 +1,109 @@
+// Chains of a table's records, made anew in each check, so that a record is compared with those of its own chain alone.
+// Which chain goes by every word of a block and by a salt; a walk along a chain is exact whatever names were chosen.
+ghost use mathlib.Core.Path.{_≡_};
+ghost use Prim.Native.Nat.{_+_, _*_, _≤_, _<_};
+ghost use lib.ListN.{length, set};
+ghost use Rattle.rules.specs.Limits.{mostTalliesLarge};
+ghost use Rattle.rules.specs.Lists.{any};
+ghost use Rattle.store.specs.Decode.{nth};
+ghost use Rattle.chains.specs.Chains.{chains, stir, stirName, chainOf, behind, Walk, isOf};
+use settings::Settings;
+
+// How many chains there are.
+pub const CHAINS: usize = 2_048;
+
+// Where a record's name is, behind its view and height.
+const NAME: usize = 8;
+
+// What a check begins to stir with: another number at each clock, so that names that were chosen for one chain are not on one at the next.
+pub fn salt(clock: u32) -> u64 {
+    clock as u64 * 2_146_121_005 + 3_668_340_011_890_124_611
+}
+
+// A number stirred with a word: the product of the halves of their sum is added to it.
+pub fn stirred(mix: u64, word: u64) -> u64
+    ensures { λ r. ⌜ r ≡ stir mix word ⌝ }
+{
+    let sum = std::num::wrapping_add_u64(mix, word);
+    let product = (sum % 4_294_967_296) * (sum / 4_294_967_296);
+    std::num::wrapping_add_u64(mix, product)
+}
+
+// A number stirred with the four words of the name at a place.
+pub fn with_name(store: &[u8], mix: u64, at: usize) -> u64
+    requires { ⌜ at + 32 ≤ length (now store) ⌝ }
+    ensures { λ r. ⌜ r ≡ stirName (now (store .entry)) mix at ⌝ }
+{
+    let first = stirred(mix, fields::get(store, at, 8));
+    let second = stirred(first, fields::get(store, at + 8, 8));
+    let third = stirred(second, fields::get(store, at + 16, 8));
+    stirred(third, fields::get(store, at + 24, 8))
+}
+
+// The chain of a number.
+pub fn chain_of(mix: u64) -> usize
+    ensures { λ r. ⌜ (r ≡ chainOf mix) × (r < chains) ⌝ }
+{
+    (mix / 4_294_967_296) as usize % CHAINS
+}
+
+// Record i hangs on a chain before all that do, where so many are left from it on.
+pub fn hang(
+    heads: &mut [u16; CHAINS],
+    nexts: &mut [u16; Settings::MOST_TALLIES_LARGE],
+    chain: usize,
+    i: usize,
+    left: usize,
+)
+    requires { ⌜ (chain < chains) × (i < mostTalliesLarge) × (left ≤ mostTalliesLarge) ⌝ }
+    ensures { λ _. ⌜ (now (heads .exit) ≡ set (now (heads .entry)) chain left) × (now (nexts .exit) ≡ set (now (nexts .entry)) i (nth (now (heads .entry)) chain)) ⌝ }
+{
+    nexts[i] = heads[chain];
+    heads[chain] = left as u16;
+}
+
+// Whether a record of this block is among the last so many of a table, on their chain: a walk along it.
+fn walked(
+    store: &[u8],
+    base: usize,
+    size: usize,
+    count: usize,
+    nexts: &[u16; Settings::MOST_TALLIES_LARGE],
+    left: usize,
+    key: u64,
+    at: usize,
+) -> bool
+    requires { ⌜ (40 ≤ size) × (base + size * count ≤ length (now store)) × (count ≤ mostTalliesLarge) × (at + 32 ≤ length (now store)) × Walk (isOf (now store) base size key at) count left (now nexts) ⌝ }
+    ensures { λ r. ⌜ r ≡ any (isOf (now (store .entry)) base size key at) (behind count left) ⌝ }
+{
+    let mut rest = left;
+    while 0 < rest {
+        let i = count - rest;
+        let to = base + size * i;
+        if (key == fields::get(store, to, 8)) & fields::same(store, at, store, to + NAME, 32) {
+            return true;
+        }
+        rest = nexts[i] as usize;
+    }
+    false
+}
+
+// The same without a walk where the chain is empty, as most are.
+pub fn has_block(
+    store: &[u8],
+    base: usize,
+    size: usize,
+    count: usize,
+    nexts: &[u16; Settings::MOST_TALLIES_LARGE],
+    left: usize,
+    key: u64,
+    at: usize,
+) -> bool
+    requires { ⌜ (40 ≤ size) × (base + size * count ≤ length (now store)) × (count ≤ mostTalliesLarge) × (at + 32 ≤ length (now store)) × Walk (isOf (now store) base size key at) count left (now nexts) ⌝ }
+    ensures { λ r. ⌜ r ≡ any (isOf (now (store .entry)) base size key at) (behind count left) ⌝ }
+{
+    if left == 0 {
+        return false;
+    }
+    walked(store, base, size, count, nexts, left, key, at)
+}

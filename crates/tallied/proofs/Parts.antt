@@ -1,0 +1,70 @@
+-- A tally as the code tests it. Assumes nothing.
+use Prim.Native.Nat.{ℕ, zero, suc, _+_, _-_, _^_, _<_, _≤_}
+use mathlib.Core.Path.{_≡_, refl, ap, _∙_}
+use mathlib.Core.Bool.{Bool, true, false, not, _&&_, and-true}
+use native.Mathlib.Nat.{add-zero}
+use Rattle.rules.specs.Limits.{lastHeight}
+use Rattle.rules.specs.Lists.{iff}
+use Rattle.fields.specs.Places.{Bytes, number}
+use Rattle.fields.proofs.Laws.{number-lt}
+use mathlib.Core.List.{List}
+use Rattle.store.specs.Layout.{sizeIn, tallyTable, placeOf}
+use Rattle.store.specs.Decode.{openerOf, reachedFrom, tallyAt, tallyFor, openerAt, openerFor, sinceAt, sinceFor}
+use native.Mathlib.Omega.{arith}
+use lib.Dec.{leb, ltb, eqb}
+use borrow.Author.Tests.{lt-ltb, le-ltb}
+use Rattle.rules.specs.Sizes.{holds, quorum}
+use Rattle.rules.specs.Messages.{viewAllowed, blockAllowed}
+use Rattle.rules.specs.WellFormed.{isName, isMask, openerGood, reachedGood, tallyGood}
+use Rattle.settings.specs.Made.{settingsOf}
+use Rattle.settings.specs.declared.Settings.{Settings}
+
+stored-name : (b : List ℕ) → Bytes b → (at : ℕ) → isName (number b at 32) ≡ true
+unfolding isName
+stored-name b bytes at = lt-ltb _ _ (number-lt b bytes at 32)
+
+-- by the numbers of its record
+module _ (g : Settings) (now : ℕ) (b : List ℕ) (bytes : Bytes b) (i at : ℕ) (e : at ≡ placeOf tallyTable (sizeIn b) i) where
+  pub tally-is : (view height mask opener reached : ℕ) (bare : Bool) → view ≡ number b at 4 → height ≡ number b (at + 4) 4 → bare ≡ eqb (number b (at + 8) 32) 0 → mask ≡ number b (at + 40) 2
+      → opener ≡ openerAt b i → reached ≡ sinceAt b i
+      → (viewAllowed (settingsOf g) view && (leb height lastHeight && iff (eqb height 0) bare) && ltb mask (2 ^ g .n) && openerGood (settingsOf g) mask (openerOf opener)
+      && reachedGood (settingsOf g) now mask (reachedFrom reached)) ≡ tallyGood (settingsOf g) now (tallyAt b i)
+  unfolding tallyGood blockAllowed isMask tallyFor openerFor sinceFor
+  tally-is view height mask opener reached bare p q z m o r =
+      rw (p, q, z, m, o, r, e, add-zero (placeOf tallyTable (sizeIn b) i), stored-name b bytes (placeOf tallyTable (sizeIn b) i + 8), and-true)
+
+-- the clock of the first quorum, by the record's number
+module _ (g : Settings) (now m k : ℕ) where
+  pub reached-none : k ≡ 0 → not (quorum (settingsOf g) m) ≡ reachedGood (settingsOf g) now m (reachedFrom k)
+  unfolding reachedGood
+  reached-none e = rw e
+
+  pub reached-some : (k ≡ 0 → ⊥) → (quorum (settingsOf g) m && leb (k - 1) now) ≡ reachedGood (settingsOf g) now m (reachedFrom k)
+  unfolding reachedGood
+  reached-some d = go k refl
+    where
+      go : (j : ℕ) → k ≡ j → (quorum (settingsOf g) m && leb (k - 1) now) ≡ reachedGood (settingsOf g) now m (reachedFrom j)
+      go zero e = absurd (d e)
+      go (suc c) e = let f : k - 1 ≡ c = omega arith in rw f
+
+-- who opened a tally, by the record's number
+module _ (g : Settings) (m k : ℕ) where
+  pub opener-none : k ≡ 0 → true ≡ openerGood (settingsOf g) m (openerOf k)
+  unfolding openerGood
+  opener-none e = rw e
+
+  pub opener-other : (k ≡ 0 → ⊥) → g .n ≤ k - 1 → false ≡ openerGood (settingsOf g) m (openerOf k)
+  unfolding openerGood
+  opener-other d l = go k refl
+    where
+      go : (j : ℕ) → k ≡ j → false ≡ openerGood (settingsOf g) m (openerOf j)
+      go zero e = absurd (d e)
+      go (suc a) e = let f : ltb a (g .n) ≡ false = le-ltb a (g .n) (omega arith) in rw f
+
+  pub opener-some : (k ≡ 0 → ⊥) → k - 1 < g .n → {r : Bool} → r ≡ holds m (k - 1) → r ≡ openerGood (settingsOf g) m (openerOf k)
+  unfolding openerGood
+  opener-some d l {r} q = go k refl
+    where
+      go : (j : ℕ) → k ≡ j → r ≡ openerGood (settingsOf g) m (openerOf j)
+      go zero e = absurd (d e)
+      go (suc a) e = let f : k - 1 ≡ a = omega arith in rw (lt-ltb a (g .n) (omega arith)) (q ∙ ap (holds m) f)

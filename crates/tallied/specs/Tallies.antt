@@ -1,0 +1,47 @@
+-- Which chain a tally hangs on, and how many tallies have which opener. Assumes nothing.
+use Prim.Native.Nat.{ℕ, _+_, _-_, _*_, _^_, _<_}
+use mathlib.Core.Path.{_≡_}
+use mathlib.Core.Bool.{Bool, true, false}
+use mathlib.Core.List.{List}
+use lib.ListN.{length}
+use lib.Dec.{eqb}
+use Rattle.rules.specs.Lists.{any, distinct, keep}
+use Rattle.rules.specs.Words.{Certificate, ofBlock}
+use Rattle.rules.specs.WellFormed.{sameTally}
+use Rattle.fields.specs.Places.{number}
+use Rattle.store.specs.Layout.{sizeIn, tallyTable}
+use Rattle.store.specs.Decode.{nth, rows, openerAt, tallyAt, tallies}
+use Rattle.chains.specs.Chains.{recordChain, Chained}
+
+-- how often a number is among some
+unfoldable pub times : ℕ → List ℕ → ℕ
+unfolding keep
+times k ms = length (keep (eqb k) ms)
+
+-- of n tallies from tally i on, how many have which opener's number
+abbrev pub Counted : List ℕ → ℕ → ℕ → List ℕ → Type 0
+Counted b i n counts = (k : ℕ) → k < 256 → nth counts k ≡ times k (rows (openerAt b) i n)
+
+-- tallies hang by their block
+abbrev pub tallyChain : List ℕ → ℕ → ℕ → ℕ
+tallyChain b salt i = recordChain b salt ((tallyTable .base) (sizeIn b)) (tallyTable .size) i
+
+-- the answer whether tally i is met again behind it, and the chains, where it is not
+pub record Met (b : List ℕ) (salt n i : ℕ) (r : Bool) (heads nexts : List ℕ) : Type 0 where
+  pub is : r ≡ any (sameTally (tallyAt b i)) (rows (tallyAt b) (i + 1) (n - (i + 1)))
+  pub hangs : r ≡ false → Chained (tallyChain b salt) i n heads nexts
+
+-- the answer whether all tallies are apart, and the chains, where they are
+pub record Apart (b : List ℕ) (salt n : ℕ) (r : Bool) (heads nexts : List ℕ) : Type 0 where
+  pub is : r ≡ distinct sameTally (tallies b)
+  pub hang : r ≡ true → Chained (tallyChain b salt) 0 n heads nexts
+
+-- a block by its view and height as one number, and the place of its name
+pub record Keyed (b : List ℕ) (key at : ℕ) (t : Certificate) : Type 0 where
+  pub key-is : key ≡ t .view * 256 ^ 4 + t .height
+  pub name-is : number b at 32 ≡ t .name
+  pub small : t .height < 256 ^ 4
+
+-- the answer whether a tally is of that block
+abbrev pub Has : List ℕ → ℕ → ℕ → Bool → Type 0
+Has b key at r = (t : Certificate) → Keyed b key at t → r ≡ any (ofBlock t) (tallies b)

@@ -1,0 +1,79 @@
+// No two tallies are of one block: each is looked for on its chain among those behind it, and then hangs before them.
+ghost use Prim.Native.Nat.{_+_, _≤_, _<_};
+ghost use lib.ListN.{length};
+ghost use Rattle.store.specs.Layout.{tallyTable};
+ghost use Rattle.heading.specs.Lent.{Counts};
+ghost use Rattle.chains.specs.Chains.{Bare, Chained};
+ghost use Rattle.tallied.specs.Tallies.{tallyChain, Met, Apart, Has};
+use chains::CHAINS;
+use settings::Settings;
+use store::TALLY_SIZE;
+
+// Where a tally's name is.
+const NAME: usize = 8;
+
+// Whether a later tally is of the block of tally i; if none is, tally i hangs on its chain.
+fn repeated(
+    store: &[u8],
+    salt: u64,
+    count: usize,
+    heads: &mut [u16; CHAINS],
+    nexts: &mut [u16; Settings::MOST_TALLIES_LARGE],
+    i: usize,
+) -> bool
+    requires { ⌜ Counts tallyTable (now store) count × (i < count) × Chained (tallyChain (now store) salt) (i + 1) count (now heads) (now nexts) ⌝ }
+    ensures { λ r. ⌜ Met (now (store .entry)) salt count i r (now (heads .exit)) (now (nexts .exit)) ⌝ }
+{
+    let base = store::tallies_in(store);
+    let at = base + TALLY_SIZE * i;
+    let key = fields::get(store, at, 8);
+    let mix = chains::with_name(store, chains::stirred(salt, key), at + NAME);
+    let chain = chains::chain_of(mix);
+    let left = heads[chain] as usize;
+    if chains::has_block(store, base, TALLY_SIZE, count, nexts, left, key, at + NAME) {
+        return true;
+    }
+    chains::hang(heads, nexts, chain, i, count - i);
+    false
+}
+
+// Whether no two tallies are of one block; then all hang on their chains.
+pub fn distinct(
+    store: &[u8],
+    salt: u64,
+    count: usize,
+    heads: &mut [u16; CHAINS],
+    nexts: &mut [u16; Settings::MOST_TALLIES_LARGE],
+) -> bool
+    requires { ⌜ Counts tallyTable (now store) count × Bare (now heads) (now nexts) ⌝ }
+    ensures { λ r. ⌜ Apart (now (store .entry)) salt count r (now (heads .exit)) (now (nexts .exit)) ⌝ }
+{
+    let mut i = count;
+    while 0 < i {
+        i -= 1;
+        if repeated(store, salt, count, heads, nexts, i) {
+            return false;
+        }
+    }
+    true
+}
+
+// Whether a tally is of the block with this view and height whose name is at a place, once all tallies hang.
+pub fn has_tally(
+    store: &[u8],
+    salt: u64,
+    count: usize,
+    heads: &[u16; CHAINS],
+    nexts: &[u16; Settings::MOST_TALLIES_LARGE],
+    key: u64,
+    at: usize,
+) -> bool
+    requires { ⌜ Counts tallyTable (now store) count × Chained (tallyChain (now store) salt) 0 count (now heads) (now nexts) × (at + 32 ≤ length (now store)) ⌝ }
+    ensures { λ r. ⌜ Has (now (store .entry)) key at r ⌝ }
+{
+    let base = store::tallies_in(store);
+    let mix = chains::with_name(store, chains::stirred(salt, key), at);
+    let chain = chains::chain_of(mix);
+    let left = heads[chain] as usize;
+    chains::has_block(store, base, TALLY_SIZE, count, nexts, left, key, at)
+}
