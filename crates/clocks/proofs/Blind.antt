@@ -62,7 +62,8 @@ stored-alike x s =
     (join-same k (ownBlock x 0) us vs (certificate-same k (certificate x) (forget s .tallies) (s .tallies) (tallies-alike s)))
 
 joined-alike : (k : Opener) (t : Certificate) (s : State)
-    → Alike (withTables (s .statements) (joinCertificate (moment k s) t (forget s .tallies)) (forget s)) (withTables (s .statements) (joinCertificate (moment k s) t (s .tallies)) s)
+    → Alike (withTables (s .statements) (joinCertificate (moment k s) t (forget s .tallies)) (forget s))
+    (withTables (s .statements) (joinCertificate (moment k s) t (s .tallies)) s)
 joined-alike k t s =
     tables-alike _ s (joinCertificate (moment k s) t (forget s .tallies)) (joinCertificate (moment k s) t (s .tallies))
     (certificate-same (moment k s) t (forget s .tallies) (s .tallies) (tallies-alike s))
@@ -105,13 +106,17 @@ unfolding blaming blamed blamesOf withBlames isIn blameFull forget withTables sa
 blaming-blind v m s =
     let a = blamed-alike v m s in
     by-bool (isIn v (blamed v m s) && blameFull v (blamed v m s))
-    (λ q. let said = toAll (blameSet v (blamesOf v (blamed v m s))) ∷ [] in rw (q, blaming) (blind-alike (quit said) (quit-blind said) (blamed v m (forget s)) (blamed v m s) a))
+    (λ q.
+    let said = toAll (blameSet v (blamesOf v (blamed v m s))) ∷ [] in
+    rw (q, blaming) (blind-alike (quit said) (quit-blind said) (blamed v m (forget s)) (blamed v m s) a))
     (λ q. rw (q, blaming) (a, refl))
 
 pub handled-blind : (m : Message) → Blind (handled m)
 unfolding handled
-handled-blind (newView v h b c m a) = statement-blind (record { isNewView = true; view = v; height = h; name = b; link = c; mask = m; author = a; voted = none })
-handled-blind (propose v h b p m a) = statement-blind (record { isNewView = false; view = v; height = h; name = b; link = p; mask = m; author = a; voted = none })
+handled-blind (newView v h b c m a) =
+    statement-blind (record { isNewView = true; view = v; height = h; name = b; link = c; mask = m; author = a; voted = none })
+handled-blind (propose v h b p m a) =
+    statement-blind (record { isNewView = false; view = v; height = h; name = b; link = p; mask = m; author = a; voted = none })
 handled-blind (vote v h b a) = tallied-blind (some a) (record { view = v; height = h; name = b; mask = only a })
 handled-blind (blame v a) = blaming-blind v (only a)
 handled-blind (blameSet v m) = blaming-blind v m

@@ -27,7 +27,8 @@ unfolding stored withTables
 stored-law x s q =
     let k = moment none s in
     let us = joinCertificate k (certificate x) (s .tallies) in
-    law-trans (s .settings) (s .clock) q (s .tallies) us (join k (ownBlock x 0) us) (certificate-law k (certificate x) q (s .tallies)) (join-law k (ownBlock x 0) q us)
+    law-trans (s .settings) (s .clock) q (s .tallies) us (join k (ownBlock x 0) us)
+    (certificate-law k (certificate x) q (s .tallies)) (join-law k (ownBlock x 0) q us)
 
 voted-law : (x : Statement) (s : State) → Keeps s (votedFor x s)
 unfolding votedFor withTables
@@ -40,7 +41,8 @@ votingAll-law (y ∷ ys) s q =
     by-bool (belowLock y s) (λ l. rw (voting-low y s l) (votingAll-law ys s q))
     (λ l.
     rw (voting-high y s l)
-    (law-trans (s .settings) (s .clock) q (s .tallies) (votedFor y s .tallies) (votingAll ys (votedFor y s) .now .tallies) (voted-law y s q) (votingAll-law ys (votedFor y s) q)))
+    (law-trans (s .settings) (s .clock) q (s .tallies) (votedFor y s .tallies) (votingAll ys (votedFor y s) .now .tallies)
+    (voted-law y s q) (votingAll-law ys (votedFor y s) q)))
 
 module _ {R : Outside} where
   move-law : (s t : State) (o : List Effect) → Move R s t o → Keeps s t
@@ -110,7 +112,8 @@ module _ (s : State) where
       let t = counted s in
       by-option (commits (t .statements) (due t) (t .log)) (λ n. no-some (sym (ticked-none s n) ∙ e)) λ l n.
       let u = withLog l t in
-      let m = then-moves anything (complain u ▸ lead) enter (then-moves anything (complain u) lead (complain-moves anything u) (lead-moves anything)) (enter-moves anything) in
+      let c = then-moves anything (complain u) lead (complain-moves anything u) (lead-moves anything) in
+      let m = then-moves anything (complain u ▸ lead) enter c (enter-moves anything) in
       subst (λ (v : Work). Clocked s (v .now)) (Option·some-injective _ _ (sym (ticked-some s l n) ∙ e)) (moved s u _ _ refl refl m)
 
 pub step-clocked : (bs : List ℕ) (s : State) → Clocked s (step bs s .next)

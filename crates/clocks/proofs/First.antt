@@ -67,7 +67,8 @@ module _ (state : ℕ → State) (q : Certificate) (start : state 0 .tallies ≡
   is-first zero c e = no-some (sym none-first ∙ e)
   is-first (suc k) c e = go (next k .block q .0) (λ a. is-first k c (sym a ∙ e))
     where
-      go : Goes (state (suc k) .clock) (keptAt state q k) (keptAt state q (suc k)) → (keptAt state q (suc k) ≡ keptAt state q k → First state q k c) → First state q (suc k) c
+      go : Goes (state (suc k) .clock) (keptAt state q k) (keptAt state q (suc k))
+          → (keptAt state q (suc k) ≡ keptAt state q k → First state q k c) → First state q (suc k) c
       go (inl a) h =
           let f = h a in
           let w = f .within in

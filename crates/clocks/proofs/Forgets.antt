@@ -41,7 +41,8 @@ ifRoom-forgets : (s : State) (v w : Work) → Likewise v w → forgotten (ifRoom
 unfolding ifRoom done
 ifRoom-forgets s v w (a, o) =
     let e : hasRoom (v .now) ≡ hasRoom (w .now) = sym (room-forgets (v .now)) ∙ ap hasRoom a ∙ room-forgets (w .now) in
-    by-bool (hasRoom (w .now)) (λ q. rw (ifRoom, e, q) (same-outcome 0 (v .now) (w .now) (v .out) (w .out) a o)) (λ q. rw (ifRoom, e, q) (stopping-forgets 6 full s))
+    by-bool (hasRoom (w .now)) (λ q. rw (ifRoom, e, q) (same-outcome 0 (v .now) (w .now) (v .out) (w .out) a o))
+    (λ q. rw (ifRoom, e, q) (stopping-forgets 6 full s))
 
 used-forgets : (m : Message) (s : State) → usedUp m (forget s) ≡ usedUp m s
 unfolding usedUp forget withTables
@@ -78,7 +79,8 @@ unfolding offer running forget withTables
 offer-forgets b s =
     by-bool (running s)
     (λ r.
-    by-option (offered b s) (λ q. rw (r, offer, offered-forgets b s, q) (refused-forgets 9 s)) (λ m q. rw (r, offer, offered-forgets b s, q) (handled-forgets m s)))
+    by-option (offered b s) (λ q. rw (r, offer, offered-forgets b s, q) (refused-forgets 9 s))
+    (λ m q. rw (r, offer, offered-forgets b s, q) (handled-forgets m s)))
     (λ r. rw (r, offer) (refused-forgets 3 s))
 
 pub tick-forgets : (s : State) → forgotten (tick (forget s)) ≡ forgotten (tick s)

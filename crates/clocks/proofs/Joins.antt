@@ -27,11 +27,11 @@ pub goes-some : {c d : ℕ} {r r′ : Option ℕ} → Goes c r r′ → r ≡ so
 goes-some (inl a) e = a ∙ e
 goes-some (inr (n, a)) e = no-some (sym n ∙ e)
 
--- of a block: how its clock goes from one table to another; whether it is there exactly when its voters are a quorum
+-- a block's clock is there exactly when its voters are a quorum
 abbrev pub Marked : Settings → Certificate → List Tally → Type 0
 Marked g q us = isThere (reachedOf q us) ≡ quorum g (voters q us)
 
--- what a change of the table at this clock does to the block
+-- what a change of the table at clock c does to the block: how its clock goes, and that it stays there exactly so
 abbrev pub Law : Settings → ℕ → Certificate → List Tally → List Tally → Type 0
 Law g c q us vs = Goes c (reachedOf q us) (reachedOf q vs) × (Marked g q us → Marked g q vs)
 
@@ -90,11 +90,12 @@ module _ (k : Moment) (t q : Certificate) where
   unfolding grown
   grown-law u us =
       let v = grown k u (t .mask) in
+      let j = joined (u .mask) (t .mask) in
       by-bool (ofBlock q u)
       (λ e.
       let f = block-grown k q u (t .mask) ∙ e in
       rw (reached-here q u us e, voters-here q u us e, reached-here q v us f, voters-here q v us f)
-      (reached-goes k (u .reached) (joined (u .mask) (t .mask)), λ m. reached-there k (u .reached) (joined (u .mask) (t .mask)) (λ h. quorum-left (k .settings) (u .mask) (t .mask) (sym m ∙ h))))
+      (reached-goes k (u .reached) j, λ m. reached-there k (u .reached) j (λ h. quorum-left (k .settings) (u .mask) (t .mask) (sym m ∙ h))))
       (λ e.
       let f = block-grown k q u (t .mask) ∙ e in
       rw (reached-next q u us e, voters-next q u us e, reached-next q v us f, voters-next q v us f) (inl refl, λ m. m))

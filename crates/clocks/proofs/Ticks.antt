@@ -47,7 +47,8 @@ complain-blind s =
     (λ q.
     rw (q, complain)
     (then-blind (saying (forget s) (toAll (blame (s .view) (s .settings .own)) ∷ [])) (saying s (toAll (blame (s .view) (s .settings .own)) ∷ []))
-    (blaming (s .view) (only (s .settings .own))) (saying-blind (toAll (blame (s .view) (s .settings .own)) ∷ []) s) (blaming-blind (s .view) (only (s .settings .own)))))
+    (blaming (s .view) (only (s .settings .own)))
+    (saying-blind (toAll (blame (s .view) (s .settings .own)) ∷ []) s) (blaming-blind (s .view) (only (s .settings .own)))))
     (λ q. rw (q, complain) (saying-blind [] s))
 
 view-forgets : (s : State) → ownNewView (forget s) ≡ ownNewView s
@@ -57,7 +58,10 @@ view-forgets s = rw (highest-forgets (s .settings) (s .view) (s .tallies))
 lead-blind : Blind lead
 unfolding lead leadsNow leads isIn forget withTables
 lead-blind s =
-    by-bool (leadsNow s) (λ q. rw (q, lead) (subst (λ (m : Message). Likewise (handled m (forget s)) (handled (ownNewView s) s)) (sym (view-forgets s)) (handled-blind (ownNewView s) s))) (λ q. rw (q, lead) (saying-blind [] s))
+    let m = ownNewView s in
+    by-bool (leadsNow s)
+    (λ q. rw (q, lead) (subst (λ (x : Message). Likewise (handled x (forget s)) (handled m s)) (sym (view-forgets s)) (handled-blind m s)))
+    (λ q. rw (q, lead) (saying-blind [] s))
 
 lock-forgets : (s : State) → nextLock (forget s) ≡ nextLock s
 unfolding nextLock forget withTables
@@ -89,7 +93,8 @@ arrive-blind s =
 enter-blind : Blind enter
 unfolding enter entersNow forget withTables
 enter-blind s =
-    by-bool (entersNow s) (λ q. rw (q, enter) (then-blind (entered (forget s)) (entered s) arrive (entered-blind s) arrive-blind)) (λ q. rw (q, enter) (saying-blind [] s))
+    by-bool (entersNow s) (λ q. rw (q, enter) (then-blind (entered (forget s)) (entered s) arrive (entered-blind s) arrive-blind))
+    (λ q. rw (q, enter) (saying-blind [] s))
 
 logging-blind : (l : List ℕ) → Blind (logging l)
 unfolding logging saying withLog forget withTables
@@ -99,7 +104,8 @@ rest-blind : (l : List ℕ) → Blind (λ s. logging l s ▸ complain ▸ lead �
 rest-blind l s =
     let u = forget s in
     then-blind (logging l u ▸ complain ▸ lead) (logging l s ▸ complain ▸ lead) enter
-    (then-blind (logging l u ▸ complain) (logging l s ▸ complain) lead (then-blind (logging l u) (logging l s) complain (logging-blind l s) complain-blind) lead-blind)
+    (then-blind (logging l u ▸ complain) (logging l s ▸ complain) lead
+    (then-blind (logging l u) (logging l s) complain (logging-blind l s) complain-blind) lead-blind)
     enter-blind
 
 clock-alike : (c : ℕ) (s : State) → Alike (withClock c (forget s)) (withClock c s)
