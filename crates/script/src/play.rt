@@ -8,7 +8,6 @@ use crate::stored::Store;
 use lines::Line;
 use lines::What;
 use page::Page;
-use parts::Flaw;
 
 // Plays a line, and says whether it was one. The bytes of any line of 4,096 have room.
 pub fn line(store: &mut Store, line: &[u8], number: u64) -> bool {
@@ -68,8 +67,8 @@ fn given(store: &mut Store, number: u64, what: What, bytes: &[u8]) {
         What::Offer => offer(store, number, bytes),
         What::Envelope => relay::hand_over(store, number, bytes),
         What::Slip => slip(store, number, bytes),
+        What::Certified { view, height } => certified(store, number, view, height, bytes),
         What::Choose { first } => choose(store, number, bytes, first),
-        What::Certified { .. } => show::bad(number, Flaw::Word),
     }
 }
 
@@ -80,6 +79,15 @@ fn slip(store: &Store, number: u64, name: &[u8]) {
     let mut page = io::buffer();
     let started = show::start(&mut page, 0, number, b"slip");
     let end = show::slip(&mut page, started, answer, &out);
+    page::finish(&page, end);
+}
+
+// When a block was certified, which changes nothing.
+fn certified(store: &Store, number: u64, view: u64, height: u64, name: &[u8]) {
+    let answer = certified::station_certified(store, view, height, name);
+    let mut page = io::buffer();
+    let started = show::start(&mut page, 0, number, b"certified");
+    let end = show::certified(&mut page, started, answer);
     page::finish(&page, end);
 }
 

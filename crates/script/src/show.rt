@@ -100,6 +100,19 @@ pub fn slip(page: &mut Page, at: usize, answer: u64, out: &Out) -> usize {
     sent::bytes(page, told, out, count as usize)
 }
 
+// An answer that is a clock: a refusal, none, or the clock.
+pub fn certified(page: &mut Page, at: usize, answer: u64) -> usize {
+    let number = refusal(answer);
+    if number != 0 {
+        return refused(page, at, number);
+    }
+    if answer == 0 {
+        return page::say(page, at, b": none\n");
+    }
+    let told = spell::number(page, at, b": at clock ", answer - 1);
+    page::put(page, told, b'\n')
+}
+
 // What is wrong with a line.
 fn flaw(page: &mut Page, at: usize, flaw: Flaw) -> usize {
     match flaw {
