@@ -1,11 +1,11 @@
 -- Whole lines: the order of a first word, what is answered, and what is left of the buffer. Assumes nothing.
-use Prim.Native.Nat.{ℕ, zero, suc, _+_, _<_, _≤_}
+use Prim.Native.Nat.{ℕ, zero, suc, _+_, _-_, _<_, _≤_}
 use mathlib.Core.Path.{_≡_, refl, sym, ap, _∙_}
 use mathlib.Core.Bool.{Bool, true, false}
 use mathlib.Core.List.{List, [], _∷_, _++_}
 use native.Mathlib.Omega.{arith}
 use native.Mathlib.Nat.{add-zero, zero-add, add-suc, suc-add}
-use lib.ListN.{length, drop, getD, List·getD-eq-default}
+use lib.ListN.{length, take, drop, getD, List·getD-eq-default}
 use lib.Dec.{leb}
 use borrow.Author.Tests.{le-leb, lt-leb, leb-true, leb-false}
 use Rattle.rules.specs.Lists.{unbe}
@@ -19,7 +19,9 @@ use Rattle.outgoing.proofs.Writing.{length-wrote}
 use Rattle.text.specs.Words.{bytes, word, rest, noWord, pairs, isBytes}
 use Rattle.parts.specs.Fields.{Got, got, wrong, onto, reads, fieldOf}
 use Rattle.lines.specs.Script.{freshened, ticked, alone, hex, slipped, certified, chosen, Meaning, blank, fresh, tick, given, message, log, state, display, bad, meant, spoken, Order, orders, ordered, lineOf}
-use Rattle.text.specs.Places.{Lists, placed}
+use Rattle.text.specs.Places.{WordOf, Lists, placed}
+use Rattle.text.specs.declared.Span.{Span}
+use Rattle.text.proofs.Runs.{word-some}
 use Rattle.parts.specs.Places.{Field, ended, readsAt}
 use Rattle.lines.specs.Answers.{answer, fill, left, filled, Reads, WritesNothing, HexAt, hexPlace, HexRead}
 use Rattle.parts.specs.declared.Flaw.{Flaw}
@@ -86,6 +88,13 @@ module _ (s : List ℕ) where
   line-order k e h =
       let p : k ≡ placed 1 (firsts orders) (word s) = h (firsts orders) first-words in
       rw (e, lineOf) (of-picked (word s) (rest s) k (rw (← p) at (pick orders (word s) (rest s) 0)))
+
+-- the same as the code finds it: the first word is there, and it is word k of the table
+pub line-means : {s : List ℕ} {w : Span} {k : ℕ} → WordOf s s w → (w .start ≡ w .end → ⊥)
+    → ((ws : List (List ℕ)) → Lists ws (bytes "new-view propose vote blame blame-set status fresh tick message offer log state display envelope choose slip certified") → k ≡ placed 1 ws (take (w .end - w .start) (drop (w .start) s)))
+    → (j : ℕ) → k ≡ j → lineOf s ≡ meansOf j (drop (w .end) s)
+line-means {s} {w} {k} r n h j e =
+    line-order s k (word-some r n) (λ ws l. rw (r .is) at (h ws l)) ∙ ap (λ (i : ℕ). meansOf i (rest s)) e ∙ ap (meansOf j) (sym (r .after))
 
 means-none : (k : ℕ) (s : List ℕ) → 17 < k → meansOf k s ≡ bad flaw.Word
 unfolding meansOf meanings orders

@@ -1,14 +1,14 @@
 -- Reading by places is reading: a reader moves behind field after field to the end, and what it has is the message. Assumes nothing.
 use Prim.Native.Nat.{ℕ, zero, suc, _+_, _-_, _*_, _/_, _%_, _^_, _<_, _≤_}
 use mathlib.Core.Path.{_≡_, refl, sym, ap, ap₂, subst, _∙_}
-use mathlib.Core.Bool.{Bool, true, false, _&&_, and-true}
+use mathlib.Core.Bool.{Bool, true, false, not, _&&_, and-true}
 use mathlib.Core.List.{List, [], _∷_, _++_, map}
 use mathlib.Core.Option.{Option, none, some, Option·map}
 use native.Mathlib.Omega.{arith}
 use lib.ListN.{length, take, drop, getD, set, length-drop, length-set, drop-of-length-le}
 use lib.Seq.{drop-cons, drop-drop, length-take-le, getD-set-same, getD-set-other}
 use lib.Dec.{leb, eqb}
-use borrow.Author.Tests.{eqb-true, eqb-false, eq-eqb, ne-eqb, leb-true, leb-false, le-leb, lt-leb}
+use borrow.Author.Tests.{not-false, eqb-true, eqb-false, eq-eqb, ne-eqb, leb-true, leb-false, le-leb, lt-leb}
 use Rattle.fields.specs.Places.{Bytes, number}
 use Rattle.fields.proofs.Lists.{number-cons, number-piece}
 use Rattle.rules.specs.Lists.{be, unbe, iff, within as between, any, all, keep}
@@ -16,7 +16,7 @@ use Rattle.rules.specs.Messages.{Message, Row, table, rowOf, tagsOf, width, aft
 use Rattle.rules.specs.Sizes.{holds}
 use Rattle.rules.proofs.Tests.{by-bool, no-bool, and-left, and-right}
 use Rattle.rules.proofs.Truths.{iff-eq}
-use Rattle.wire.specs.Fields.{head, isField, numberOf, behind, has, Tags, Place, value, start, moved, walked, made, ended}
+use Rattle.wire.specs.Fields.{head, isField, numberOf, behind, Found, has, Tags, Place, value, start, moved, walked, made, ended}
 
 -- a field that stands at a place lies within the message
 pub field-room : (s : List ℕ) (at t w : ℕ) → isField s at t w ≡ true → at + 3 + w ≤ length s
@@ -254,11 +254,11 @@ module _ (s : List ℕ) (t : ℕ) (p : Place) where
   unfolding moved
   moved-length = by-bool (has (value p 1) t) (λ h. rw (h, moved) (length-set (p .values) t _)) (λ h. rw (h, moved))
 
--- the same, of a tag that is known to be one
-pub moved-as : (s : List ℕ) (p : Place) {t v n : ℕ} (j : ℕ) → t ≡ j → has (value p 1) t ≡ true
-    → v ≡ numberOf s (p .at) j (width j) → n ≡ behind s (p .at) j (width j) → record { at = n; values = set (p .values) j v } ≡ moved s t p
-moved-as s p j e h x y =
-    moved-on s j p (subst (λ (i : ℕ). has (value p 1) i ≡ true) e h) x y ∙ ap (λ (i : ℕ). moved s i p) (sym e)
+-- the same as the code finds it, of a tag that is known to be one
+pub moved-as : (s : List ℕ) (p : Place) {t v n : ℕ} (j : ℕ) → t ≡ j → {x : Bool} → x ≡ has (value p 1) t → not x ≡ false
+    → Found s (p .at) j (width j) v n → record { at = n; values = set (p .values) j v } ≡ moved s t p
+moved-as s p j e {x} h y f =
+    moved-on s j p (subst (λ (i : ℕ). has (value p 1) i ≡ true) e (sym h ∙ not-false x y)) (f .value-is) (f .next-is) ∙ ap (λ (i : ℕ). moved s i p) (sym e)
 
 -- a value in front of those that were read to the end, if they were
 onto-ends : (x : Bool) (v w : ℕ) (vs : List ℕ) → w ≡ v

@@ -1,10 +1,9 @@
 -- `lines::read_line` meets its contract: by its first word. Assumes nothing.
-use Rattle.text.proofs.Runs.{word-none, word-some}
-use Rattle.lines.proofs.Replies.{nothing-blank, nothing-bad, unchanged, reads-as, line-blank, line-order, meansOf, meanings, means-other, means-spoken}
-use Rattle.text.specs.Words.{rest, bytes}
+use Rattle.text.proofs.Runs.{word-none}
+use Rattle.lines.proofs.Replies.{nothing-blank, nothing-bad, unchanged, reads-as, line-blank, line-means, meansOf, meanings, means-other, means-spoken}
+use Rattle.text.specs.Words.{bytes}
 use Rattle.lines.specs.Script.{orders}
-use Prim.Native.Nat.{ℕ}
-use mathlib.Core.Path.{_≡_, refl, ap, _∙_}
+use mathlib.Core.Path.{_≡_, refl, _∙_}
 use native.Mathlib.Omega.{arith}
 use borrow.Author.Needs.{needs}
 use Rattle.lines.proofs.read_line.Statement.{statement}
@@ -71,18 +70,12 @@ spoken-requires c κs = search needs
 returns-2 : tie.Need-returns-2
 unfolding bytes meansOf meanings orders
 returns-2 c =
-    let s = c .before .before .before .before .before .before .before .before .before .args .line .now in
-    let w = c .before .before .before .before .before .before .word .ensures in
-    let is = line-order s (c .before .before .which .result) (word-some w (c .before .before .before .before .before .if1 .left)) (λ ws l. rw (w .is) at (c .before .before .which .ensures ws l)) in
-    unchanged _ _ _ _ (c .fresh .ensures) (rw (← w .after) at (is ∙ ap (λ (k : ℕ). meansOf k (rest s)) (c .before .match .keys1)))
+    unchanged _ _ _ _ (c .fresh .ensures) (line-means (c .before .before .before .before .before .before .word .ensures) (c .before .before .before .before .before .if1 .left) (c .before .before .which .ensures) _ (c .before .match .keys1))
 
 returns-3 : tie.Need-returns-3
 unfolding bytes meansOf meanings orders
 returns-3 c =
-    let s = c .before .before .before .before .before .before .before .before .before .args .line .now in
-    let w = c .before .before .before .before .before .before .word .ensures in
-    let is = line-order s (c .before .before .which .result) (word-some w (c .before .before .before .before .before .if1 .left)) (λ ws l. rw (w .is) at (c .before .before .which .ensures ws l)) in
-    unchanged _ _ _ _ (c .tick .ensures) (rw (← w .after) at (is ∙ ap (λ (k : ℕ). meansOf k (rest s)) (c .before .match .keys2)))
+    unchanged _ _ _ _ (c .tick .ensures) (line-means (c .before .before .before .before .before .before .word .ensures) (c .before .before .before .before .before .if1 .left) (c .before .before .which .ensures) _ (c .before .match .keys2))
 
 same-length : tie.Need-same-length
 same-length c = search needs
@@ -90,10 +83,7 @@ same-length c = search needs
 returns-4 : tie.Need-returns-4
 unfolding bytes meansOf meanings orders
 returns-4 c =
-    let s = c .before .before .before .before .before .before .before .before .before .before .before .before .args .line .now in
-    let w = c .before .before .before .before .before .before .before .before .before .word .ensures in
-    let is = line-order s (c .before .before .before .before .before .which .result) (word-some w (c .before .before .before .before .before .before .before .before .if1 .left)) (λ ws l. rw (w .is) at (c .before .before .before .before .before .which .ensures ws l)) in
-    reads-as _ _ _ _ _ (rw (← w .after) at (is ∙ ap (λ (k : ℕ). meansOf k (rest s)) (c .before .before .before .before .match .keys3))) (c .before .before .hexed .ensures)
+    reads-as _ _ _ _ _ (line-means (c .before .before .before .before .before .before .before .before .before .word .ensures) (c .before .before .before .before .before .before .before .before .if1 .left) (c .before .before .before .before .before .which .ensures) _ (c .before .before .before .before .match .keys3)) (c .before .before .hexed .ensures)
 
 same-length-2 : tie.Need-same-length-2
 same-length-2 c = search needs
@@ -101,34 +91,22 @@ same-length-2 c = search needs
 returns-5 : tie.Need-returns-5
 unfolding bytes meansOf meanings orders
 returns-5 c =
-    let s = c .before .before .before .before .before .before .before .before .before .before .before .before .args .line .now in
-    let w = c .before .before .before .before .before .before .before .before .before .word .ensures in
-    let is = line-order s (c .before .before .before .before .before .which .result) (word-some w (c .before .before .before .before .before .before .before .before .if1 .left)) (λ ws l. rw (w .is) at (c .before .before .before .before .before .which .ensures ws l)) in
-    reads-as _ _ _ _ _ (rw (← w .after) at (is ∙ ap (λ (k : ℕ). meansOf k (rest s)) (c .before .before .before .before .match .keys4))) (c .before .before .hexed2 .ensures)
+    reads-as _ _ _ _ _ (line-means (c .before .before .before .before .before .before .before .before .before .word .ensures) (c .before .before .before .before .before .before .before .before .if1 .left) (c .before .before .before .before .before .which .ensures) _ (c .before .before .before .before .match .keys4)) (c .before .before .hexed2 .ensures)
 
 returns-6 : tie.Need-returns-6
 unfolding bytes meansOf meanings orders
 returns-6 c =
-    let s = c .before .before .before .before .before .before .before .before .before .args .line .now in
-    let w = c .before .before .before .before .before .before .word .ensures in
-    let is = line-order s (c .before .before .which .result) (word-some w (c .before .before .before .before .before .if1 .left)) (λ ws l. rw (w .is) at (c .before .before .which .ensures ws l)) in
-    unchanged _ _ _ _ (c .alone .ensures) (rw (← w .after) at (is ∙ ap (λ (k : ℕ). meansOf k (rest s)) (c .before .match .keys5)))
+    unchanged _ _ _ _ (c .alone .ensures) (line-means (c .before .before .before .before .before .before .word .ensures) (c .before .before .before .before .before .if1 .left) (c .before .before .which .ensures) _ (c .before .match .keys5))
 
 returns-7 : tie.Need-returns-7
 unfolding bytes meansOf meanings orders
 returns-7 c =
-    let s = c .before .before .before .before .before .before .before .before .before .args .line .now in
-    let w = c .before .before .before .before .before .before .word .ensures in
-    let is = line-order s (c .before .before .which .result) (word-some w (c .before .before .before .before .before .if1 .left)) (λ ws l. rw (w .is) at (c .before .before .which .ensures ws l)) in
-    unchanged _ _ _ _ (c .alone2 .ensures) (rw (← w .after) at (is ∙ ap (λ (k : ℕ). meansOf k (rest s)) (c .before .match .keys6)))
+    unchanged _ _ _ _ (c .alone2 .ensures) (line-means (c .before .before .before .before .before .before .word .ensures) (c .before .before .before .before .before .if1 .left) (c .before .before .which .ensures) _ (c .before .match .keys6))
 
 returns-8 : tie.Need-returns-8
 unfolding bytes meansOf meanings orders
 returns-8 c =
-    let s = c .before .before .before .before .before .before .before .before .before .args .line .now in
-    let w = c .before .before .before .before .before .before .word .ensures in
-    let is = line-order s (c .before .before .which .result) (word-some w (c .before .before .before .before .before .if1 .left)) (λ ws l. rw (w .is) at (c .before .before .which .ensures ws l)) in
-    unchanged _ _ _ _ (c .alone3 .ensures) (rw (← w .after) at (is ∙ ap (λ (k : ℕ). meansOf k (rest s)) (c .before .match .keys7)))
+    unchanged _ _ _ _ (c .alone3 .ensures) (line-means (c .before .before .before .before .before .before .word .ensures) (c .before .before .before .before .before .if1 .left) (c .before .before .which .ensures) _ (c .before .match .keys7))
 
 same-length-3 : tie.Need-same-length-3
 same-length-3 c = search needs
@@ -136,10 +114,7 @@ same-length-3 c = search needs
 returns-9 : tie.Need-returns-9
 unfolding bytes meansOf meanings orders
 returns-9 c =
-    let s = c .before .before .before .before .before .before .before .before .before .before .before .before .args .line .now in
-    let w = c .before .before .before .before .before .before .before .before .before .word .ensures in
-    let is = line-order s (c .before .before .before .before .before .which .result) (word-some w (c .before .before .before .before .before .before .before .before .if1 .left)) (λ ws l. rw (w .is) at (c .before .before .before .before .before .which .ensures ws l)) in
-    reads-as _ _ _ _ _ (rw (← w .after) at (is ∙ ap (λ (k : ℕ). meansOf k (rest s)) (c .before .before .before .before .match .keys8))) (c .before .before .hexed3 .ensures)
+    reads-as _ _ _ _ _ (line-means (c .before .before .before .before .before .before .before .before .before .word .ensures) (c .before .before .before .before .before .before .before .before .if1 .left) (c .before .before .before .before .before .which .ensures) _ (c .before .before .before .before .match .keys8)) (c .before .before .hexed3 .ensures)
 
 same-length-4 : tie.Need-same-length-4
 same-length-4 c = search needs
@@ -147,10 +122,7 @@ same-length-4 c = search needs
 returns-10 : tie.Need-returns-10
 unfolding bytes meansOf meanings orders
 returns-10 c =
-    let s = c .before .before .before .before .before .before .before .before .before .before .before .before .args .line .now in
-    let w = c .before .before .before .before .before .before .before .before .before .word .ensures in
-    let is = line-order s (c .before .before .before .before .before .which .result) (word-some w (c .before .before .before .before .before .before .before .before .if1 .left)) (λ ws l. rw (w .is) at (c .before .before .before .before .before .which .ensures ws l)) in
-    reads-as _ _ _ _ _ (rw (← w .after) at (is ∙ ap (λ (k : ℕ). meansOf k (rest s)) (c .before .before .before .before .match .keys9))) (c .before .before .chosen .ensures)
+    reads-as _ _ _ _ _ (line-means (c .before .before .before .before .before .before .before .before .before .word .ensures) (c .before .before .before .before .before .before .before .before .if1 .left) (c .before .before .before .before .before .which .ensures) _ (c .before .before .before .before .match .keys9)) (c .before .before .chosen .ensures)
 
 same-length-5 : tie.Need-same-length-5
 same-length-5 c = search needs
@@ -158,10 +130,7 @@ same-length-5 c = search needs
 returns-11 : tie.Need-returns-11
 unfolding bytes meansOf meanings orders
 returns-11 c =
-    let s = c .before .before .before .before .before .before .before .before .before .before .before .before .args .line .now in
-    let w = c .before .before .before .before .before .before .before .before .before .word .ensures in
-    let is = line-order s (c .before .before .before .before .before .which .result) (word-some w (c .before .before .before .before .before .before .before .before .if1 .left)) (λ ws l. rw (w .is) at (c .before .before .before .before .before .which .ensures ws l)) in
-    reads-as _ _ _ _ _ (rw (← w .after) at (is ∙ ap (λ (k : ℕ). meansOf k (rest s)) (c .before .before .before .before .match .keys10))) (c .before .before .slip .ensures)
+    reads-as _ _ _ _ _ (line-means (c .before .before .before .before .before .before .before .before .before .word .ensures) (c .before .before .before .before .before .before .before .before .if1 .left) (c .before .before .before .before .before .which .ensures) _ (c .before .before .before .before .match .keys10)) (c .before .before .slip .ensures)
 
 same-length-6 : tie.Need-same-length-6
 same-length-6 c = search needs
@@ -169,10 +138,7 @@ same-length-6 c = search needs
 returns-12 : tie.Need-returns-12
 unfolding bytes meansOf meanings orders
 returns-12 c =
-    let s = c .before .before .before .before .before .before .before .before .before .before .before .before .args .line .now in
-    let w = c .before .before .before .before .before .before .before .before .before .word .ensures in
-    let is = line-order s (c .before .before .before .before .before .which .result) (word-some w (c .before .before .before .before .before .before .before .before .if1 .left)) (λ ws l. rw (w .is) at (c .before .before .before .before .before .which .ensures ws l)) in
-    reads-as _ _ _ _ _ (rw (← w .after) at (is ∙ ap (λ (k : ℕ). meansOf k (rest s)) (c .before .before .before .before .match .keys11))) (c .before .before .certified .ensures)
+    reads-as _ _ _ _ _ (line-means (c .before .before .before .before .before .before .before .before .before .word .ensures) (c .before .before .before .before .before .before .before .before .if1 .left) (c .before .before .before .before .before .which .ensures) _ (c .before .before .before .before .match .keys11)) (c .before .before .certified .ensures)
 
 same-length-7 : tie.Need-same-length-7
 same-length-7 c = search needs
@@ -180,27 +146,26 @@ same-length-7 c = search needs
 returns-13 : tie.Need-returns-13
 unfolding bytes
 returns-13 c =
-    let s = c .before .before .before .before .before .before .before .before .before .before .before .before .before .before .args .line .now in
-    let w = c .before .before .before .before .before .before .before .before .before .before .before .word .ensures in
-    let is = line-order s (c .before .before .before .before .before .before .before .which .result) (word-some w (c .before .before .before .before .before .before .before .before .before .before .if1 .left)) (λ ws l. rw (w .is) at (c .before .before .before .before .before .before .before .which .ensures ws l)) in
-    reads-as _ _ _ _ _ (rw (← w .after) at (is ∙ means-spoken (c .before .before .before .before .before .before .before .which .result) (c .before .before .before .before .before .if2 .left) (omega (arith, c .before .before .before .before .if3 .taken)) (rest s))) (c .before .before .spoken .ensures)
+    reads-as _ _ _ _ _
+    (line-means (c .before .before .before .before .before .before .before .before .before .before .before .word .ensures) (c .before .before .before .before .before .before .before .before .before .before .if1 .left) (c .before .before .before .before .before .before .before .which .ensures) _ refl
+    ∙ means-spoken (c .before .before .before .before .before .before .before .which .result) (c .before .before .before .before .before .if2 .left) (omega (arith, c .before .before .before .before .if3 .taken)) _)
+    (c .before .before .spoken .ensures)
 
 returns-14 : tie.Need-returns-14
 unfolding bytes meansOf
 returns-14 c =
-    let s = c .before .before .before .before .before .before .before .before .before .args .line .now in
-    let w = c .before .before .before .before .before .before .word .ensures in
-    let is = line-order s (c .before .before .which .result) (word-some w (c .before .before .before .before .before .if1 .left)) (λ ws l. rw (w .is) at (c .before .before .which .ensures ws l)) in
     let none : c .before .before .which .result ≡ 0 = omega (arith, c .if2 .taken) in
-    unchanged _ _ _ _ (nothing-bad _ _ (is ∙ ap (λ (k : ℕ). meansOf k (rest s)) none)) refl
+    unchanged _ _ _ _ (nothing-bad _ _ (line-means (c .before .before .before .before .before .before .word .ensures) (c .before .before .before .before .before .if1 .left) (c .before .before .which .ensures) 0 none)) refl
 
 returns-15 : tie.Need-returns-15
 unfolding bytes
 returns-15 c =
-    let s = c .before .before .before .before .before .before .before .before .before .before .args .line .now in
-    let w = c .before .before .before .before .before .before .before .word .ensures in
-    let is = line-order s (c .before .before .before .which .result) (word-some w (c .before .before .before .before .before .before .if1 .left)) (λ ws l. rw (w .is) at (c .before .before .before .which .ensures ws l)) in
-    unchanged _ _ _ _ (nothing-bad _ _ (is ∙ means-other _ (rest s) (c .if3 .left) (c .before .before .match .rest .0 .0 .0 .0 .0 .0 .0 .0 .0 .0 .1) (c .before .before .match .rest .0 .0 .0 .0 .0 .0 .0 .0 .0 .1) (c .before .before .match .rest .0 .0 .0 .0 .0 .0 .0 .0 .1) (c .before .before .match .rest .0 .0 .0 .0 .0 .0 .0 .1) (c .before .before .match .rest .0 .0 .0 .0 .0 .0 .1) (c .before .before .match .rest .0 .0 .0 .0 .0 .1) (c .before .before .match .rest .0 .0 .0 .0 .1) (c .before .before .match .rest .0 .0 .0 .1) (c .before .before .match .rest .0 .0 .1) (c .before .before .match .rest .0 .1) (c .before .before .match .rest .1))) refl
+    let r = c .before .before .match .rest in
+    unchanged _ _ _ _
+    (nothing-bad _ _
+    (line-means (c .before .before .before .before .before .before .before .word .ensures) (c .before .before .before .before .before .before .if1 .left) (c .before .before .before .which .ensures) _ refl
+    ∙ means-other _ _ (c .if3 .left) (r .0 .0 .0 .0 .0 .0 .0 .0 .0 .0 .1) (r .0 .0 .0 .0 .0 .0 .0 .0 .0 .1) (r .0 .0 .0 .0 .0 .0 .0 .0 .1) (r .0 .0 .0 .0 .0 .0 .0 .1) (r .0 .0 .0 .0 .0 .0 .1) (r .0 .0 .0 .0 .0 .1) (r .0 .0 .0 .0 .1) (r .0 .0 .0 .1) (r .0 .0 .1) (r .0 .1) (r .1)))
+    refl
 
 pub read-line-spec : {M : Type 1} → statement M
 read-line-spec =

@@ -26,12 +26,7 @@ cast-cursor c = search needs
 returns-2 : tie.Need-returns-2
 unfolding placeOf width
 returns-2 c =
-    let after-number-at = c .before in
-    let after-match = after-number-at .before in
-    let after-has = after-match .before .before in
-    let start = after-has .before .before in
-    let found = after-number-at .number-at .ensures in
-    moved-as (start .args .s .now) (placeOf (start .args .cursor)) 1 (after-match .match .keys1) (sym (after-has .has .ensures) ∙ not-false _ (after-match .before .if1 .left)) (found .value-is) (found .next-is)
+    moved-as (c .before .before .before .before .before .before .args .s .now) (placeOf (c .before .before .before .before .before .before .args .cursor)) 1 (c .before .before .match .keys1) (c .before .before .before .before .has .ensures) (c .before .before .before .if1 .left) (c .before .number-at .ensures)
 
 number-at-requires-2 : tie.Need-number-at-requires-2
 number-at-requires-2 c κs = search needs
@@ -42,12 +37,7 @@ cast-cursor-2 c = search needs
 returns-3 : tie.Need-returns-3
 unfolding placeOf width
 returns-3 c =
-    let after-number-at = c .before in
-    let after-match = after-number-at .before in
-    let after-has = after-match .before .before in
-    let start = after-has .before .before in
-    let found = after-number-at .number-at2 .ensures in
-    moved-as (start .args .s .now) (placeOf (start .args .cursor)) 2 (after-match .match .keys2) (sym (after-has .has .ensures) ∙ not-false _ (after-match .before .if1 .left)) (found .value-is) (found .next-is)
+    moved-as (c .before .before .before .before .before .before .args .s .now) (placeOf (c .before .before .before .before .before .before .args .cursor)) 2 (c .before .before .match .keys2) (c .before .before .before .before .has .ensures) (c .before .before .before .if1 .left) (c .before .number-at2 .ensures)
 
 number-at-requires-3 : tie.Need-number-at-requires-3
 number-at-requires-3 c κs = search needs
@@ -58,12 +48,7 @@ cast-cursor-3 c = search needs
 returns-4 : tie.Need-returns-4
 unfolding placeOf width
 returns-4 c =
-    let after-number-at = c .before in
-    let after-match = after-number-at .before in
-    let after-has = after-match .before .before in
-    let start = after-has .before .before in
-    let found = after-number-at .number-at3 .ensures in
-    moved-as (start .args .s .now) (placeOf (start .args .cursor)) 3 (after-match .match .keys3) (sym (after-has .has .ensures) ∙ not-false _ (after-match .before .if1 .left)) (found .value-is) (found .next-is)
+    moved-as (c .before .before .before .before .before .before .args .s .now) (placeOf (c .before .before .before .before .before .before .args .cursor)) 3 (c .before .before .match .keys3) (c .before .before .before .before .has .ensures) (c .before .before .before .if1 .left) (c .before .number-at3 .ensures)
 
 name-at-requires : tie.Need-name-at-requires
 name-at-requires c κs = search needs
@@ -71,12 +56,7 @@ name-at-requires c κs = search needs
 returns-5 : tie.Need-returns-5
 unfolding placeOf width
 returns-5 c =
-    let after-name-at = c .before .before in
-    let after-match = after-name-at .before in
-    let after-has = after-match .before .before in
-    let start = after-has .before .before in
-    let found = after-name-at .name-at .ensures in
-    moved-as (start .args .s .now) (placeOf (start .args .cursor)) 4 (after-match .match .keys4) (sym (after-has .has .ensures) ∙ not-false _ (after-match .before .if1 .left)) (found .value-is) (found .next-is)
+    moved-as (c .before .before .before .before .before .before .before .args .s .now) (placeOf (c .before .before .before .before .before .before .before .args .cursor)) 4 (c .before .before .before .match .keys4) (c .before .before .before .before .before .has .ensures) (c .before .before .before .before .if1 .left) (c .before .before .name-at .ensures)
 
 name-at-requires-2 : tie.Need-name-at-requires-2
 name-at-requires-2 c κs = search needs
@@ -84,12 +64,7 @@ name-at-requires-2 c κs = search needs
 returns-6 : tie.Need-returns-6
 unfolding placeOf width
 returns-6 c =
-    let after-name-at = c .before .before in
-    let after-match = after-name-at .before in
-    let after-has = after-match .before .before in
-    let start = after-has .before .before in
-    let found = after-name-at .name-at2 .ensures in
-    moved-as (start .args .s .now) (placeOf (start .args .cursor)) 5 (after-match .match .keys5) (sym (after-has .has .ensures) ∙ not-false _ (after-match .before .if1 .left)) (found .value-is) (found .next-is)
+    moved-as (c .before .before .before .before .before .before .before .args .s .now) (placeOf (c .before .before .before .before .before .before .before .args .cursor)) 5 (c .before .before .before .match .keys5) (c .before .before .before .before .before .has .ensures) (c .before .before .before .before .if1 .left) (c .before .before .name-at2 .ensures)
 
 number-at-requires-4 : tie.Need-number-at-requires-4
 number-at-requires-4 c κs = search needs
@@ -100,12 +75,7 @@ cast-cursor-4 c = search needs
 returns-7 : tie.Need-returns-7
 unfolding placeOf width
 returns-7 c =
-    let after-number-at = c .before in
-    let after-match = after-number-at .before in
-    let after-has = after-match .before .before in
-    let start = after-has .before .before in
-    let found = after-number-at .number-at4 .ensures in
-    moved-as (start .args .s .now) (placeOf (start .args .cursor)) 6 (after-match .match .keys6) (sym (after-has .has .ensures) ∙ not-false _ (after-match .before .if1 .left)) (found .value-is) (found .next-is)
+    moved-as (c .before .before .before .before .before .before .args .s .now) (placeOf (c .before .before .before .before .before .before .args .cursor)) 6 (c .before .before .match .keys6) (c .before .before .before .before .has .ensures) (c .before .before .before .if1 .left) (c .before .number-at4 .ensures)
 
 number-at-requires-5 : tie.Need-number-at-requires-5
 number-at-requires-5 c κs = search needs
@@ -116,12 +86,7 @@ cast-cursor-5 c = search needs
 returns-8 : tie.Need-returns-8
 unfolding placeOf width
 returns-8 c =
-    let after-number-at = c .before in
-    let after-match = after-number-at .before in
-    let after-has = after-match .before .before in
-    let start = after-has .before .before in
-    let found = after-number-at .number-at5 .ensures in
-    moved-as (start .args .s .now) (placeOf (start .args .cursor)) 7 (after-match .match .keys7) (sym (after-has .has .ensures) ∙ not-false _ (after-match .before .if1 .left)) (found .value-is) (found .next-is)
+    moved-as (c .before .before .before .before .before .before .args .s .now) (placeOf (c .before .before .before .before .before .before .args .cursor)) 7 (c .before .before .match .keys7) (c .before .before .before .before .has .ensures) (c .before .before .before .if1 .left) (c .before .number-at5 .ensures)
 
 number-at-requires-6 : tie.Need-number-at-requires-6
 number-at-requires-6 c κs = search needs
@@ -132,15 +97,11 @@ cast-cursor-6 c = search needs
 returns-9 : tie.Need-returns-9
 unfolding placeOf width
 returns-9 c =
-    let after-number-at = c .before in
-    let after-match = after-number-at .before in
-    let after-has = after-match .before .before in
-    let start = after-has .before .before in
-    let found = after-number-at .number-at6 .ensures in
-    let has = sym (after-has .has .ensures) ∙ not-false _ (after-match .before .if1 .left) in
-    let r = after-match .match .rest in
-    moved-as (start .args .s .now) (placeOf (start .args .cursor)) 8 (last-tag (start .args .cursor .kind) (start .args .tag) has
-    (r .0 .0 .0 .0 .0 .0 .1) (r .0 .0 .0 .0 .0 .1) (r .0 .0 .0 .0 .1) (r .0 .0 .0 .1) (r .0 .0 .1) (r .0 .1) (r .1)) has (found .value-is) (found .next-is)
+    let a = c .before .before .before .before .before .before .args in
+    let has = c .before .before .before .before .has .ensures in
+    let r = c .before .before .match .rest in
+    let last = last-tag (a .cursor .kind) (a .tag) (sym has ∙ not-false _ (c .before .before .before .if1 .left)) (r .0 .0 .0 .0 .0 .0 .1) (r .0 .0 .0 .0 .0 .1) (r .0 .0 .0 .0 .1) (r .0 .0 .0 .1) (r .0 .0 .1) (r .0 .1) (r .1) in
+    moved-as (a .s .now) (placeOf (a .cursor)) 8 last has (c .before .before .before .if1 .left) (c .before .number-at6 .ensures)
 
 pub field-at-spec : {M : Type 1} → statement M
 field-at-spec =
