@@ -8,7 +8,7 @@ use native.Mathlib.Numerals.{add-one}
 use native.Mathlib.Nat.{mul-le-mul-left, mul-suc}
 use native.Mathlib.Decide.{ℕ-discrete}
 use lib.Dec.{eqb}
-use lib.ListN.{length, length-set, set, replicate, getD-replicate, length-replicate}
+use lib.ListN.{length, length-set, set, getD-replicate, length-replicate}
 use Rattle.rules.specs.Limits.{mostTalliesLarge}
 use lib.Seq.{getD-set-same, getD-set-other}
 use borrow.Author.Tests.{eqb-true, eq-eqb, ne-eqb}

@@ -1,7 +1,7 @@
 -- The whole definition by its parts, and what the answer says of decoding. Assumes nothing.
 use Prim.Native.Nat.{ℕ, _≤_}
 use mathlib.Core.Path.{_≡_, refl, sym, ap, _∙_}
-use mathlib.Core.Bool.{Bool, true, false, not, _&&_, and-true, and-false}
+use mathlib.Core.Bool.{Bool, true, false, not, _&&_, and-true}
 use mathlib.Core.List.{List}
 use mathlib.Core.Option.{none, some}
 use native.Mathlib.Omega.{arith}
@@ -49,16 +49,16 @@ grouped : (x a b c d e f : Bool) → (x && (a && b && c && d && e && f)) ≡ (x 
 grouped true a b c d e f = refl
 grouped false a b c d e f = refl
 
--- where two tallies are of one block nothing else of the tables counts
-pub tables-not : (g : Settings) (now : ℕ) (b : List ℕ) (r : Bool) → r ≡ distinct sameTally (tallies b) → not r ≡ true → false ≡ tablesGood g now b
-unfolding tablesGood
-tables-not g now b r e n = rw (sym e ∙ not-true r n, and-false)
+-- where a tally is not good or two are of one block nothing else of the tables counts
+module _ (g : Settings) (now : ℕ) (b : List ℕ) (r : Bool) (e : r ≡ (all (tallyGood g now) (tallies b) && distinct sameTally (tallies b))) where
+  pub tables-not : not r ≡ true → false ≡ tablesGood g now b
+  unfolding tablesGood
+  tables-not n = rw (sym e ∙ not-true r n)
 
--- where they are apart, the others do
-pub tables-then : (g : Settings) (now : ℕ) (b : List ℕ) (r : Bool) → r ≡ distinct sameTally (tallies b) → not r ≡ false
-    → (all (tallyGood g now) (tallies b) && all (talliesThere (tallies b)) (statements b) && blamesGood g (blames b) && linked (statements b) 0 0 (names b) && fewOpened (g .n) (tallies b)) ≡ tablesGood g now b
-unfolding tablesGood
-tables-then g now b r e n = rw (sym e ∙ not-false r n, and-true)
+  -- where they are good and apart, the others do
+  pub tables-then : not r ≡ false → (all (talliesThere (tallies b)) (statements b) && blamesGood g (blames b) && linked (statements b) 0 0 (names b) && fewOpened (g .n) (tallies b)) ≡ tablesGood g now b
+  unfolding tablesGood
+  tables-then n = rw (sym e ∙ not-false r n)
 
 -- without the form nothing else counts
 pub formless : (b : List ℕ) (r : Bool) → r ≡ hasForm b → not r ≡ true → false ≡ (hasForm b && wellFormed (stateOf b))

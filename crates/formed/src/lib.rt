@@ -16,8 +16,8 @@ use settings::Settings;
 use stated::statements;
 use stated::there;
 use store::Station;
+use tallied::apart;
 use tallied::openers;
-use tallied::tallies;
 
 // Whether tallies, blame masks and log are well formed, where the statements are.
 fn tables_good(store: &[u8], station: Station, salt: u64) -> bool
@@ -28,11 +28,19 @@ fn tables_good(store: &[u8], station: Station, salt: u64) -> bool
     let count = station.tallies;
     let mut heads: [u16; CHAINS] = [0; CHAINS];
     let mut nexts: [u16; Settings::MOST_TALLIES_LARGE] = [0; Settings::MOST_TALLIES_LARGE];
-    if !tallied::apart::distinct(store, salt, count, &mut heads, &mut nexts) {
+    let good = apart::good_and_apart(
+        store,
+        settings,
+        station.clock,
+        salt,
+        count,
+        &mut heads,
+        &mut nexts,
+    );
+    if !good {
         return false;
     }
-    tallies::all_good(store, settings, station.clock, count)
-        & there::all_there(store, salt, count, &heads, &nexts, station.statements)
+    there::all_there(store, salt, count, &heads, &nexts, station.statements)
         & blames::all_good(store, settings)
         & linked::is_linked(store, station.logged, station.statements)
         & openers::few_opened(store, settings, count)

@@ -1,13 +1,12 @@
 -- The block that a stored statement certifies, by its key and the place of its name. Assumes nothing.
 use Prim.Native.Nat.{ℕ, _+_, _-_, _*_, _^_, _<_, _≤_}
-use mathlib.Core.Path.{_≡_, refl, sym, ap, _∙_}
-use mathlib.Core.Bool.{Bool, true, false}
+use mathlib.Core.Path.{_≡_, refl, _∙_}
+use mathlib.Core.Bool.{true, false}
 use mathlib.Core.List.{List}
 use native.Mathlib.Omega.{arith}
-use lib.Dec.{eqb}
 use borrow.Author.Tests.{eq-eqb, ne-eqb}
 use Rattle.rules.specs.Limits.{small}
-use Rattle.rules.specs.Words.{Statement, Certificate, ownBlock, certificate}
+use Rattle.rules.specs.Words.{Statement, ownBlock, certificate}
 use Rattle.rules.proofs.Tests.{by-bool}
 use Rattle.fields.specs.Places.{Bytes, number}
 use Rattle.fields.proofs.Laws.{number-lt, number-split}

@@ -1,20 +1,20 @@
 -- Statements on chains: whether statement i is met again behind it. Assumes nothing.
-use Prim.Native.Nat.{ℕ, _+_, _-_, _*_, _^_, _<_, _≤_}
-use mathlib.Core.Path.{_≡_, refl, sym, ap, _∙_}
-use mathlib.Core.Bool.{Bool, true, false, _&&_}
+use Prim.Native.Nat.{ℕ, _+_, _-_, _<_, _≤_}
+use mathlib.Core.Path.{_≡_, refl, sym, _∙_}
+use mathlib.Core.Bool.{Bool, true, _&&_}
 use mathlib.Core.List.{List}
 use native.Mathlib.Omega.{arith}
 use lib.Dec.{eqb}
 use lib.ListN.{set}
 use borrow.Author.Tests.{eqb-true}
-use Rattle.rules.specs.Limits.{small, mostTalliesLarge, mostStatementsLarge}
+use Rattle.rules.specs.Limits.{small, mostStatementsLarge}
 use Rattle.rules.specs.Lists.{iff, any}
 use Rattle.rules.specs.Words.{Statement, sameStatement}
 use Rattle.rules.proofs.Tests.{and-left, and-right}
 use Rattle.fields.specs.Places.{Bytes, number}
 use Rattle.store.specs.Layout.{statementTable, placeOf}
 use Rattle.store.specs.Decode.{nth, rows, statementAt}
-use Rattle.chains.specs.Chains.{chains, stir, stirName, chainOf, Chained, behind, Walk}
+use Rattle.chains.specs.Chains.{chains, Chained, behind, Walk}
 use Rattle.chains.proofs.Mixes.{name-stirs}
 use Rattle.chains.proofs.Walks.{chained-more, walk-start, walk-whole}
 use Rattle.chains.proofs.Apart.{any-same}

@@ -12,7 +12,7 @@ use lib.ListN.{length, set, replicate, getD-replicate}
 use lib.Seq.{getD-set-same, getD-set-other}
 use borrow.Author.Tests.{eq-eqb, ne-eqb}
 use Rattle.rules.specs.Lists.{keep}
-use Rattle.rules.specs.Words.{Tally, isAuthor, openedBy}
+use Rattle.rules.specs.Words.{Tally, openedBy}
 use Rattle.rules.specs.Limits.{mostOpened}
 use Rattle.rules.specs.WellFormed.{fewOpened}
 use Rattle.rules.proofs.Tests.{by-bool}

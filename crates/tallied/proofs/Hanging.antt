@@ -1,13 +1,14 @@
 -- Tallies on chains: whether tally i is met again behind it. Assumes nothing.
-use Prim.Native.Nat.{ℕ, _+_, _-_, _*_, _^_, _<_, _≤_}
-use mathlib.Core.Path.{_≡_, refl, sym, ap, _∙_}
-use mathlib.Core.Bool.{Bool, true, false}
+use Prim.Native.Nat.{ℕ, zero, suc, _+_, _-_, _*_, _^_, _<_, _≤_}
+use mathlib.Core.Path.{_≡_, sym, ap, _∙_}
+use mathlib.Core.Bool.{Bool, true, false, and-false}
 use mathlib.Core.List.{List}
 use native.Mathlib.Omega.{arith}
 use native.Mathlib.Nat.{add-zero, sub-zero}
-use lib.ListN.{length, set}
+use native.Mathlib.Numerals.{add-one}
+use lib.ListN.{set}
 use Rattle.rules.specs.Limits.{mostTalliesLarge}
-use Rattle.rules.specs.Lists.{any}
+use Rattle.rules.specs.Lists.{all, any}
 use Rattle.rules.specs.Words.{certificateOf, ofBlock}
 use Rattle.rules.specs.WellFormed.{sameTally}
 use Rattle.fields.specs.Places.{Bytes, number}
@@ -15,12 +16,26 @@ use Rattle.fields.proofs.Laws.{number-lt, number-split}
 use Rattle.lookup.specs.Search.{hasBlock}
 use Rattle.store.specs.Layout.{sizeIn, tallySize, tallyTable, placeOf, countOf}
 use Rattle.store.specs.Decode.{nth, rows, tallyAt, tallyFor, tallies}
+use Rattle.store.proofs.Rows.{rows-from}
 use Rattle.store.proofs.Searches.{block-found}
+use Rattle.heading.proofs.Walks.{all-here}
 use Rattle.chains.specs.Chains.{chains, blockChain, recordChain, Chained, behind, Walk, isOf}
 use Rattle.chains.proofs.Mixes.{block-alike}
 use Rattle.chains.proofs.Walks.{chained-more, walk-start, walk-whole}
 use Rattle.chains.proofs.Apart.{any-same}
-use Rattle.tallied.specs.Tallies.{tallyChain, Keyed, Has}
+use Rattle.tallied.specs.Tallies.{tallyChain, Has}
+
+-- a record that fails a test below spoils the whole
+all-below : {A : Type 0} (f : ℕ → A) (p : A → Bool) (i n : ℕ) → i ≤ n → all p (rows f i (n - i)) ≡ false → all p (rows f 0 n) ≡ false
+unfolding all
+all-below f p zero n l e = rw sub-zero at e
+all-below f p (suc i) n l e = all-below f p i n (omega arith) (ap (all p) (rows-from f i n (omega arith)) ∙ rw (add-one i, e) (and-false (p (f i))))
+
+pub all-not : {A : Type 0} (f : ℕ → A) (p : A → Bool) (i n m : ℕ) → n ≡ m → i < n → p (f i) ≡ false → all p (rows f 0 m) ≡ false
+all-not f p i n m e l t = rw (← e) (all-below f p i n (omega arith) (all-here f n p i l t))
+
+pub all-whole : {A : Type 0} (f : ℕ → A) (p : A → Bool) (i n m : ℕ) → n ≡ m → i ≤ 0 → all p (rows f i (n - i)) ≡ true → all p (rows f 0 m) ≡ true
+all-whole f p i n m e l t = let z : i ≡ 0 = omega arith in rw (z, sub-zero, e) at t
 
 -- view and height are the first eight bytes
 pub key-is : (b : List ℕ) (to : ℕ) → number b to 8 ≡ number b (to + 0) 4 * 256 ^ 4 + number b (to + 4) 4

@@ -1,13 +1,14 @@
 -- Which chain a tally hangs on, and how many tallies have which opener. Assumes nothing.
 use Prim.Native.Nat.{ℕ, _+_, _-_, _*_, _^_, _<_}
 use mathlib.Core.Path.{_≡_}
-use mathlib.Core.Bool.{Bool, true, false}
+use mathlib.Core.Bool.{Bool, true, false, _&&_}
 use mathlib.Core.List.{List}
 use lib.ListN.{length}
 use lib.Dec.{eqb}
-use Rattle.rules.specs.Lists.{any, distinct, keep}
+use Rattle.rules.specs.Lists.{all, any, distinct, keep}
+use Rattle.rules.specs.Sizes.{Settings}
 use Rattle.rules.specs.Words.{Certificate, ofBlock}
-use Rattle.rules.specs.WellFormed.{sameTally}
+use Rattle.rules.specs.WellFormed.{tallyGood, sameTally}
 use Rattle.fields.specs.Places.{number}
 use Rattle.store.specs.Layout.{sizeIn, tallyTable}
 use Rattle.store.specs.Decode.{nth, rows, openerAt, tallyAt, tallies}
@@ -31,9 +32,9 @@ pub record Met (b : List ℕ) (salt n i : ℕ) (r : Bool) (heads nexts : List �
   pub is : r ≡ any (sameTally (tallyAt b i)) (rows (tallyAt b) (i + 1) (n - (i + 1)))
   pub hangs : r ≡ false → Chained (tallyChain b salt) i n heads nexts
 
--- the answer whether all tallies are apart, and the chains, where they are
-pub record Apart (b : List ℕ) (salt n : ℕ) (r : Bool) (heads nexts : List ℕ) : Type 0 where
-  pub is : r ≡ distinct sameTally (tallies b)
+-- the answer whether all tallies are good and apart, and the chains, where they are
+pub record Apart (g : Settings) (now : ℕ) (b : List ℕ) (salt n : ℕ) (r : Bool) (heads nexts : List ℕ) : Type 0 where
+  pub is : r ≡ (all (tallyGood g now) (tallies b) && distinct sameTally (tallies b))
   pub hang : r ≡ true → Chained (tallyChain b salt) 0 n heads nexts
 
 -- a block by its view and height as one number, and the place of its name

@@ -1,10 +1,13 @@
-// No two tallies are of one block: each is looked for on its chain among those behind it, and then hangs before them.
+// Tallies are allowed, and no two are of one block: each is looked for on its chain among those behind it, and then hangs before them.
 ghost use Prim.Native.Nat.{_+_, _≤_, _<_};
 ghost use lib.ListN.{length};
+ghost use Rattle.rules.specs.Limits.{mostStations};
+ghost use Rattle.settings.specs.Made.{settingsOf};
 ghost use Rattle.store.specs.Layout.{tallyTable};
 ghost use Rattle.heading.specs.Lent.{Counts};
 ghost use Rattle.chains.specs.Chains.{Bare, Chained};
 ghost use Rattle.tallied.specs.Tallies.{tallyChain, Met, Apart, Has};
+use super::tallies;
 use chains::CHAINS;
 use settings::Settings;
 use store::TALLY_SIZE;
@@ -37,20 +40,25 @@ fn repeated(
     false
 }
 
-// Whether no two tallies are of one block; then all hang on their chains.
-pub fn distinct(
+// Whether every tally is good and no two are of one block; then all hang on their chains.
+pub fn good_and_apart(
     store: &[u8],
+    settings: Settings,
+    clock: u32,
     salt: u64,
     count: usize,
     heads: &mut [u16; CHAINS],
     nexts: &mut [u16; Settings::MOST_TALLIES_LARGE],
 ) -> bool
-    requires { ⌜ Counts tallyTable (now store) count × Bare (now heads) (now nexts) ⌝ }
-    ensures { λ r. ⌜ Apart (now (store .entry)) salt count r (now (heads .exit)) (now (nexts .exit)) ⌝ }
+    requires { ⌜ Counts tallyTable (now store) count × (settings .n ≤ mostStations) × Bare (now heads) (now nexts) ⌝ }
+    ensures { λ r. ⌜ Apart (settingsOf settings) clock (now (store .entry)) salt count r (now (heads .exit)) (now (nexts .exit)) ⌝ }
 {
     let mut i = count;
     while 0 < i {
         i -= 1;
+        if !tallies::tally_good(store, settings, clock, i) {
+            return false;
+        }
         if repeated(store, salt, count, heads, nexts, i) {
             return false;
         }

@@ -3,12 +3,10 @@ ghost use mathlib.Core.Path.{_≡_};
 ghost use Prim.Native.Nat.{_+_, _-_, _≤_, _<_};
 ghost use lib.ListN.{length};
 ghost use Rattle.rules.specs.Limits.{mostStations, mostTallies};
-ghost use Rattle.rules.specs.Lists.{all};
 ghost use Rattle.rules.specs.WellFormed.{openerGood, reachedGood, tallyGood};
 ghost use Rattle.settings.specs.Made.{settingsOf};
-ghost use Rattle.store.specs.Layout.{sizeIn, storeLength, tallyTable};
+ghost use Rattle.store.specs.Layout.{sizeIn, storeLength};
 ghost use Rattle.store.specs.Decode.{openerOf, reachedFrom, tallyAt, tallies};
-ghost use Rattle.heading.specs.Lent.{Counts};
 use allowed::clauses;
 use settings::Settings;
 
@@ -47,7 +45,7 @@ fn reached_good(settings: Settings, clock: u32, mask: u16, reached: u32) -> bool
 
 // Whether a tally is of a view and a block that are allowed, with a mask of these stations, opened by nobody or by one of its voters,
 // and keeps a clock as it should: field by field where it lies.
-fn tally_good(store: &[u8], settings: Settings, clock: u32, i: usize) -> bool
+pub fn tally_good(store: &[u8], settings: Settings, clock: u32, i: usize) -> bool
     requires { ⌜ (length (now store) ≡ storeLength (sizeIn (now store))) × (i < mostTallies (sizeIn (now store))) × (settings .n ≤ mostStations) ⌝ }
     ensures { λ r. ⌜ r ≡ tallyGood (settingsOf settings) clock (tallyAt (now (store .entry)) i) ⌝ }
 {
@@ -64,19 +62,4 @@ fn tally_good(store: &[u8], settings: Settings, clock: u32, i: usize) -> bool
         & clauses::mask_within(settings, mask)
         & opener_good(settings, mask, opener)
         & reached_good(settings, clock, mask, reached)
-}
-
-// Whether every tally is good.
-pub fn all_good(store: &[u8], settings: Settings, clock: u32, count: usize) -> bool
-    requires { ⌜ Counts tallyTable (now store) count × (settings .n ≤ mostStations) ⌝ }
-    ensures { λ r. ⌜ r ≡ all (tallyGood (settingsOf settings) clock) (tallies (now (store .entry))) ⌝ }
-{
-    let mut i: usize = 0;
-    while i < count {
-        if !tally_good(store, settings, clock, i) {
-            return false;
-        }
-        i += 1;
-    }
-    true
 }

@@ -2,7 +2,6 @@
 use mathlib.Core.Path.{sym}
 use native.Mathlib.Omega.{arith}
 use Rattle.chains.proofs.Walks.{walk-end}
-use borrow.Author.Needs.{needs}
 use Rattle.chains.proofs.has_block.Statement.{statement}
 use Rattle.chains.proofs.has_block.Tie as tie
 

@@ -1,3 +1,4 @@
+-- `chains::with_name` meets its contract. Assumes nothing.
 use Rattle.chains.specs.Chains.{stirName}
 use borrow.Author.Needs.{needs}
 use Rattle.chains.proofs.with_name.Statement.{statement}

@@ -1,5 +1,6 @@
+-- `linked::hang_all` meets its contract. Assumes nothing.
 use Prim.Native.Nat.{_-_, _+_, _%_, _≤_}
-use mathlib.Core.Path.{_≡_, refl, sym, ap, _∙_}
+use mathlib.Core.Path.{_≡_, ap}
 use native.Mathlib.Omega.{arith}
 use Rattle.heading.proofs.Forms.{few-statements}
 use Rattle.chains.specs.Chains.{chains, Chained}

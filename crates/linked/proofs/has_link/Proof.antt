@@ -1,4 +1,5 @@
-use mathlib.Core.Path.{_≡_, refl, sym, ap, _∙_}
+-- `linked::has_link` meets its contract. Assumes nothing.
+use mathlib.Core.Path.{_≡_, refl, sym, _∙_}
 use native.Mathlib.Omega.{arith}
 use Rattle.rules.specs.Lists.{any}
 use Rattle.heading.proofs.Forms.{few-statements}
@@ -6,7 +7,6 @@ use Rattle.chains.specs.Chains.{behind, Walk}
 use Rattle.chains.proofs.Walks.{walk-end, walk-less, walk-on, walk-here, walk-next}
 use Rattle.fields.specs.Names.{nameOf}
 use Rattle.linked.specs.Links.{linksAt}
-use borrow.Author.Needs.{needs}
 use Rattle.linked.proofs.has_link.Statement.{statement}
 use Rattle.linked.proofs.has_link.Tie as tie
 

@@ -1,5 +1,5 @@
-use Prim.Native.Nat.{_%_, _<_}
-use mathlib.Core.Path.{_≡_, sym, ap, _∙_}
+-- `linked::is_link` meets its contract. Assumes nothing.
+use mathlib.Core.Path.{_∙_}
 use native.Mathlib.Omega.{arith}
 use Rattle.fields.specs.Names.{nameOf}
 use Rattle.heading.proofs.Forms.{few-statements}

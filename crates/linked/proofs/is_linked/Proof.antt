@@ -1,3 +1,4 @@
+-- `linked::is_linked` meets its contract. Assumes nothing.
 use Prim.Native.Nat.{_-_}
 use mathlib.Core.Path.{_≡_, refl, sym, ap, _∙_}
 use native.Mathlib.Omega.{arith}
@@ -11,12 +12,6 @@ use Rattle.linked.proofs.Parts.{linked-end, linked-here, linked-next}
 use borrow.Author.Needs.{needs}
 use Rattle.linked.proofs.is_linked.Statement.{statement}
 use Rattle.linked.proofs.is_linked.Tie as tie
-use Rattle.linked.proofs.is_linked.Reads as reads
-use Rattle.linked.proofs.is_linked.Lts as lts
-use Rattle.fields.proofs.Name.zero.Reads as zero-reads
-use Rattle.linked.proofs.hang_all.Reads as hang-all-reads
-use Rattle.linked.proofs.is_link.Reads as is-link-reads
-use Rattle.store.proofs.name_at.Reads as name-at-reads
 
 abbrev Inv-loop : tie.InvT-loop
 Inv-loop store count stored heads nexts parent₀ i₀ parent i =
@@ -26,63 +21,51 @@ abbrev μ-loop : tie.MeasureT-loop
 μ-loop store count stored heads nexts parent₀ i₀ parent i =
     count - i
 
--- src/lib.rt:96:5
 hang-all-requires : tie.Need-hang-all-requires Inv-loop μ-loop
 hang-all-requires c κs =
     (c .before .before .before .pre .1, record { heads-are = refl; nexts-are = refl })
 
--- src/lib.rt:97:9
 zero-requires : tie.Need-zero-requires Inv-loop μ-loop
 zero-requires c κs = search needs
 
--- src/lib.rt:99:5
 loop-holds : tie.Need-loop-holds Inv-loop μ-loop
 unfolding names
 loop-holds c =
     rw (c .zero .ensures) (ap (linked _ 0 0) (rows-whole (nameAt _) _ _ (c .before .before .before .before .before .pre .0 .is)))
 
--- src/lib.rt:100:13
 name-at-requires : tie.Need-name-at-requires Inv-loop μ-loop
 name-at-requires c κs =
     let k = c .before .before .before .before .before .before .before .pre .0 in
     (k .long, omega (arith, k .room, c .loop-test .taken))
 
--- src/lib.rt:101:22
 cast-height : tie.Need-cast-height Inv-loop μ-loop
 cast-height c =
     let few = few-names (c .before .before .before .before .before .before .before .before .pre .0) in
     search needs
 
--- src/lib.rt:101:22
 add-height : tie.Need-add-height Inv-loop μ-loop
 add-height c =
     let few = few-names (c .before .before .before .before .before .before .before .before .pre .0) in
     search needs
 
--- src/lib.rt:102:13
 is-link-requires : tie.Need-is-link-requires Inv-loop μ-loop
 is-link-requires c κs =
     (c .before .before .before .before .before .before .before .before .before .before .pre .1, c .before .before .before .before .before .before .hang-all .ensures)
 
--- src/lib.rt:103:13
 returns : tie.Need-returns Inv-loop μ-loop
 returns c =
     sym (c .before .before .before .before .before .before .loop .inv ∙ linked-here _ (nameAt _) _ _ _ (c .before .before .before .before .before .loop-test .taken) _ (c .before .before .before .before .name-at .ensures) (sym (c .before .is-link .ensures) ∙ not-true _ (c .if1 .taken)))
 
--- src/lib.rt:106:9
 add-i : tie.Need-add-i Inv-loop μ-loop
 add-i c = search needs
 
--- src/lib.rt:99:5
 loop-less : tie.Need-loop-less Inv-loop μ-loop
 loop-less c = search needs
 
--- src/lib.rt:99:5
 loop-again : tie.Need-loop-again Inv-loop μ-loop
 loop-again c =
     c .before .before .before .before .before .before .loop .inv ∙ linked-next _ (nameAt _) _ _ _ (c .before .before .before .before .before .loop-test .taken) _ (c .before .before .before .before .name-at .ensures) (sym (c .before .is-link .ensures) ∙ not-false _ (c .if1 .left))
 
--- src/lib.rt:90:1
 returns-2 : tie.Need-returns-2 Inv-loop μ-loop
 returns-2 c =
     sym (c .before .loop .inv ∙ linked-end _ (nameAt _) _ _ _ (c .loop-test .left))

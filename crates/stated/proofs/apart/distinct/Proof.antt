@@ -1,6 +1,7 @@
+-- `stated::apart::distinct` meets its contract. Assumes nothing.
 use Prim.Native.Nat.{_-_, _+_, _≤_}
-use mathlib.Core.Path.{_≡_, refl, sym, ap, _∙_}
-use mathlib.Core.Bool.{true, false}
+use mathlib.Core.Path.{_≡_, refl, sym, _∙_}
+use mathlib.Core.Bool.{true}
 use native.Mathlib.Omega.{arith}
 use Rattle.rules.specs.Lists.{distinct}
 use Rattle.rules.specs.Words.{sameStatement}

@@ -1,11 +1,11 @@
-use mathlib.Core.Path.{_≡_, refl, sym, ap, _∙_}
+-- `stated::apart::has_statement` meets its contract. Assumes nothing.
+use mathlib.Core.Path.{_≡_, refl, sym, _∙_}
 use native.Mathlib.Omega.{arith}
 use Rattle.rules.specs.Lists.{any}
 use Rattle.heading.proofs.Forms.{few-statements}
 use Rattle.chains.specs.Chains.{behind, Walk}
 use Rattle.chains.proofs.Walks.{walk-end, walk-less, walk-on, walk-here, walk-next}
 use Rattle.stated.specs.Stated.{bare, isSame}
-use borrow.Author.Needs.{needs}
 use Rattle.stated.proofs.apart.has_statement.Statement.{statement}
 use Rattle.stated.proofs.apart.has_statement.Tie as tie
 

@@ -1,4 +1,5 @@
-use mathlib.Core.Path.{_≡_, sym, ap, subst, _∙_}
+-- `stated::apart::met` meets its contract. Assumes nothing.
+use mathlib.Core.Path.{sym, ap, subst, _∙_}
 use native.Mathlib.Omega.{arith}
 use Rattle.rules.specs.Lists.{any}
 use Rattle.rules.specs.Words as words

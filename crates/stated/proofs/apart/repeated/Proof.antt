@@ -1,4 +1,5 @@
-use Prim.Native.Nat.{ℕ, _+_, _*_}
+-- `stated::apart::repeated` meets its contract. Assumes nothing.
+use Prim.Native.Nat.{ℕ, _+_}
 use mathlib.Core.Path.{sym, ap, _∙_}
 use native.Mathlib.Omega.{arith}
 use Rattle.rules.specs.Limits.{small}

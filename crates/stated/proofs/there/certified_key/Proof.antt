@@ -1,4 +1,5 @@
-use mathlib.Core.Path.{_≡_, refl, sym, ap, _∙_}
+-- `stated::there::certified_key` meets its contract. Assumes nothing.
+use mathlib.Core.Path.{sym, _∙_}
 use native.Mathlib.Omega.{arith}
 use Rattle.stated.proofs.Certified.{new-key, propose-key, propose-above}
 use borrow.Author.Needs.{needs}

@@ -1,5 +1,5 @@
-use mathlib.Core.Path.{_≡_, refl, sym, ap, _∙_}
-use native.Mathlib.Omega.{arith}
+-- `stated::there::there` meets its contract. Assumes nothing.
+use mathlib.Core.Path.{refl, sym, _∙_}
 use borrow.Author.Tests.{not-true, not-false}
 use Rattle.store.specs.Decode.{statementAt, tallies}
 use Rattle.stated.proofs.Certified.{own-keyed, certified-keyed, certified-genesis, certified-later}

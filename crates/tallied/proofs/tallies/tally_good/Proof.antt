@@ -1,3 +1,4 @@
+-- `tallied::tallies::tally_good` meets its contract. Assumes nothing.
 use Rattle.rules.proofs.Truths.{beq-iff}
 use Rattle.tallied.proofs.Parts.{tally-is}
 use borrow.Author.Needs.{needs}
