@@ -92,7 +92,7 @@ fn entry(page: &mut Page, at: usize, store: &Store, i: usize) -> usize
     page::put(page, said, b'\n')
 }
 
-// The state: phase, view, entry and clock; then the lock as the status that says it.
+// The state: phase, view, entry and clock; then the lock as the status that says it, and when it was certified.
 pub fn state(line: u64, store: &Store) {
     let mut page = io::buffer();
     let started = show::start(&mut page, 0, line, b"state");
@@ -110,7 +110,9 @@ fn standing(page: &mut Page, at: usize, store: &Store) -> usize {
     let phased = phase(page, at, kind, station.view as u64);
     let entered = spell::number(page, phased, b", entered at ", station.entry as u64);
     let timed = spell::number(page, entered, b", clock ", station.clock as u64);
-    lock(page, timed, station.lock)
+    let told = lock(page, timed, station.lock);
+    let named = page::say(page, told, b"  lock certified");
+    show::certified(page, named, since(store, station.lock))
 }
 
 // The phase, of a view.
@@ -127,6 +129,14 @@ fn phase(page: &mut Page, at: usize, phase: Phase, view: u64) -> usize {
             Cause::Clock => spell::number(page, at, b": stopped, clock, in view ", view),
         },
     }
+}
+
+// When the lock was certified, as a host is told it.
+fn since(store: &Store, lock: Certificate) -> u64 {
+    let mut name = [0u8; 32];
+    let block = lock.name;
+    fields::put_name(&mut name, 0, block);
+    certified::station_certified(store, lock.view as u64, lock.height as u64, &name)
 }
 
 // The lock.

@@ -214,10 +214,7 @@ impl Teller {
         let Some(station) = &self.station else {
             return self.answered(number, "certified", 2, &[]);
         };
-        let said = match station.station().certified(view, height, name) {
-            Ok(Some(clock)) => format!("at clock {clock}"),
-            _ => "none".into(),
-        };
+        let said = since(station.station().certified(view, height, name).ok().flatten());
         self.print(format_args!("line {number}: certified: {said}"));
     }
 
@@ -229,13 +226,21 @@ impl Teller {
         let (entry, clock) = (station.station().entry(), station.station().clock());
         let lock = station.lock();
         let (height, name, view) = (lock.height, words::name(lock.name), lock.view);
+        let certified = station.station().certified(view.into(), height.into(), &lock.name);
+        let certified = since(certified.ok().flatten());
         self.print(format_args!(
             "line {number}: state: {phase}, entered at {entry}, clock {clock}"
         ));
         self.print(format_args!(
             "  lock: status height {height} name {name} certificate {view} mask"
         ));
+        self.print(format_args!("  lock certified: {certified}"));
     }
+}
+
+/// When a block was certified, in words.
+fn since(clock: Option<u32>) -> String {
+    clock.map_or("none".into(), |clock| format!("at clock {clock}"))
 }
 
 /// Ticks left, in words.
