@@ -15,7 +15,7 @@ use Rattle.rules.proofs.Tests.{by-option, no-some}
 use Rattle.rules.proofs.Allowed.{Sizes, sizes, view-within, height-le, leader-lt, mask-small, certificate-mask}
 use Rattle.kept.specs.Parts.{Formed, WellFormed}
 use Rattle.kept.proofs.Lists.{all-mem}
-use Rattle.kept.proofs.Tallies.{TallyGood, tally-parts, opener-lt, CertificateGood, lock-parts}
+use Rattle.kept.proofs.Tallies.{TallyGood, tally-parts, opener-lt, reached-le, CertificateGood, lock-parts}
 use Rattle.kept.proofs.Statements.{Stated, voted-le, stored-stated}
 use Rattle.kept.proofs.Phases.{Clocks, clocks-parts}
 use Rattle.kept.proofs.Blames.{blames-mask, blames-length}
@@ -55,8 +55,8 @@ module _ {s : State} (f : Formed s) where
   -- ---- a tally
 
   module _ (t : Tally) (m : Mem t (s .tallies)) where
-    pub tally-of : TallyGood (s .settings) t
-    tally-of = tally-parts (s .settings) t (all-mem (tallyGood (s .settings)) (f .tables .tallies) m)
+    pub tally-of : TallyGood (s .settings) (s .clock) t
+    tally-of = tally-parts (s .settings) (s .clock) t (all-mem (tallyGood (s .settings) (s .clock)) (f .tables .tallies) m)
 
     pub tally-limits : (firstView ≤ t .view) × (t .view ≤ lastView (s .settings .size)) × (t .height ≤ lastHeight) × (t .mask < 2 ^ mostStations) × (t .view ≤ lastViewLarge)
     tally-limits =
@@ -66,6 +66,9 @@ module _ {s : State} (f : Formed s) where
 
     pub opener-below : (a : ℕ) → t .opener ≡ some a → a < s .settings .n
     opener-below a e = opener-lt (s .settings) (t .mask) (t .opener) a (tally-of .opener) e
+
+    pub reached-clock : (c : ℕ) → t .reached ≡ some c → c ≤ s .clock
+    reached-clock c e = reached-le (s .settings) (s .clock) (t .mask) (t .reached) c (tally-of .reached) e
 
   -- ---- the lock, the blame masks
 

@@ -8,7 +8,7 @@ use borrow.Author.Tests.{lt-ltb}
 use Rattle.rules.specs.Lists.{first, any}
 use Rattle.rules.specs.Sizes.{only}
 use Rattle.rules.specs.Messages.{Message, newView, propose, vote, blame, blameSet, status, viewAllowed, allowed, Effect, toAll}
-use Rattle.rules.specs.Words.{Statement, message, sameStatement, conflict, Certificate, Opener, State}
+use Rattle.rules.specs.Words.{Statement, message, sameStatement, conflict, Certificate, Opener, State, moment}
 use Rattle.rules.specs.Inputs.{Work, saying, _▸_, withPhase, withTables, withBlames, isIn, quit, belowLock, votedFor, ballot, voting, certificateJoined, stored, statement, tallied, blamesOf, blamed, blameFull, blaming, handled}
 use Rattle.rules.specs.Refusals.{usedUp}
 use Rattle.rules.proofs.Tests.{by-bool, by-option}
@@ -19,7 +19,7 @@ use Rattle.kept.specs.Parts.{Formed}
 use Rattle.kept.specs.Said.{Each, Sendable, Sayable}
 use Rattle.kept.proofs.Lists.{each-append}
 use Rattle.kept.proofs.Sendable.{named, sendable}
-use Rattle.kept.proofs.Tallies.{Joinable, joinable, tally-made, opener-only}
+use Rattle.kept.proofs.Tallies.{Joinable, joinable, reached-new, tally-made, opener-only}
 use Rattle.kept.proofs.Openers.{MayOpen, nobody-may, author-may}
 use Rattle.kept.proofs.Statements.{stated, stored-said}
 use Rattle.kept.proofs.Tables.{tallied-formed, certificateJoined-formed, stored-formed, votedFor-formed}
@@ -87,7 +87,7 @@ module _ {s : State} (f : Formed s) (x : Statement) (m : Sendable (s .settings) 
 -- ---- vote, status, blame, blame set
 
 module _ {s : State} (f : Formed s) where
-  pub tallied-keeps : (k : Opener) (t : Certificate) → Joinable (s .settings) k t → MayOpen k t (s .tallies) → Keeps s (tallied k t s)
+  pub tallied-keeps : (k : Opener) (t : Certificate) → Joinable (moment k s) t → MayOpen k t (s .tallies) → Keeps s (tallied k t s)
   unfolding tallied saying withTables
   tallied-keeps k t j o = record { settings = refl; formed = tallied-formed f k t j o; said = tt }
 
@@ -121,7 +121,7 @@ module _ {s : State} (f : Formed s) where
       let (i, j, k) = allowed-rights (s .settings) (vote v h b a) (e .isAllowed) in
       let n = named (vote v h b a) (e .fits) in
       let t : Certificate = record { view = v; height = h; name = b; mask = only a } in
-      tallied-keeps f (some a) t (λ q. tally-made (record { view = i; block = j; name = n; mask = only-lt (s .settings) a k; opener = opener-only (s .settings) a k }))
+      tallied-keeps f (some a) t (λ q. tally-made (record { view = i; block = j; name = n; mask = only-lt (s .settings) a k; opener = opener-only (s .settings) a k; reached = reached-new (moment (some a) s) (only a) }))
       (author-may v h b a s u)
   handled-keeps (blame v a) e u =
       let (i, j) = allowed-rights (s .settings) (blame v a) (e .isAllowed) in blaming-keeps v (only a) i (only-lt (s .settings) a j)
@@ -130,4 +130,4 @@ module _ {s : State} (f : Formed s) where
   handled-keeps (status h b c m) e u =
       let (i, j) = allowed-rights (s .settings) (status h b c m) (e .isAllowed) in
       let t : Certificate = record { view = c; height = h; name = b; mask = m } in
-      tallied-keeps f none t (joinable (s .settings) t i (named (status h b c m) (e .fits)) j) (nobody-may t (s .tallies))
+      tallied-keeps f none t (joinable (s .settings) (s .clock) t i (named (status h b c m) (e .fits)) j) (nobody-may t (s .tallies))

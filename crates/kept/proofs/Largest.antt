@@ -3,7 +3,7 @@ use mathlib.Core.Path.{_≡_, refl}
 use Prim.Native.Nat.{ℕ, zero, suc}
 use mathlib.Core.Bool.{false, true}
 use mathlib.Core.List.{List, [], _∷_, _++_}
-use mathlib.Core.Option.{none}
+use mathlib.Core.Option.{none, some}
 use lib.ListN.{length, replicate}
 use Rattle.rules.specs.Limits.{small, lastView, mostStatements}
 use Rattle.rules.specs.Messages.{outgoing}
@@ -20,8 +20,8 @@ proposesTo (suc h) =
     ++ record { isNewView = false; view = 2; height = suc h; name = suc h; link = h; mask = 3; author = 2; voted = none } ∷ []
 
 talliesTo : ℕ → List Tally
-talliesTo zero = record { view = 2; height = 0; name = 0; mask = 3; opener = none } ∷ []
-talliesTo (suc h) = talliesTo h ++ record { view = 2; height = suc h; name = suc h; mask = 3; opener = none } ∷ []
+talliesTo zero = record { view = 2; height = 0; name = 0; mask = 3; opener = none; reached = some 0 } ∷ []
+talliesTo (suc h) = talliesTo h ++ record { view = 2; height = suc h; name = suc h; mask = 3; opener = none; reached = some 0 } ∷ []
 
 pub largest : State
 unfolding proposesTo talliesTo

@@ -106,14 +106,14 @@ opener-one : (g : Settings) (k : Opener) → ((a : ℕ) → k ≡ some a → a <
 opener-one g none h t ts e = let o = ones-nobody (g .n) in let b = nobody-here t ts e in omega arith
 opener-one g (some a) h t ts e = let o = ones-author (g .n) a (h a refl) in let b = nobody-not t ts a e in omega arith
 
-parted : (g : Settings) (ts : List Tally) → all (tallyGood g) ts ≡ true → length ts ≡ byNobody ts + byAuthors (g .n) ts
+parted : (g : Settings) (now : ℕ) (ts : List Tally) → all (tallyGood g now) ts ≡ true → length ts ≡ byNobody ts + byAuthors (g .n) ts
 unfolding all
-parted g [] h = let e = authors-none (g .n) in let z : byNobody [] ≡ 0 = unfold byNobody keep in refl in omega arith
-parted g (t ∷ ts) h =
-    let p = and-2 (tallyGood g t) (all (tallyGood g) ts) h in
-    let ih = parted g ts (p .1) in
+parted g now [] h = let e = authors-none (g .n) in let z : byNobody [] ≡ 0 = unfold byNobody keep in refl in omega arith
+parted g now (t ∷ ts) h =
+    let p = and-2 (tallyGood g now t) (all (tallyGood g now) ts) h in
+    let ih = parted g now ts (p .1) in
     let c = authors-cons (g .n) t ts in
-    let o = opener-one g (t .opener) (λ a e. opener-lt g (t .mask) (t .opener) a (tally-parts g t (p .0) .opener) e) t ts refl in
+    let o = opener-one g (t .opener) (λ a e. opener-lt g (t .mask) (t .opener) a (tally-parts g now t (p .0) .opener) e) t ts refl in
     omega arith
 
 authors-most : (n : ℕ) (ts : List Tally) → ((a : ℕ) → a < n → openedBy a ts ≤ mostOpened) → byAuthors n ts ≤ mostOpened * n
@@ -124,7 +124,7 @@ authors-most (suc n) ts h = let ih = authors-most n ts (λ a l. h a (omega arith
 -- all that votes ever open is sixteen for each station; what statements and statuses opened is the rest
 pub votes-open-few : {s : State} → Formed s → length (s .tallies) ≤ byNobody (s .tallies) + mostOpened * s .settings .n
 votes-open-few {s} f =
-    let p = parted (s .settings) (s .tallies) (f .tables .tallies) in
+    let p = parted (s .settings) (s .clock) (s .tallies) (f .tables .tallies) in
     let a = authors-most (s .settings .n) (s .tallies) (few-each (s .settings .n) (s .tallies) (f .tables .fewOpened)) in
     omega arith
 

@@ -34,7 +34,7 @@ module _ {s : State} (f : Formed s) where
       let d = stored-stated f x m in
       let q : x .height + 1 - 1 ≡ x .height = omega arith in
       let o = eq-eqb (s .settings .own) (leader (s .settings) (s .view)) (leads-own s l) in
-      let k = mask-made (s .settings) t (voters-mask (s .settings) (ownBlock x 0) (s .tallies) (f .tables .tallies)) (p .0) in
+      let k = mask-made (s .settings) t (voters-mask (s .settings) (s .clock) (ownBlock x 0) (s .tallies) (f .tables .tallies)) (p .0) in
       sendable (propose (s .view) (x .height + 1) b (x .name) t (s .settings .own)) (sizes (s .settings) (f .settings))
       (rw (f .view, le-leb 1 (x .height + 1) (omega arith), block-made (x .height + 1) b (omega arith) (omega arith) (eqb-false b 0 z), q, d .block, k, o))
       (n, d .name)

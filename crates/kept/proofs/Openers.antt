@@ -13,7 +13,7 @@ use Rattle.rules.specs.Limits.{mostOpened}
 use Rattle.rules.specs.Lists.{any, keep}
 use Rattle.rules.specs.Sizes.{only}
 use Rattle.rules.specs.Messages.{vote}
-use Rattle.rules.specs.Words.{Certificate, Opener, Tally, ofBlock, sameBlock, grown, join, joinCertificate, isAuthor, openedBy, State}
+use Rattle.rules.specs.Words.{Certificate, Opener, Tally, Moment, ofBlock, sameBlock, grown, join, joinCertificate, isAuthor, openedBy, State}
 use Rattle.rules.specs.Refusals.{usedUp}
 use Rattle.rules.specs.WellFormed.{fewOpened}
 use Rattle.rules.proofs.Tests.{by-bool, no-bool}
@@ -47,19 +47,19 @@ opened-suc : (a : ℕ) (t : Tally) (us vs : List Tally) → openedBy a us ≡ su
 unfolding openedBy keep
 opened-suc a t us vs e = by-bool (isAuthor a (t .opener)) (λ q. rw (q, keep) (ap suc e)) (λ q. rw (q, keep) e)
 
-opened-grown : (a : ℕ) (u : Tally) (m : ℕ) (us : List Tally) → openedBy a (grown u m ∷ us) ≡ openedBy a (u ∷ us)
+opened-grown : (a : ℕ) (k : Moment) (u : Tally) (m : ℕ) (us : List Tally) → openedBy a (grown k u m ∷ us) ≡ openedBy a (u ∷ us)
 unfolding openedBy keep grown
-opened-grown a u m us = by-bool (isAuthor a (u .opener)) (λ q. rw (q, keep) refl) (λ q. rw (q, keep) refl)
+opened-grown a k u m us = by-bool (isAuthor a (u .opener)) (λ q. rw (q, keep) refl) (λ q. rw (q, keep) refl)
 
 -- it opens none, or one that is missing, for whom it says
-pub opened-join : (a : ℕ) (k : Opener) (t : Certificate) (us : List Tally)
+pub opened-join : (a : ℕ) (k : Moment) (t : Certificate) (us : List Tally)
     → (openedBy a (join k t us) ≡ openedBy a us)
-    ⊎ ((any (ofBlock t) us ≡ false) × (isAuthor a k ≡ true) × (openedBy a (join k t us) ≡ suc (openedBy a us)))
+    ⊎ ((any (ofBlock t) us ≡ false) × (isAuthor a (k .opener) ≡ true) × (openedBy a (join k t us) ≡ suc (openedBy a us)))
 unfolding join any
 opened-join a k t [] =
-    by-bool (isAuthor a k) (λ q. inr (refl, q, unfold openedBy keep in rw (q, keep) refl)) (λ q. inl (unfold openedBy keep in rw (q, keep) refl))
+    by-bool (isAuthor a (k .opener)) (λ q. inr (refl, q, unfold openedBy keep in rw (q, keep) refl)) (λ q. inl (unfold openedBy keep in rw (q, keep) refl))
 opened-join a k t (u ∷ us) =
-    by-bool (ofBlock t u) (λ q. rw (q, join, any) (inl (opened-grown a u (t .mask) us)))
+    by-bool (ofBlock t u) (λ q. rw (q, join, any) (inl (opened-grown a k u (t .mask) us)))
     (λ q.
     rw (q, join, any)
     (elim (opened-join a k t us) [
@@ -82,7 +82,7 @@ author-may v h b a s u c e n =
     let q : c ≡ a = eqb-true c a e in
     rw q (leb-false mostOpened (openedBy a (s .tallies)) (rw n at u))
 
-pub join-few : (k : Opener) (t : Certificate) (n : ℕ) (us : List Tally) → MayOpen k t us → fewOpened n us ≡ true → fewOpened n (join k t us) ≡ true
+pub join-few : (k : Moment) (t : Certificate) (n : ℕ) (us : List Tally) → MayOpen (k .opener) t us → fewOpened n us ≡ true → fewOpened n (join k t us) ≡ true
 join-few k t n us m h =
     each-few n (join k t us)
     (λ a l.
@@ -92,7 +92,7 @@ join-few k t n us m h =
       | inr (q, b, e) ↦ (let r = m a b q in rw e (omega arith))
     ])
 
-pub certificate-few : (k : Opener) (t : Certificate) (n : ℕ) (us : List Tally) → MayOpen k t us → fewOpened n us ≡ true
+pub certificate-few : (k : Moment) (t : Certificate) (n : ℕ) (us : List Tally) → MayOpen (k .opener) t us → fewOpened n us ≡ true
     → fewOpened n (joinCertificate k t us) ≡ true
 unfolding joinCertificate
 certificate-few k t n us m h = by-bool (eqb (t .view) 0) (λ q. rw (q, joinCertificate) h) (λ q. rw (q, joinCertificate) (join-few k t n us m h))

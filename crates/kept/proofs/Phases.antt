@@ -9,12 +9,12 @@ use Rattle.rules.specs.Limits.{firstView, lastView, lastClock}
 use Rattle.rules.specs.Lists.{within}
 use Rattle.rules.specs.Words.{Cause, Certificate, Tally, certificateOf, opened, ofBlock, Phase, inView, waiting, stopped, State}
 use Rattle.rules.specs.Inputs.{withPhase, withClock, entering}
-use Rattle.rules.specs.WellFormed.{clocksInOrder, lockGood, statementGood}
+use Rattle.rules.specs.WellFormed.{clocksInOrder, lockGood, statementGood, tallyGood}
 use Rattle.rules.proofs.Truths.{and-3}
 use Rattle.rules.proofs.Allowed.{le-within, within-le, within-view}
 use Rattle.kept.specs.Parts.{Formed}
 use Rattle.kept.proofs.Lists.{all-weaken}
-use Rattle.kept.proofs.Tallies.{CertificateGood, lock-made}
+use Rattle.kept.proofs.Tallies.{tally-later, CertificateGood, lock-made}
 use Rattle.kept.proofs.Statements.{later-good}
 
 -- part (3): "entry, then the quit of a waiting station, then the clock, up to its end"
@@ -88,7 +88,7 @@ module _ {s : State} (f : Formed s) where
             record {
               statements = all-weaken (statementGood s) (statementGood t) (λ x. later-good s t x refl (omega arith)) (s .statements) (f .tables .statements);
               statementsDiffer = f .tables .statementsDiffer;
-              tallies = f .tables .tallies;
+              tallies = all-weaken (tallyGood (s .settings) (s .clock)) (tallyGood (s .settings) (t .clock)) (λ u. tally-later (s .settings) (s .clock) (t .clock) u (omega arith)) (s .tallies) (f .tables .tallies);
               talliesDiffer = f .tables .talliesDiffer;
               opened = f .tables .opened;
               log = f .tables .log;

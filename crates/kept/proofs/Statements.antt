@@ -9,7 +9,7 @@ use lib.Dec.{leb}
 use borrow.Author.Tests.{leb-true, le-leb}
 use Rattle.rules.specs.Sizes.{Settings, leader}
 use Rattle.rules.specs.Messages.{newView, propose, allowed, viewAllowed, blockAllowed}
-use Rattle.rules.specs.Words.{Statement, message, sameStatement, Certificate, Tally, certificateOf, opened, ofBlock, ownBlock, certificate, State}
+use Rattle.rules.specs.Words.{Statement, message, sameStatement, Certificate, Tally, reachedAt, certificateOf, opened, ofBlock, ownBlock, certificate, State}
 use Rattle.rules.specs.Inputs.{noted}
 use Rattle.rules.specs.WellFormed.{isName, statementGood, openerGood, tallyGood, talliesThere}
 use Rattle.rules.proofs.Tests.{by-bool, by-option, no-bool}
@@ -19,7 +19,7 @@ use Rattle.kept.specs.Parts.{Formed}
 use Rattle.kept.specs.Said.{Sendable}
 use Rattle.kept.proofs.Lists.{all-mem}
 use Rattle.kept.proofs.Sendable.{named, sendable}
-use Rattle.kept.proofs.Tallies.{Joinable, joinable, tally-made}
+use Rattle.kept.proofs.Tallies.{Joinable, byNone, joinable, reached-new, tally-made}
 
 pub record Stated (g : Settings) (x : Statement) : Type 0 where
   pub view : viewAllowed g (x .view) ≡ true
@@ -28,7 +28,7 @@ pub record Stated (g : Settings) (x : Statement) : Type 0 where
   pub link : x .link < 256 ^ 32
   pub mask : x .mask < 2 ^ g .n
   pub author : x .author ≡ leader g (x .view)
-  pub certified : Joinable g none (certificate x)
+  pub certified : (now : ℕ) → Joinable (byNone g now) (certificate x)
   -- a propose stands above its parent
   pub parent : x .isNewView ≡ false → (1 ≤ x .height) × (blockAllowed (x .height - 1) (x .link) ≡ true)
 
@@ -46,7 +46,7 @@ module _ (g : Settings) (x : Statement) (e : Sendable g (message x)) where
         link = view-name (g .size) (omega arith);
         mask = certificate-mask g (x .mask) (x .height) (x .link) d;
         author = a;
-        certified = rw (k, certificate) (joinable g (record { view = x .link; height = x .height; name = x .name; mask = x .mask }) b n d);
+        certified = λ now. rw (k, certificate) (joinable g now (record { view = x .link; height = x .height; name = x .name; mask = x .mask }) b n d);
         parent = λ q. no-bool (sym k ∙ q);
       }
 
@@ -62,7 +62,10 @@ module _ (g : Settings) (x : Statement) (e : Sendable g (message x)) where
         link = n .1;
         mask = mask-parts g (x .mask) m .0;
         author = a;
-        certified = rw (k, certificate) (λ q. tally-made (record { view = v; block = c; name = n .1; mask = mask-parts g (x .mask) m .0; opener = refl }));
+        certified =
+            λ now.
+            rw (k, certificate)
+            (λ q. tally-made (record { view = v; block = c; name = n .1; mask = mask-parts g (x .mask) m .0; opener = refl; reached = reached-new (byNone g now) (x .mask) }));
         parent = λ q. (h, c);
       }
 
@@ -70,9 +73,11 @@ module _ (g : Settings) (x : Statement) (e : Sendable g (message x)) where
   stated = by-bool (x .isNewView) newView-stated propose-stated
 
   -- a vote for it joins the tally of its block
-  pub own-good : (m : ℕ) → m < 2 ^ g .n → tallyGood g (opened none (ownBlock x m)) ≡ true
+  pub own-good : (now m : ℕ) → m < 2 ^ g .n → tallyGood g now (opened (byNone g now) (ownBlock x m)) ≡ true
   unfolding ownBlock openerGood
-  own-good m h = let k = stated in tally-made (record { view = k .view; block = k .block; name = k .name; mask = h; opener = refl })
+  own-good now m h =
+      let k = stated in
+      tally-made (record { view = k .view; block = k .block; name = k .name; mask = h; opener = refl; reached = reached-new (byNone g now) m })
 
 -- ---- stored
 

@@ -8,7 +8,7 @@ use mathlib.Core.Option.{none}
 use lib.Dec.{eqb}
 use Rattle.rules.specs.Lists.{any, all, alter}
 use Rattle.rules.specs.Sizes.{only}
-use Rattle.rules.specs.Words.{Statement, message, sameStatement, Certificate, Opener, Tally, certificateOf, ofBlock, ownBlock, certificate, sameBlock, join, joinCertificate, State}
+use Rattle.rules.specs.Words.{Statement, message, sameStatement, Certificate, Opener, Tally, Moment, certificateOf, ofBlock, ownBlock, certificate, sameBlock, join, joinCertificate, State, moment}
 use Rattle.rules.specs.Inputs.{withTables, withBlames, withLog, noted, votedFor, certificateJoined, stored, isBlock}
 use Rattle.rules.specs.WellFormed.{statementGood, talliesThere, linked}
 use Rattle.rules.proofs.Tests.{by-bool}
@@ -55,62 +55,65 @@ opened-mono : (ts us : List Tally) → ((t : Certificate) → any (ofBlock t) ts
     → all (talliesThere ts) xs ≡ true → all (talliesThere us) xs ≡ true
 opened-mono ts us f xs h = all-weaken (talliesThere ts) (talliesThere us) (there-mono ts us f) xs h
 
-new-there : (x : Statement) (us : List Tally) → talliesThere (join none (ownBlock x 0) (joinCertificate none (certificate x) us)) x ≡ true
+new-there : (k : Moment) (x : Statement) (us : List Tally) → talliesThere (join k (ownBlock x 0) (joinCertificate k (certificate x) us)) x ≡ true
 unfolding talliesThere
-new-there x us =
-    let ts = joinCertificate none (certificate x) us in
-    both (join-there none (ownBlock x 0) (ownBlock x 0) ts (block-self (ownBlock x 0)))
-    (by-bool (eqb (certificate x .view) 0) (λ q. or-left (any (ofBlock (certificate x)) (join none (ownBlock x 0) ts)) q)
-    (λ q. or-right (eqb (certificate x .view) 0) (join-any none (ownBlock x 0) (certificate x) ts (certificate-there none (certificate x) us q))))
+new-there k x us =
+    let ts = joinCertificate k (certificate x) us in
+    both (join-there k (ownBlock x 0) (ownBlock x 0) ts (block-self (ownBlock x 0)))
+    (by-bool (eqb (certificate x .view) 0) (λ q. or-left (any (ofBlock (certificate x)) (join k (ownBlock x 0) ts)) q)
+    (λ q. or-right (eqb (certificate x .view) 0) (join-any k (ownBlock x 0) (certificate x) ts (certificate-there k (certificate x) us q))))
 
 module _ {s : State} (f : Formed s) where
-  tabled : (xs : List Statement) (ts : List Tally) → Tables (statementGood s) (s .settings) xs ts (s .log) → Formed (withTables xs ts s)
+  tabled : (xs : List Statement) (ts : List Tally) → Tables (statementGood s) (s .settings) (s .clock) xs ts (s .log) → Formed (withTables xs ts s)
   unfolding withTables withBlames withLog
   tabled xs ts t = recorded f xs ts (s .blames) (s .log) t (f .blames)
 
-  pub tallied-formed : (k : Opener) (t : Certificate) → Joinable (s .settings) k t → MayOpen k t (s .tallies) → Formed (withTables (s .statements) (joinCertificate k t (s .tallies)) s)
+  pub tallied-formed : (k : Opener) (t : Certificate) → Joinable (moment k s) t → MayOpen k t (s .tallies)
+      → Formed (withTables (s .statements) (joinCertificate (moment k s) t (s .tallies)) s)
   tallied-formed k t j o =
       let old = f .tables in
-      let ts = joinCertificate k t (s .tallies) in
+      let at = moment k s in
+      let ts = joinCertificate at t (s .tallies) in
       tabled (s .statements) ts
       (record {
         statements = old .statements;
         statementsDiffer = old .statementsDiffer;
-        tallies = certificate-good k t (s .tallies) (s .settings) j (old .tallies);
-        talliesDiffer = certificate-distinct k t (s .tallies) (old .talliesDiffer);
-        opened = opened-mono (s .tallies) ts (certificate-any k t (s .tallies)) (s .statements) (old .opened);
+        tallies = certificate-good at t (s .tallies) j (old .tallies);
+        talliesDiffer = certificate-distinct at t (s .tallies) (old .talliesDiffer);
+        opened = opened-mono (s .tallies) ts (certificate-any at t (s .tallies)) (s .statements) (old .opened);
         log = old .log;
-        fewOpened = certificate-few k t (s .settings .n) (s .tallies) o (old .fewOpened);
+        fewOpened = certificate-few at t (s .settings .n) (s .tallies) o (old .fewOpened);
       })
 
   module _ (x : Statement) (m : Sendable (s .settings) (message x)) where
     pub certificateJoined-formed : Formed (certificateJoined x s)
     unfolding certificateJoined
-    certificateJoined-formed = tallied-formed none (certificate x) (stated (s .settings) x m .certified) (nobody-may (certificate x) (s .tallies))
+    certificateJoined-formed = tallied-formed none (certificate x) (stated (s .settings) x m .certified (s .clock)) (nobody-may (certificate x) (s .tallies))
 
     module _ (v : x .voted ≡ none) (n : any (sameStatement x) (s .statements) ≡ false) where
       pub stored-formed : Formed (stored x s)
       unfolding stored
       stored-formed =
           let old = f .tables in
-          let us = joinCertificate none (certificate x) (s .tallies) in
+          let at = moment none s in
+          let us = joinCertificate at (certificate x) (s .tallies) in
           let own = ownBlock x 0 in
-          let ts = join none own us in
+          let ts = join at own us in
           let xs = s .statements ++ x ∷ [] in
-          let good = certificate-good none (certificate x) (s .tallies) (s .settings) (stated (s .settings) x m .certified) (old .tallies) in
+          let good = certificate-good at (certificate x) (s .tallies) (stated (s .settings) x m .certified (s .clock)) (old .tallies) in
           let still =
-          opened-mono (s .tallies) ts (λ t h. join-any none own t us (certificate-any none (certificate x) (s .tallies) t h)) (s .statements) (old .opened) in
+          opened-mono (s .tallies) ts (λ t h. join-any at own t us (certificate-any at (certificate x) (s .tallies) t h)) (s .statements) (old .opened) in
           tabled xs ts
           (record {
             statements = all-last (statementGood s) (s .statements) x (old .statements) (new-good s x m v);
             statementsDiffer = distinct-append sameStatement same-sym (s .statements) x (old .statementsDiffer) n;
-            tallies = join-good none own (s .settings) us (own-good (s .settings) x m 0 (none-lt (s .settings))) good;
-            talliesDiffer = join-distinct none own us (certificate-distinct none (certificate x) (s .tallies) (old .talliesDiffer));
-            opened = all-last (talliesThere ts) (s .statements) x still (new-there x (s .tallies));
+            tallies = join-good at own us (own-good (s .settings) x m (s .clock) 0 (none-lt (s .settings))) good;
+            talliesDiffer = join-distinct at own us (certificate-distinct at (certificate x) (s .tallies) (old .talliesDiffer));
+            opened = all-last (talliesThere ts) (s .statements) x still (new-there at x (s .tallies));
             log = linked-mono (s .statements) xs (λ h b p. any-append (isAbove h b p) (s .statements) (x ∷ [])) 0 0 (s .log) (old .log);
             fewOpened =
-                join-few none own (s .settings .n) us (nobody-may own us)
-                (certificate-few none (certificate x) (s .settings .n) (s .tallies) (nobody-may (certificate x) (s .tallies)) (old .fewOpened));
+                join-few at own (s .settings .n) us (nobody-may own us)
+                (certificate-few at (certificate x) (s .settings .n) (s .tallies) (nobody-may (certificate x) (s .tallies)) (old .fewOpened));
           })
 
     pub votedFor-formed : Formed (votedFor x s)
@@ -118,21 +121,22 @@ module _ {s : State} (f : Formed s) where
     votedFor-formed =
         let old = f .tables in
         let t = ownBlock x (only (s .settings .own)) in
-        let ts = join none t (s .tallies) in
+        let at = moment none s in
+        let ts = join at t (s .tallies) in
         let c = s .clock in
         let same = sameStatement x in
         let xs = alter same (noted c) (s .statements) in
         let own = only-lt (s .settings) (s .settings .own) (sizes (s .settings) (f .settings) .own) in
-        let still = opened-mono (s .tallies) ts (λ u. join-any none t u (s .tallies)) (s .statements) (old .opened) in
+        let still = opened-mono (s .tallies) ts (λ u. join-any at t u (s .tallies)) (s .statements) (old .opened) in
         tabled xs ts
         (record {
           statements = all-alter (statementGood s) same (noted c) (noted-good s) (s .statements) (old .statements);
           statementsDiffer = distinct-alter sameStatement same (noted c) (noted-left c) (noted-right c) (s .statements) ∙ old .statementsDiffer;
-          tallies = join-good none t (s .settings) (s .tallies) (own-good (s .settings) x m (only (s .settings .own)) own) (old .tallies);
-          talliesDiffer = join-distinct none t (s .tallies) (old .talliesDiffer);
+          tallies = join-good at t (s .tallies) (own-good (s .settings) x m (s .clock) (only (s .settings .own)) own) (old .tallies);
+          talliesDiffer = join-distinct at t (s .tallies) (old .talliesDiffer);
           opened = all-alter (talliesThere ts) same (noted c) (λ y h. noted-there c ts y ∙ h) (s .statements) still;
           log =
               linked-mono (s .statements) xs (λ h b p e. any-alter (isAbove h b p) same (noted c) (noted-above c h b p) (s .statements) ∙ e) 0 0 (s .log)
               (old .log);
-          fewOpened = join-few none t (s .settings .n) (s .tallies) (nobody-may t (s .tallies)) (old .fewOpened);
+          fewOpened = join-few at t (s .settings .n) (s .tallies) (nobody-may t (s .tallies)) (old .fewOpened);
         })

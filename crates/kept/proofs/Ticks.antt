@@ -71,7 +71,7 @@ module _ {s : State} (f : Formed s) where
   unfolding ownNewView allowed
   ownNewView-sendable e =
       let t = highest (s .settings) (s .view) (s .tallies) in
-      let c = highest-good (s .settings) (s .view) (s .tallies) (view-within (s .settings) (s .view) (f .view) .0) (f .tables .tallies) in
+      let c = highest-good (s .settings) (s .clock) (s .view) (s .tallies) (view-within (s .settings) (s .view) (f .view) .0) (f .tables .tallies) in
       let o = eq-eqb (s .settings .own) (leader (s .settings) (s .view)) (leads-own s e) in
       sendable (newView (s .view) (t .height) (t .name) (t .view) (t .mask) (s .settings .own)) (sizes (s .settings) (f .settings))
       (both (both (both (both (f .view) (c .block)) (lt-ltb (t .view) (s .view) (c .earlier))) (c .isAllowed)) o) (c .name)
@@ -91,7 +91,7 @@ module _ {s : State} (f : Formed s) where
 module _ {s : State} (f : Formed s) where
   nextLock-good : CertificateGood (s .settings) (s .view + 1) (nextLock s)
   unfolding nextLock
-  nextLock-good = highest-good (s .settings) (s .view + 1) (s .tallies) (omega arith) (f .tables .tallies)
+  nextLock-good = highest-good (s .settings) (s .clock) (s .view + 1) (s .tallies) (omega arith) (f .tables .tallies)
 
   report-said : Each (Sayable (s .settings)) (report s)
   unfolding report allowed

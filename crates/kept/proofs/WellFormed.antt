@@ -37,7 +37,7 @@ parts s e =
     every-each (goodSettings (s .settings))
     (viewAllowed (s .settings) (s .view) ∷ clocksInOrder s ∷ lockGood s ∷ leb (length (s .statements)) (mostStatements (s .settings .size))
     ∷ leb (length (s .tallies)) (mostTallies (s .settings .size)) ∷ all (statementGood s) (s .statements) ∷ distinct sameStatement (s .statements)
-    ∷ all (tallyGood (s .settings)) (s .tallies) ∷ distinct sameTally (s .tallies) ∷ all (talliesThere (s .tallies)) (s .statements)
+    ∷ all (tallyGood (s .settings) (s .clock)) (s .tallies) ∷ distinct sameTally (s .tallies) ∷ all (talliesThere (s .tallies)) (s .statements)
     ∷ blamesGood (s .settings) (s .blames) ∷ linked (s .statements) 0 0 (s .log) ∷ fewOpened (s .settings .n) (s .tallies) ∷ []) e in
     let rest = h .1 .1 .1 .1 .1 .1 in
     record {

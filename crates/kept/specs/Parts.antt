@@ -11,14 +11,14 @@ use Rattle.rules.specs.Messages.{viewAllowed}
 use Rattle.rules.specs.Words.{Statement, sameStatement, Tally, State}
 use Rattle.rules.specs.WellFormed.{clocksInOrder, lockGood, statementGood, tallyGood, sameTally, talliesThere, blamesGood, linked, fewOpened}
 
--- (6) to (9), (11) and (12): the two tables, and the log that rests on them; when a statement is good, the clock and the settings say
-pub record Tables (good : Statement → Bool) (g : Settings) (xs : List Statement) (ts : List Tally) (l : List ℕ) : Type 0 where
+-- (6) to (9), (11) and (12): the two tables, and the log that rests on them; when a record is good, the settings and the clock say
+pub record Tables (good : Statement → Bool) (g : Settings) (now : ℕ) (xs : List Statement) (ts : List Tally) (l : List ℕ) : Type 0 where
   -- (6)
   pub statements : all good xs ≡ true
   -- (7)
   pub statementsDiffer : distinct sameStatement xs ≡ true
   -- (8)
-  pub tallies : all (tallyGood g) ts ≡ true
+  pub tallies : all (tallyGood g now) ts ≡ true
   pub talliesDiffer : distinct sameTally ts ≡ true
   -- (9)
   pub opened : all (talliesThere ts) xs ≡ true
@@ -37,7 +37,7 @@ pub record Formed (s : State) : Type 0 where
   pub clocks : clocksInOrder s ≡ true
   -- (4)
   pub lock : lockGood s ≡ true
-  pub tables : Tables (statementGood s) (s .settings) (s .statements) (s .tallies) (s .log)
+  pub tables : Tables (statementGood s) (s .settings) (s .clock) (s .statements) (s .tallies) (s .log)
   -- (10)
   pub blames : blamesGood (s .settings) (s .blames) ≡ true
 

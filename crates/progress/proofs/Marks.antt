@@ -11,7 +11,7 @@ use lib.Dec.{eqb, ltb}
 use borrow.Author.Tests.{lt-ltb, eqb-true}
 use Rattle.rules.specs.Sizes.{Settings, leader, only, quorum}
 use Rattle.rules.specs.Messages.{status, Effect, toOne}
-use Rattle.rules.specs.Words.{Statement, Certificate, Opener, Tally, certificateOf, opened, ownBlock, certificate, sameBlock, grown, join, joinCertificate, certified, higher, highest, genesis, State, fresh}
+use Rattle.rules.specs.Words.{Statement, Certificate, Tally, Moment, certificateOf, opened, ownBlock, certificate, sameBlock, grown, join, joinCertificate, certified, higher, highest, genesis, State, moment, fresh}
 use Rattle.rules.specs.Inputs.{saying, _▸_, withPhase, withTables, withBlames, withLog, entering, belowLock, votedFor, stored, tallied, blamed, handled, nextLock, report, current, inOrder, votingAll}
 use Rattle.rules.proofs.Tests.{by-bool}
 use Rattle.rules.proofs.Truths.{and-2}
@@ -28,13 +28,13 @@ Marked g c ts = (u : Tally) × List·Memᴰ u ts × (u .view ≡ c .view) × (u 
 marked-tail : (g : Settings) (c : Certificate) (t : Tally) (ts : List Tally) → Marked g c ts → Marked g c (t ∷ ts)
 marked-tail g c t ts (u, m, v, h, q) = (u, List·Memᴰ·tail m, v, h, q)
 
-join-marked : (g : Settings) (c : Certificate) (k : Opener) (t : Certificate) (us : List Tally) → Marked g c us → Marked g c (join k t us)
+join-marked : (g : Settings) (c : Certificate) (k : Moment) (t : Certificate) (us : List Tally) → Marked g c us → Marked g c (join k t us)
 unfolding join grown
 join-marked g c k t [] (w, m, v, h, q) = (w, List·Memᴰ·tail m, v, h, q)
 join-marked g c k t (u ∷ us) (w, List·Memᴰ·head e, v, h, q) =
     by-bool (sameBlock t (certificateOf u))
     (λ s. rw (s, join) (
-      grown u (t .mask),
+      grown k u (t .mask),
       List·Memᴰ·head refl,
       ap (λ (x : Tally). x .view) (sym e) ∙ v,
       ap (λ (x : Tally). x .height) (sym e) ∙ h,
@@ -46,17 +46,17 @@ join-marked g c k t (u ∷ us) (w, List·Memᴰ·tail m, v, h, q) =
     (λ s. rw (s, join) (marked-tail g c u (join k t us) (join-marked g c k t us (w, m, v, h, q))))
 
 -- what joins with a quorum is certified
-joined-marked : (g : Settings) (k : Opener) (t : Certificate) (us : List Tally) → quorum g (t .mask) ≡ true → Marked g t (join k t us)
+joined-marked : (g : Settings) (k : Moment) (t : Certificate) (us : List Tally) → quorum g (t .mask) ≡ true → Marked g t (join k t us)
 unfolding join grown
 joined-marked g k t [] q = (opened k t, List·Memᴰ·head refl, refl, refl, q)
 joined-marked g k t (u ∷ us) q =
     by-bool (sameBlock t (certificateOf u))
     (λ s.
     let (v, h, b) = block-eq t (certificateOf u) s in
-    rw (s, join) (grown u (t .mask), List·Memᴰ·head refl, sym v, sym h, quorum-right g (u .mask) (t .mask) q))
+    rw (s, join) (grown k u (t .mask), List·Memᴰ·head refl, sym v, sym h, quorum-right g (u .mask) (t .mask) q))
     (λ s. rw (s, join) (marked-tail g t u (join k t us) (joined-marked g k t us q)))
 
-certificate-marked : (g : Settings) (c : Certificate) (k : Opener) (t : Certificate) (us : List Tally) → Marked g c us → Marked g c (joinCertificate k t us)
+certificate-marked : (g : Settings) (c : Certificate) (k : Moment) (t : Certificate) (us : List Tally) → Marked g c us → Marked g c (joinCertificate k t us)
 unfolding joinCertificate
 certificate-marked g c k t us m = by-bool (eqb (t .view) 0) (λ e. rw (e, joinCertificate) m) (λ e. rw (e, joinCertificate) (join-marked g c k t us m))
 
@@ -83,7 +83,7 @@ pub status-marked : (g : Settings) (h b c m : ℕ) (s : State) → 1 ≤ c → q
 unfolding handled tallied saying withTables joinCertificate
 status-marked g h b c m s l q =
     let t : Certificate = record { view = c; height = h; name = b; mask = m } in
-    by-bool (eqb c 0) (λ e. let z = eqb-true c 0 e in absurd (omega arith)) (λ e. rw (e, joinCertificate) (joined-marked g none t (s .tallies) q))
+    by-bool (eqb c 0) (λ e. let z = eqb-true c 0 e in absurd (omega arith)) (λ e. rw (e, joinCertificate) (joined-marked g (moment none s) t (s .tallies) q))
 
 -- ---- along the moves
 
@@ -93,11 +93,11 @@ KeepsMarks s t = (g : Settings) (c : Certificate) → Marked g c (s .tallies) �
 
 stored-marks : (x : Statement) (s : State) → KeepsMarks s (stored x s)
 unfolding stored withTables
-stored-marks x s g c m = join-marked g c none (ownBlock x 0) (joinCertificate none (certificate x) (s .tallies)) (certificate-marked g c none (certificate x) (s .tallies) m)
+stored-marks x s g c m = join-marked g c (moment none s) (ownBlock x 0) (joinCertificate (moment none s) (certificate x) (s .tallies)) (certificate-marked g c (moment none s) (certificate x) (s .tallies) m)
 
 voted-marks : (x : Statement) (s : State) → KeepsMarks s (votedFor x s)
 unfolding votedFor withTables
-voted-marks x s g c m = join-marked g c none (ownBlock x (only (s .settings .own))) (s .tallies) m
+voted-marks x s g c m = join-marked g c (moment none s) (ownBlock x (only (s .settings .own))) (s .tallies) m
 
 votingAll-marks : (ys : List Statement) (s : State) → KeepsMarks s (votingAll ys s .now)
 unfolding votingAll saying _▸_
@@ -109,7 +109,7 @@ votingAll-marks (y ∷ ys) s g c m =
 module _ {R : Outside} where
   move-marks : (s t : State) (o : List Effect) → Move R s t o → KeepsMarks s t
   unfolding withTables withPhase withBlames withLog entering blamed
-  move-marks s t o (joins n m u g c) h q k = certificate-marked h q n u (s .tallies) k
+  move-marks s t o (joins n m u g c) h q k = certificate-marked h q (moment n s) u (s .tallies) k
   move-marks s t o (stores x g f) h q k = stored-marks x s h q k
   move-marks s t o (passes x g f c l) h q k = stored-marks x s h q k
   move-marks s t o (casts x g f c l) h q k = voted-marks x (stored x s) h q (stored-marks x s h q k)

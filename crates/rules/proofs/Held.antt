@@ -12,7 +12,7 @@ use Rattle.rules.specs.Limits.{firstView, lastView}
 use Rattle.rules.specs.Lists.{first, any, keep}
 use Rattle.rules.specs.Sizes.{Settings, leader, only, bit, quorum}
 use Rattle.rules.specs.Messages.{Message, newView, propose, vote, blame, blameSet, status, read, allowed, Effect, toAll, toOne, committed}
-use Rattle.rules.specs.Words.{Statement, message, sameStatement, conflict, Certificate, Opener, Tally, certificateOf, ownBlock, joinCertificate, voters, State}
+use Rattle.rules.specs.Words.{Statement, message, sameStatement, conflict, Certificate, Opener, Tally, certificateOf, ownBlock, joinCertificate, voters, State, moment}
 use Rattle.rules.specs.Inputs.{saying, _▸_, withPhase, withTables, withBlames, withLog, entering, isIn, quit, belowLock, votedFor, ballot, voting, certificateJoined, stored, statement, tallied, blamesOf, blamed, blameFull, blaming, handled, reports, report, current, inOrder, votingAll}
 use Rattle.rules.specs.Refusals.{done, refused, stopping, hasRoom, ifRoom, running, ahead, usedUp, heard, step}
 use Rattle.rules.proofs.Tests.{by-bool, by-option, no-bool}
@@ -101,7 +101,7 @@ unfolding tallied saying withTables joinCertificate
 tallied-held v h b a s l =
     let t : Certificate = record { view = v; height = h; name = b; mask = only a } in
     by-bool (eqb v 0) (λ e. let z = eqb-true v 0 e in absurd (omega arith))
-    (λ e. rw (e, joinCertificate) (voters-joined (some a) (block v h b) t (s .tallies) a (same-block (block v h b) t refl refl refl) (only-bit a)))
+    (λ e. rw (e, joinCertificate) (voters-joined (moment (some a) s) (block v h b) t (s .tallies) a (same-block (block v h b) t refl refl refl) (only-bit a)))
 
 handled-held : (m : Message) (s : State) → allowed (s .settings) m ≡ true → length (s .blames) ≡ suc (lastView (s .settings .size)) → Held (s .settings) (handled m s .now) m
 unfolding handled
@@ -167,7 +167,7 @@ own-held : (x : Statement) (s : State) → bit (voters (block (x .view) (x .heig
 unfolding votedFor withTables ownBlock
 own-held x s =
     let t = ownBlock x (only (s .settings .own)) in
-    voters-joined none (block (x .view) (x .height) (x .name)) t (s .tallies) (s .settings .own)
+    voters-joined (moment none s) (block (x .view) (x .height) (x .name)) t (s .tallies) (s .settings .own)
     (same-block (block (x .view) (x .height) (x .name)) t refl refl refl) (only-bit (s .settings .own))
 
 votingAll-said : (g : Settings) (ys : List Statement) (s : State) → All (In (s .statements)) ys → All (HeldSaid g (votingAll ys s .now)) (votingAll ys s .out)

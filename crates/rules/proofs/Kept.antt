@@ -16,7 +16,7 @@ use Rattle.rules.specs.Limits.{lastView, lastClock}
 use Rattle.rules.specs.Lists.{first}
 use Rattle.rules.specs.Sizes.{Settings, only, bit, joined, quorum}
 use Rattle.rules.specs.Messages.{Effect}
-use Rattle.rules.specs.Words.{Statement, sameStatement, Certificate, Opener, Tally, certificateOf, ownBlock, certificate, join, joinCertificate, voters, Phase, inView, waiting, stopped, State}
+use Rattle.rules.specs.Words.{Statement, sameStatement, Certificate, Opener, Tally, certificateOf, ownBlock, certificate, join, joinCertificate, voters, Phase, inView, waiting, stopped, State, moment}
 use Rattle.rules.specs.Inputs.{Work, saying, _▸_, withPhase, withClock, withTables, withBlames, withLog, entering, isIn, quit, belowLock, votedFor, stored, blamesOf, blamed, blameFull, due, commits, logging, complain, lead, entersNow, entered, current, pair, inOrder, votingAll, arrive, enter, ticked}
 use Rattle.rules.specs.Refusals.{hasRoom, ifRoom, running, tick}
 use Rattle.rules.proofs.Tests.{by-bool, by-option, no-bool}
@@ -158,8 +158,8 @@ kept-trans {s} {t} {u} a b =
     }
 
 stored-bits : (x : Statement) (s : State) (q : Certificate) (i : ℕ) → bit (voters q (s .tallies)) i ≡ 1
-    → bit (voters q (join none (ownBlock x 0) (joinCertificate none (certificate x) (s .tallies)))) i ≡ 1
-stored-bits x s q i h = voters-join none q (ownBlock x 0) _ i (voters-certificate none q (certificate x) (s .tallies) i h)
+    → bit (voters q (join (moment none s) (ownBlock x 0) (joinCertificate (moment none s) (certificate x) (s .tallies)))) i ≡ 1
+stored-bits x s q i h = voters-join (moment none s) q (ownBlock x 0) _ i (voters-certificate (moment none s) q (certificate x) (s .tallies) i h)
 
 stored-kept : (x : Statement) (s : State) → Kept s (stored x s)
 unfolding stored withTables blamesOf
@@ -169,7 +169,7 @@ stored-kept x s =
 pub voted-kept : (x : Statement) (s : State) → Kept s (votedFor x s)
 unfolding votedFor withTables blamesOf
 voted-kept x s =
-    record { has = λ y h. rw in-noted h; full = λ g v h. h; length = refl; bits = λ q i. voters-join none q (ownBlock x (only (s .settings .own))) (s .tallies) i; view = omega arith; waits = λ q p e. p }
+    record { has = λ y h. rw in-noted h; full = λ g v h. h; length = refl; bits = λ q i. voters-join (moment none s) q (ownBlock x (only (s .settings .own))) (s .tallies) i; view = omega arith; waits = λ q p e. p }
 
 pub votingAll-kept : (ys : List Statement) (s : State) → Kept s (votingAll ys s .now)
 unfolding votingAll saying _▸_
@@ -209,7 +209,7 @@ module _ {R : Outside} where
   pub move-kept : (s t : State) (o : List Effect) → Move R s t o → Kept s t
   unfolding withTables withLog entering isIn blamed withBlames blamesOf
   move-kept s t o (joins j m u g c) =
-      record { has = λ x h. h; full = λ g v h. h; length = refl; bits = λ q i. voters-certificate j q u (s .tallies) i; view = omega arith; waits = λ q p e. p }
+      record { has = λ x h. h; full = λ g v h. h; length = refl; bits = λ q i. voters-certificate (moment j s) q u (s .tallies) i; view = omega arith; waits = λ q p e. p }
   move-kept s t o (stores x g f) = stored-kept x s
   move-kept s t o (passes x g f c l) = stored-kept x s
   move-kept s t o (casts x g f c l) = kept-trans (stored-kept x s) (voted-kept x (stored x s))

@@ -12,7 +12,7 @@ use Rattle.rules.specs.Limits.{lastClock}
 use Rattle.rules.specs.Lists.{first, any}
 use Rattle.rules.specs.Sizes.{only}
 use Rattle.rules.specs.Messages.{Message, newView, propose, vote, blame, blameSet, status, read, allowed, Effect, toAll}
-use Rattle.rules.specs.Words.{Statement, message, sameStatement, conflict, Certificate, Opener, Tally, certificateOf, certificate, joinCertificate, waiting, State}
+use Rattle.rules.specs.Words.{Statement, message, sameStatement, conflict, Certificate, Opener, Tally, certificateOf, certificate, joinCertificate, waiting, State, moment}
 use Rattle.rules.specs.Inputs.{Work, saying, _▸_, withPhase, withClock, withTables, withLog, entering, isIn, quit, belowLock, votedFor, ballot, voting, certificateJoined, stored, statement, tallied, blamesOf, blamed, blameFull, blaming, handled, offered, due, commits, reports, logging, overdue, complain, leadsNow, ownNewView, lead, entersNow, nextLock, report, entered, current, pair, inOrder, votingAll, arrive, enter, ticked}
 use Rattle.rules.specs.Refusals.{Outcome, done, refused, hasRoom, ifRoom, running, step, offer, tick}
 use Rattle.rules.proofs.Tests.{by-bool, by-option, no-some, no-bool}
@@ -59,7 +59,7 @@ arrived s = entering (s .view + 1) (nextLock s) s
 
 pub data Move (R : Outside) (s : State) : State → List Effect → Type 0 where
   joins : (k : Opener) (m : Message) (t : Certificate) → Origin R s m → carried m ≡ some t
-      → Move R s (withTables (s .statements) (joinCertificate k t (s .tallies)) s) []
+      → Move R s (withTables (s .statements) (joinCertificate (moment k s) t (s .tallies)) s) []
   stores : (x : Statement) → New R s x → isIn (x .view) s ≡ false → Move R s (stored x s) []
   passes : (x : Statement) → New R s x → isIn (x .view) s ≡ true → first (conflict x) (s .statements) ≡ none → belowLock x s ≡ true
       → Move R s (stored x s) []

@@ -12,7 +12,7 @@ use mathlib.Core.Option.{none, some, Option·some-injective}
 use lib.Dec.{eqb}
 use Rattle.rules.specs.Sizes.{Settings, only, bit, joined}
 use Rattle.rules.specs.Messages.{Message, newView, propose, vote, blame, blameSet, status, allowed, Effect, toAll, toOne, committed}
-use Rattle.rules.specs.Words.{Statement, message, sameStatement, Certificate, Opener, Tally, certificateOf, ownBlock, certificate, sameBlock, grown, join, joinCertificate, voters, highest, State, fresh}
+use Rattle.rules.specs.Words.{Statement, message, sameStatement, Certificate, Moment, Tally, certificateOf, ownBlock, certificate, sameBlock, grown, join, joinCertificate, voters, highest, State, moment, fresh}
 use Rattle.rules.specs.Inputs.{saying, _▸_, withPhase, withTables, withBlames, entering, belowLock, noted, votedFor, ballot, stored, blamed, above, ownNewView, report, current, inOrder, votingAll}
 use Rattle.rules.proofs.Tests.{by-bool}
 use Rattle.rules.proofs.Searches.{All, all-append, all-split, all-map, all-of, all-alter}
@@ -52,7 +52,7 @@ module _ (P : ℕ → ℕ → ℕ → ℕ → Type 0) (parentOf : ℕ → ℕ) w
 
   -- ---- tallies
 
-  join-backed : (k : Opener) (t : Certificate) (us : List Tally) → Backed t → All Holding us → All Holding (join k t us)
+  join-backed : (k : Moment) (t : Certificate) (us : List Tally) → Backed t → All Holding us → All Holding (join k t us)
   unfolding join grown
   join-backed k t [] h a = (h, tt)
   join-backed k t (u ∷ us) h a =
@@ -65,7 +65,7 @@ module _ (P : ℕ → ℕ → ℕ → ℕ → Type 0) (parentOf : ℕ → ℕ) w
       either : (v h b m k i : ℕ) → (bit m i ≡ 1 → P v h b i) → (bit k i ≡ 1 → P v h b i) → bit (joined m k) i ≡ 1 → P v h b i
       either v h b m k i f q e = elim (ℕ-discrete (bit m i) 1) [ yes p ↦ f p | no p ↦ (let w = joined-bit m k i in q (omega arith)) ]
 
-  certificate-backed : (k : Opener) (t : Certificate) (us : List Tally) → Backed t → All Holding us → All Holding (joinCertificate k t us)
+  certificate-backed : (k : Moment) (t : Certificate) (us : List Tally) → Backed t → All Holding us → All Holding (joinCertificate k t us)
   unfolding joinCertificate
   certificate-backed k t us h a = by-bool (eqb (t .view) 0) (λ e. rw (e, joinCertificate) a) (λ e. rw (e, joinCertificate) (join-backed k t us h a))
 
@@ -124,8 +124,8 @@ module _ (P : ℕ → ℕ → ℕ → ℕ → Type 0) (parentOf : ℕ → ℕ) w
     stored-proper x s r i =
         record {
           settings = i .settings;
-          tallies = join-backed none (ownBlock x 0) (joinCertificate none (certificate x) (s .tallies)) (λ j k. no-bit j (unfold ownBlock in k))
-              (certificate-backed none (certificate x) (s .tallies) (r .backed (certificate x) (carried-certificate x)) (i .tallies));
+          tallies = join-backed (moment none s) (ownBlock x 0) (joinCertificate (moment none s) (certificate x) (s .tallies)) (λ j k. no-bit j (unfold ownBlock in k))
+              (certificate-backed (moment none s) (certificate x) (s .tallies) (r .backed (certificate x) (carried-certificate x)) (i .tallies));
           statements = all-append Stated (s .statements) (x ∷ []) (i .statements) (r, tt);
         }
 
@@ -135,7 +135,7 @@ module _ (P : ℕ → ℕ → ℕ → ℕ → Type 0) (parentOf : ℕ → ℕ) w
         let me = s .settings .own in
         record {
           settings = i .settings;
-          tallies = join-backed none (ownBlock x (only me)) (s .tallies) (own-backed x me (h (ap (λ (y : Settings). y .own) (i .settings)))) (i .tallies);
+          tallies = join-backed (moment none s) (ownBlock x (only me)) (s .tallies) (own-backed x me (h (ap (λ (y : Settings). y .own) (i .settings)))) (i .tallies);
           statements = all-alter Stated (sameStatement x) (noted (s .clock)) (λ y q. subst Right (sym (message-noted (s .clock) y)) q) (s .statements) (i .statements);
         }
 
@@ -172,7 +172,7 @@ module _ (P : ℕ → ℕ → ℕ → ℕ → Type 0) (parentOf : ℕ → ℕ) w
       move-proper : (s t : State) (o : List Effect) → Move R s t o → All Known o → Proper s → Proper t
       unfolding ballot withTables withPhase withBlames entering blamed
       move-proper s t o (joins j m u k c) h i =
-          record { settings = i .settings; tallies = certificate-backed j u (s .tallies) (origin-right s i m k .backed u c) (i .tallies); statements = i .statements }
+          record { settings = i .settings; tallies = certificate-backed (moment j s) u (s .tallies) (origin-right s i m k .backed u c) (i .tallies); statements = i .statements }
       move-proper s t o (stores x (k, n, q) f) h i = stored-proper x s (origin-right s i (message x) k) i
       move-proper s t o (passes x (k, n, q) f c l) h i = stored-proper x s (origin-right s i (message x) k) i
       move-proper s t o (casts x (k, n, q) f c l) h i = voted-proper x (stored x s) (unfold stored in (h .1 .0)) (stored-proper x s (origin-right s i (message x) k) i)

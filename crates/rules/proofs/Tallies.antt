@@ -13,7 +13,7 @@ use lib.Count.{onesIn}
 use borrow.Author.Tests.{eqb-true, eq-eqb, lt-ltb, ltb-true, not-true}
 use Rattle.rules.specs.Limits.{maskBits}
 use Rattle.rules.specs.Sizes.{Settings, faults, only, bit, joined, count, quorum}
-use Rattle.rules.specs.Words.{Certificate, Opener, Tally, certificateOf, sameBlock, grown, join, joinCertificate, voters, certified, below, higher, genesis, highest}
+use Rattle.rules.specs.Words.{Certificate, Moment, Tally, certificateOf, sameBlock, grown, join, joinCertificate, voters, certified, below, higher, genesis, highest}
 use Rattle.rules.proofs.Tests.{by-bool, no-bool}
 use Rattle.rules.proofs.Truths.{and-2, both, or-2, or-right, or-not}
 use Rattle.rules.proofs.Masks.{joined-bit, joined-left, joined-right, count-joined, count-more, count-none, bit-below, quorum-count}
@@ -108,7 +108,7 @@ unfolding sameBlock
 block-cong q t u e = let (a, b, c) = block-eq q t e in rw (a, b, c)
 
 -- joining loses no voter of any block
-pub voters-join : (k : Opener) (q t : Certificate) (us : List Tally) (i : ℕ) → bit (voters q us) i ≡ 1 → bit (voters q (join k t us)) i ≡ 1
+pub voters-join : (k : Moment) (q t : Certificate) (us : List Tally) (i : ℕ) → bit (voters q us) i ≡ 1 → bit (voters q (join k t us)) i ≡ 1
 unfolding voters join grown
 voters-join k q t [] i h = no-bit i h
 voters-join k q t (u ∷ us) i h =
@@ -120,13 +120,13 @@ voters-join k q t (u ∷ us) i h =
     by-bool (sameBlock q (certificateOf u)) (λ f. rw (e, join) (rw (f, voters) (rw (f, voters) at h)))
     (λ f. rw (e, join) (rw (f, voters) (voters-join k q t us i (rw (f, voters) at h)))))
 
-pub voters-certificate : (k : Opener) (q t : Certificate) (us : List Tally) (i : ℕ) → bit (voters q us) i ≡ 1 → bit (voters q (joinCertificate k t us)) i ≡ 1
+pub voters-certificate : (k : Moment) (q t : Certificate) (us : List Tally) (i : ℕ) → bit (voters q us) i ≡ 1 → bit (voters q (joinCertificate k t us)) i ≡ 1
 unfolding joinCertificate
 voters-certificate k q t us i h =
     by-bool (eqb (t .view) 0) (λ e. rw (e, joinCertificate) h) (λ e. rw (e, joinCertificate) (voters-join k q t us i h))
 
 -- who joins is there
-pub voters-joined : (k : Opener) (q t : Certificate) (us : List Tally) (i : ℕ) → sameBlock q t ≡ true → bit (t .mask) i ≡ 1 → bit (voters q (join k t us)) i ≡ 1
+pub voters-joined : (k : Moment) (q t : Certificate) (us : List Tally) (i : ℕ) → sameBlock q t ≡ true → bit (t .mask) i ≡ 1 → bit (voters q (join k t us)) i ≡ 1
 unfolding voters join grown
 voters-joined k q t [] i e h = rw (e, voters) h
 voters-joined k q t (u ∷ us) i e h =

@@ -9,7 +9,7 @@ use Rattle.rules.specs.Limits.{lastClock, small, large, mostStatements, 
 use Rattle.rules.specs.Lists.{unbe, all}
 use Rattle.rules.specs.Sizes.{Settings}
 use Rattle.rules.specs.Messages.{Message, newView, propose, vote, blame, blameSet, status, write, read, allowed, Effect, toAll, toOne, committed, effect}
-use Rattle.rules.specs.Words.{Statement, conflict, Tally, openedBy, certificateOf, genesis, voters, Phase, inView, waiting, stopped, full, State, fresh}
+use Rattle.rules.specs.Words.{Statement, conflict, Tally, openedBy, certificateOf, reachedAt, opened, genesis, voters, reachedOf, Phase, inView, waiting, stopped, full, State, fresh}
 use Rattle.rules.specs.Inputs.{withPhase, withClock, withTables, withBlames, withLog, entering}
 use Rattle.rules.specs.Refusals.{Outcome, step, tick, result}
 use Rattle.rules.specs.WellFormed.{wellFormed}
@@ -239,7 +239,7 @@ entries =
 -- tallies of k names; a chain of k blocks of view 2, the highest first, for a station in view 1
 tallied : ℕ → List Tally
 tallied zero = []
-tallied (suc k) = record { view = 1; height = 1; name = suc k; mask = 1; opener = none } ∷ tallied k
+tallied (suc k) = record { view = 1; height = 1; name = suc k; mask = 1; opener = none; reached = none } ∷ tallied k
 
 many : ℕ → List Line
 many zero = []
@@ -328,14 +328,50 @@ authors =
     rudely zero = []
     rudely (suc k) = hears (vote 1 2 (suc k) 1) ⇒ bytes 0 ∷ rudely k
 
+-- ---- when was it certified?
+
+-- a tally's clock, as a host is told: 0, or one more than it
+told : Option ℕ → ℕ
+told none = 0
+told (some c) = suc c
+
+kept : ℕ → ℕ → ℕ → ℕ → Line
+unfolding reachedOf told
+kept v h b k = holds (λ s. eqb (told (reachedOf (record { view = v; height = h; name = b; mask = 0 }) (s .tallies))) k)
+
+reached : List Bool
+unfolding station block child kept
+reached =
+    -- at the second voter, and not before; a later vote, statement or status doesn't move it
+    station 0 (hears (vote 1 1 77 1) ⇒ bytes 0 ∷ idle 1 ∷ hears (vote 1 1 77 1) ⇒ bytes 0 ∷ kept 1 1 77 0 ∷ idle 2 ∷ hears (vote 1 1 77 2) ⇒ bytes 0 ∷ kept 1 1 77 4
+    ∷ idle 1 ∷ hears (vote 1 1 77 0) ⇒ bytes 0 ∷ kept 1 1 77 4 ∷ hears child ⇒ bytes 160 ∷ kept 1 1 77 4 ∷ hears (status 1 77 1 7) ⇒ bytes 0 ∷ kept 1 1 77 4 ∷ [])
+    -- a tally opened with a quorum, by a statement's certificate or by a status, has it at once; its own block's has none yet
+    ∷ station 2 (idle 3 ∷ hears child ⇒ bytes 160 ∷ kept 1 1 77 4 ∷ kept 1 2 79 0 ∷ idle 1 ∷ hears (vote 1 2 79 0) ⇒ bytes 0 ∷ kept 1 2 79 5 ∷ [])
+    ∷ station 0 (hears (status 5 99 1 6) ⇒ bytes 0 ∷ kept 1 5 99 1 ∷ kept 1 4 99 0 ∷ kept 2 5 99 0 ∷ kept 1 5 98 0 ∷ [])
+    -- a statement that comes again joins its certificate
+    ∷ station 0 (hears (newView 2 1 77 1 3 2) ⇒ bytes 0 ∷ kept 1 1 77 1 ∷ kept 2 1 77 0 ∷ idle 2 ∷ hears (newView 2 1 77 1 6 2) ⇒ bytes 0 ∷ kept 1 1 77 1 ∷ [])
+    -- the own vote counts, and genesis in view 0 has no tally
+    ∷ station 2 (hears (vote 1 1 77 0) ⇒ bytes 0 ∷ idle 1 ∷ hears block ⇒ bytes 160 ∷ kept 1 1 77 2 ∷ hears (status 0 0 0 0) ⇒ bytes 0 ∷ kept 0 0 0 0 ∷ [])
+    -- what a tick joins has the new clock: the own vote at the entry of view 2, at clock 3
+    ∷ station 0 (hears (propose 2 1 77 0 3 2) ⇒ bytes 0 ∷ hears (vote 2 1 77 1) ⇒ bytes 0 ∷ hears (blameSet 1 3) ⇒ bytes 19 ∷ idle 2 ∷ kept 2 1 77 0 ∷ ticks ⇒ bytes 222 ∷ kept 2 1 77 4 ∷ [])
+    -- and the own new-view of a leader, at clock 5
+    ∷ station 1 (hears (vote 1 0 0 0) ⇒ bytes 0 ∷ idle 4 ∷ kept 1 0 0 0 ∷ ticks ⇒ bytes 132 ∷ kept 1 0 0 6 ∷ [])
+    ∷ []
+
 -- ---- well formed
 
 -- a state of station 2 in view 2: a logged block of view 1, and a new-view above it
 said : Bool → ℕ → ℕ → ℕ → ℕ → ℕ → Option ℕ → Statement
 said k v h b l a c = record { isNewView = k; view = v; height = h; name = b; link = l; mask = 3; author = a; voted = c }
 
+-- a tally that somebody opened at clock 4 with this mask
+since : Option ℕ → ℕ → ℕ → ℕ → ℕ → Tally
+unfolding group reachedAt
+since k v h b m = opened (record { settings = group 2; clock = 4; opener = k }) (record { view = v; height = h; name = b; mask = m })
+
 tally : ℕ → ℕ → ℕ → ℕ → Tally
-tally v h b m = record { view = v; height = h; name = b; mask = m; opener = none }
+unfolding since
+tally v h b m = since none v h b m
 
 lower : Statement
 lower = said false 1 1 77 0 1 (some 4)
@@ -367,7 +403,7 @@ chainTallies zero = tally 1 0 0 3 ∷ []
 chainTallies (suc k) = tally 1 (suc k) (suc k) 1 ∷ chainTallies k
 
 formed : List Bool
-unfolding wellFormed held group tally said lower upper counted tables withClock tallied chained chainTallies
+unfolding wellFormed held group since tally said lower upper counted tables withClock tallied chained chainTallies
 formed =
     wellFormed (fresh (group 0)) ∷ tables (lower ∷ upper ∷ []) counted (77 ∷ [])
     -- (1), (2), (3)
@@ -389,6 +425,7 @@ formed =
     ∷ not (tables [] (tally 0 1 77 3 ∷ []) []) ∷ not (tables [] (tally (suc lastViewSmall) 1 77 3 ∷ []) []) ∷ not (tables [] (tally 1 0 77 3 ∷ []) []) ∷ not (tables [] (tally 1 1 77 8 ∷ []) [])
     ∷ not (tables [] (tally 1 1 (2 ^ 256) 3 ∷ []) []) ∷ not (tables [] (tally 1 1 77 3 ∷ tally 1 1 77 0 ∷ []) [])
     ∷ tables [] (by 1 77 2 ∷ []) [] ∷ not (tables [] (by 1 77 1 ∷ []) []) ∷ not (tables [] (by 3 77 7 ∷ []) [])
+    ∷ tables [] (clocked 3 (some 9) ∷ []) [] ∷ not (tables [] (clocked 3 (some 10) ∷ []) []) ∷ not (tables [] (clocked 3 none ∷ []) []) ∷ not (tables [] (clocked 1 (some 4) ∷ []) [])
     -- (9)
     ∷ not (tables (upper ∷ []) (tally 1 1 77 3 ∷ []) []) ∷ not (tables (upper ∷ []) (tally 2 1 77 3 ∷ []) []) ∷ tables (record { isNewView = true; view = 2; height = 0; name = 0; link = 0; mask = 0; author = 2; voted = none } ∷ []) (tally 2 0 0 0 ∷ []) []
     -- (10)
@@ -414,7 +451,11 @@ formed =
 
     -- a tally of view 1 and height 1 that an author opened, and k of them by station 1
     by : ℕ → ℕ → ℕ → Tally
-    by a b m = record { view = 1; height = 1; name = b; mask = m; opener = some a }
+    by a b m = since (some a) 1 1 b m
+
+    -- one with this mask and this clock
+    clocked : ℕ → Option ℕ → Tally
+    clocked m c = record { view = 1; height = 1; name = 77; mask = m; opener = none; reached = c }
 
     opening : ℕ → List Tally
     opening zero = []
@@ -425,5 +466,5 @@ formed =
     above p = tables (lower ∷ said false 1 2 79 p 1 none ∷ []) (tally 1 2 79 0 ∷ tally 1 1 70 0 ∷ counted) (77 ∷ 79 ∷ [])
 
 unfoldable pub corners : List Bool
-unfolding sizes wire unreadable judged conflicts stated offers commits leading entries refusals early authors formed
-corners = sizes ++ wire ++ unreadable ++ judged ++ conflicts ++ stated ++ offers ++ commits ++ leading ++ entries ++ refusals ++ early ++ authors ++ formed
+unfolding sizes wire unreadable judged conflicts stated offers commits leading entries refusals early authors reached formed
+corners = sizes ++ wire ++ unreadable ++ judged ++ conflicts ++ stated ++ offers ++ commits ++ leading ++ entries ++ refusals ++ early ++ authors ++ reached ++ formed

@@ -9,7 +9,7 @@ use Rattle.rules.specs.Limits.{lastView, lastHeight}
 use Rattle.rules.specs.Lists.{first, any, keep, alter, sorted}
 use Rattle.rules.specs.Sizes.{Settings, leader, only, holds, joined, quorum}
 use Rattle.rules.specs.Messages.{Message, newView, propose, vote, blame, blameSet, status, Effect, toAll, toOne, committed}
-use Rattle.rules.specs.Words.{Statement, message, sameStatement, conflict, Certificate, Opener, Tally, ownBlock, certificate, sameBlock, join, joinCertificate, voters, below, highest, Phase, inView, waiting, stopped, State}
+use Rattle.rules.specs.Words.{Statement, message, sameStatement, conflict, Certificate, Opener, Tally, ownBlock, certificate, sameBlock, join, joinCertificate, voters, below, highest, Phase, inView, waiting, stopped, State, moment}
 
 -- a state on the way, and what was said so far
 pub record Work : Type 0 where
@@ -75,7 +75,7 @@ noted c x =
 unfoldable pub votedFor : Statement → State → State
 unfolding withTables alter sameStatement noted join ownBlock only
 votedFor x s =
-    withTables (alter (sameStatement x) (noted (s .clock)) (s .statements)) (join none (ownBlock x (only (s .settings .own))) (s .tallies)) s
+    withTables (alter (sameStatement x) (noted (s .clock)) (s .statements)) (join (moment none s) (ownBlock x (only (s .settings .own))) (s .tallies)) s
 
 -- "sends the statement, then the vote"
 unfoldable pub ballot : Statement → State → List Effect
@@ -90,12 +90,12 @@ voting x s = elim (belowLock x s) [ true ↦ saying s [] | false ↦ saying (vot
 -- "its certificate mask joins its tally"
 unfoldable pub certificateJoined : Statement → State → State
 unfolding withTables joinCertificate certificate
-certificateJoined x s = withTables (s .statements) (joinCertificate none (certificate x) (s .tallies)) s
+certificateJoined x s = withTables (s .statements) (joinCertificate (moment none s) (certificate x) (s .tallies)) s
 
 -- "if new, it is stored with the mask as received, and tallies exist from now on for its certified block and its own block"
 unfoldable pub stored : Statement → State → State
 unfolding withTables join ownBlock joinCertificate certificate
-stored x s = withTables (s .statements ++ x ∷ []) (join none (ownBlock x 0) (joinCertificate none (certificate x) (s .tallies))) s
+stored x s = withTables (s .statements ++ x ∷ []) (join (moment none s) (ownBlock x 0) (joinCertificate (moment none s) (certificate x) (s .tallies))) s
 
 -- "where it conflicts with a stored one, the station sends all the earliest stored conflicting one, then this one, and quits"
 unfoldable pub statement : Statement → State → Work
@@ -119,7 +119,7 @@ statement x s =
 -- "vote, status join their tally, opened if missing (a status for genesis in view 0 changes nothing)"; 02: by the vote's author
 unfoldable pub tallied : Opener → Certificate → State → Work
 unfolding saying withTables joinCertificate
-tallied k t s = saying (withTables (s .statements) (joinCertificate k t (s .tallies)) s) []
+tallied k t s = saying (withTables (s .statements) (joinCertificate (moment k s) t (s .tallies)) s) []
 
 -- the blame mask of a view
 unfoldable pub blamesOf : ℕ → State → ℕ

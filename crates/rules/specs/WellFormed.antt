@@ -2,12 +2,12 @@
 use Prim.Native.Nat.{ℕ, zero, suc, _+_, _^_}
 use mathlib.Core.Bool.{Bool, true, false, not, _&&_, _||_}
 use mathlib.Core.List.{List, [], _∷_}
-use mathlib.Core.Option.{none, some}
+use mathlib.Core.Option.{Option, none, some}
 use lib.ListN.{length}
 use lib.Dec.{leb, ltb, eqb}
 use Rattle.rules.specs.Limits.{lastView, mostStatements, mostTallies, mostOpened, lastClock}
 use Rattle.rules.specs.Lists.{any, all, distinct, within}
-use Rattle.rules.specs.Sizes.{Settings, goodSettings, holds}
+use Rattle.rules.specs.Sizes.{Settings, goodSettings, holds, quorum}
 use Rattle.rules.specs.Messages.{viewAllowed, blockAllowed, certificateAllowed, allowed}
 use Rattle.rules.specs.Words.{Statement, message, sameStatement, Opener, Tally, certificateOf, openedBy, ownBlock, certificate, sameBlock, Phase, inView, waiting, stopped, State}
 use Rattle.rules.specs.Inputs.{isBlock}
@@ -47,10 +47,19 @@ unfolding holds
 openerGood g m none = true
 openerGood g m (some a) = ltb a (g .n) && holds m a
 
--- (8) a tally is of a view and a block that are allowed, with a mask of these stations, opened by nobody or by one of its voters
-unfoldable pub tallyGood : Settings → Tally → Bool
-unfolding viewAllowed blockAllowed isName isMask openerGood
-tallyGood g t = viewAllowed g (t .view) && blockAllowed (t .height) (t .name) && isName (t .name) && isMask g (t .mask) && openerGood g (t .mask) (t .opener)
+-- 02: "the clock is there exactly when f+1 bits are, and is never after the present one"
+unfoldable pub reachedGood : Settings → ℕ → ℕ → Option ℕ → Bool
+unfolding quorum
+reachedGood g now m none = not (quorum g m)
+reachedGood g now m (some c) = quorum g m && leb c now
+
+-- (8) a tally is of a view and a block that are allowed, with a mask of these stations, opened by nobody or by one of its voters,
+-- and keeps a clock as it should
+unfoldable pub tallyGood : Settings → ℕ → Tally → Bool
+unfolding viewAllowed blockAllowed isName isMask openerGood reachedGood
+tallyGood g now t =
+    viewAllowed g (t .view) && blockAllowed (t .height) (t .name) && isName (t .name) && isMask g (t .mask) && openerGood g (t .mask) (t .opener)
+    && reachedGood g now (t .mask) (t .reached)
 
 -- two tallies of one block
 unfoldable pub sameTally : Tally → Tally → Bool
@@ -97,7 +106,7 @@ wellFormed s =
     && all (statementGood s) (s .statements)
     && distinct sameStatement (s .statements)
     -- (8) tallies allowed and distinct
-    && all (tallyGood (s .settings)) (s .tallies)
+    && all (tallyGood (s .settings) (s .clock)) (s .tallies)
     && distinct sameTally (s .tallies)
     && all (talliesThere (s .tallies)) (s .statements)
     && blamesGood (s .settings) (s .blames)

@@ -65,20 +65,34 @@ pub record Certificate : Type 0 where
 abbrev pub Opener : Type 0
 Opener = Option ℕ
 
--- "a tally is (view, height, name) with a mask": a record of the table, which keeps who opened it
+-- "a tally is (view, height, name) with a mask": a record of the table, which keeps who opened it and, 02, "the clock at which
+-- it first reached a quorum in this store, or none"
 pub record Tally : Type 0 where
   pub view : ℕ
   pub height : ℕ
   pub name : ℕ
   pub mask : ℕ
   pub opener : Opener
+  pub reached : Option ℕ
+
+-- what a joining is told: the settings, the clock, and who opens the tally if it is missing
+pub record Moment : Type 0 where
+  pub settings : Settings
+  pub clock : ℕ
+  pub opener : Opener
+
+-- the clock that a tally has kept stays; one that has none keeps the present one once this mask is a quorum
+unfoldable pub reachedAt : Moment → Option ℕ → ℕ → Option ℕ
+unfolding quorum
+reachedAt k (some c) m = some c
+reachedAt k none m = elim (quorum (k .settings) m) [ true ↦ some (k .clock) | false ↦ none ]
 
 -- what a tally certifies, and a tally that somebody opens for a certificate
 abbrev pub certificateOf : Tally → Certificate
 certificateOf t = record { view = t .view; height = t .height; name = t .name; mask = t .mask }
 
-abbrev pub opened : Opener → Certificate → Tally
-opened k c = record { view = c .view; height = c .height; name = c .name; mask = c .mask; opener = k }
+abbrev pub opened : Moment → Certificate → Tally
+opened k c = record { view = c .view; height = c .height; name = c .name; mask = c .mask; opener = k .opener; reached = reachedAt k none (c .mask) }
 
 -- the statement's "own block in its view", with a mask
 unfoldable pub ownBlock : Statement → ℕ → Certificate
@@ -100,18 +114,20 @@ abbrev pub ofBlock : Certificate → Tally → Bool
 ofBlock t u = sameBlock t (certificateOf u)
 
 -- "adding a voter to a tally gives back the grown tally"
-unfoldable pub grown : Tally → ℕ → Tally
-unfolding joined
-grown t m = record { view = t .view; height = t .height; name = t .name; mask = joined (t .mask) m; opener = t .opener }
+unfoldable pub grown : Moment → Tally → ℕ → Tally
+unfolding joined reachedAt
+grown k t m =
+    let now = joined (t .mask) m in
+    record { view = t .view; height = t .height; name = t .name; mask = now; opener = t .opener; reached = reachedAt k (t .reached) now }
 
 -- a mask joins its tally, "opened if missing", and who opens it then is said; to open a tally is to join no voters
-unfoldable pub join : Opener → Certificate → List Tally → List Tally
-unfolding sameBlock grown
+unfoldable pub join : Moment → Certificate → List Tally → List Tally
+unfolding sameBlock grown reachedAt
 join k t [] = opened k t ∷ []
-join k t (u ∷ us) = elim (sameBlock t (certificateOf u)) [ true ↦ grown u (t .mask) ∷ us | false ↦ u ∷ join k t us ]
+join k t (u ∷ us) = elim (sameBlock t (certificateOf u)) [ true ↦ grown k u (t .mask) ∷ us | false ↦ u ∷ join k t us ]
 
 -- "genesis is certified in view 0 and has no tally there"
-unfoldable pub joinCertificate : Opener → Certificate → List Tally → List Tally
+unfoldable pub joinCertificate : Moment → Certificate → List Tally → List Tally
 unfolding join
 joinCertificate k t us = elim (eqb (t .view) 0) [ true ↦ us | false ↦ join k t us ]
 
@@ -129,6 +145,12 @@ unfoldable pub voters : Certificate → List Tally → ℕ
 unfolding sameBlock
 voters t [] = 0
 voters t (u ∷ us) = elim (sameBlock t (certificateOf u)) [ true ↦ u .mask | false ↦ voters t us ]
+
+-- the clock that a block's tally has kept
+unfoldable pub reachedOf : Certificate → List Tally → Option ℕ
+unfolding sameBlock
+reachedOf t [] = none
+reachedOf t (u ∷ us) = elim (sameBlock t (certificateOf u)) [ true ↦ u .reached | false ↦ reachedOf t us ]
 
 -- "it is certified at f+1 bits"
 unfoldable pub certified : Settings → Tally → Bool
@@ -177,6 +199,10 @@ pub record State : Type 0 where
   pub tallies : List Tally
   pub blames : List ℕ
   pub log : List ℕ
+
+-- what a station tells a joining: its settings and its clock
+abbrev pub moment : Opener → State → Moment
+moment k s = record { settings = s .settings; clock = s .clock; opener = k }
 
 -- "it starts in view 1, clock 0, lock on genesis"
 unfoldable pub fresh : Settings → State
