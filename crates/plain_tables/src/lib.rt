@@ -1,73 +1,18 @@
-// The tables of a station, and the station, held by value: for the plain engine. Each array has the room of one call beyond the
-// limit, so that a rule runs first and its tables are measured afterwards, as the definitions have it.
+// A station held by value, for the plain engine: its tables, its log and the rest of its state.
 use fields::Name;
+use plain_statements::Statements;
+use plain_tallies::Tallies;
 use plain_words::Certificate;
 use settings::Settings;
-use wire::Statement;
-ghost use mathlib.Core.Path.{_≡_};
-ghost use mathlib.Core.List.{[], _∷_, _++_};
-ghost use mathlib.Core.Option.{none};
-ghost use Prim.Native.Nat.{_<_, _≤_};
-ghost use Rattle.rules.specs.Lists.{any, first, alter};
-ghost use Rattle.rules.specs.Words as words;
-ghost use Rattle.rules.specs.Inputs as inputs;
-ghost use Rattle.fields.specs.Names.{nameOf};
-ghost use Rattle.wire.specs.Meaning.{statementOf};
-ghost use Rattle.plain_tables.specs.Places.{Within, place};
-ghost use Rattle.plain_tables.specs.Meaning.{statements, foundOf, roomForStatements, HoldsStatements};
 
-// The room of a table of statements, and of names; of tallies; of blame masks, one a view.
-pub const STATEMENTS: usize = Settings::MOST_STATEMENTS + 1;
-
-pub const TALLIES: usize = Settings::MOST_TALLIES + 2;
+// The room of a log, and of the blame masks: one a view, from view 0.
+pub const NAMES: usize = Settings::MOST_STATEMENTS + 1;
 
 pub const VIEWS: usize = Settings::LAST_VIEW as usize + 1;
 
-// A clock that was noted, or that none was.
-pub enum Noted {
-    Never,
-    At(u32),
-}
-
-// Who opened a tally: nobody, or the author of a vote.
-pub enum Opener {
-    Nobody,
-    Author(u8),
-}
-
-// A stored statement, with the clock of its vote.
-pub struct Held {
-    pub statement: Statement,
-    pub voted: Noted,
-}
-
-pub struct Statements {
-    pub items: [Held; STATEMENTS],
-    pub count: usize,
-}
-
-// What a search of the statements finds.
-pub enum Found {
-    Here(Held),
-    Nowhere,
-}
-
-pub struct Tally {
-    pub view: u32,
-    pub height: u32,
-    pub name: Name,
-    pub mask: u16,
-    pub opener: Opener,
-}
-
-pub struct Tallies {
-    pub items: [Tally; TALLIES],
-    pub count: usize,
-}
-
 // Names by ascending height, from height 1: a log or a chain.
 pub struct Names {
-    pub items: [Name; STATEMENTS],
+    pub items: [Name; NAMES],
     pub count: usize,
 }
 
@@ -95,118 +40,4 @@ pub struct Engine {
     pub tallies: Tallies,
     pub blames: [u16; VIEWS],
     pub log: Names,
-}
-
-impl Statements {
-    // No statements.
-    pub fn none() -> Statements
-        ensures { λ r. ⌜ HoldsStatements r [] ⌝ }
-    {
-        let name = Name::zero();
-        let link = Name::zero();
-        let statement = Statement {
-            is_new_view: false,
-            view: 0,
-            height: 0,
-            name,
-            link,
-            mask: 0,
-            author: 0,
-        };
-        let held = Held {
-            statement,
-            voted: Noted::Never,
-        };
-        let items = [held; STATEMENTS];
-        Statements { items, count: 0 }
-    }
-
-    // One more, at the end.
-    pub fn push(mut self, x: Statement) -> Statements
-        requires { ⌜ (Within roomForStatements (self .items) (self .count)) × (self .count < roomForStatements) ⌝ }
-        ensures { λ r. ⌜ HoldsStatements r (statements self ++ statementOf x none ∷ []) ⌝ }
-    {
-        let n = self.count;
-        let held = Held {
-            statement: x,
-            voted: Noted::Never,
-        };
-        self.items[n] = held;
-        self.count = n + 1;
-        self
-    }
-
-    // Where the same statement is stored first.
-    fn place_of_same(self, x: Statement) -> usize
-        requires { ⌜ Within roomForStatements (self .items) (self .count) ⌝ }
-        ensures { λ r. ⌜ r ≡ place (words.sameStatement (statementOf x none)) (statements self) ⌝ }
-    {
-        let n = self.count;
-        let mut i: usize = 0;
-        while i < n {
-            let held = self.items[i];
-            if plain_words::same_statement(x, held.statement) {
-                return i;
-            }
-            i += 1;
-        }
-        n
-    }
-
-    // Whether the same statement is stored.
-    pub fn any_same(self, x: Statement) -> bool
-        requires { ⌜ Within roomForStatements (self .items) (self .count) ⌝ }
-        ensures { λ r. ⌜ r ≡ any (words.sameStatement (statementOf x none)) (statements self) ⌝ }
-    {
-        let i = self.place_of_same(x);
-        i < self.count
-    }
-
-    // "Notes the clock" of the vote for a statement.
-    pub fn noted(mut self, x: Statement, clock: u32) -> Statements
-        requires { ⌜ Within roomForStatements (self .items) (self .count) ⌝ }
-        ensures { λ r. ⌜ HoldsStatements r (alter (words.sameStatement (statementOf x none)) (inputs.noted clock) (statements self)) ⌝ }
-    {
-        let i = self.place_of_same(x);
-        if i < self.count {
-            let held = self.items[i];
-            let statement = held.statement;
-            let now = Held {
-                statement,
-                voted: Noted::At(clock),
-            };
-            self.items[i] = now;
-        }
-        self
-    }
-
-    // Where the first that conflicts is stored.
-    fn place_of_conflict(self, x: Statement) -> usize
-        requires { ⌜ Within roomForStatements (self .items) (self .count) ⌝ }
-        ensures { λ r. ⌜ r ≡ place (words.conflict (statementOf x none)) (statements self) ⌝ }
-    {
-        let n = self.count;
-        let mut i: usize = 0;
-        while i < n {
-            let held = self.items[i];
-            if plain_words::conflict(x, held.statement) {
-                return i;
-            }
-            i += 1;
-        }
-        n
-    }
-
-    // "The earliest stored conflicting one".
-    pub fn first_conflict(self, x: Statement) -> Found
-        requires { ⌜ Within roomForStatements (self .items) (self .count) ⌝ }
-        ensures { λ r. ⌜ foundOf r ≡ first (words.conflict (statementOf x none)) (statements self) ⌝ }
-    {
-        let i = self.place_of_conflict(x);
-        if i < self.count {
-            let held = self.items[i];
-            return Found::Here(held);
-        }
-        Found::Nowhere
-    }
 }

@@ -1,1 +1,3 @@
 pub mod Statements
+pub mod Firsts
+pub mod Searches

@@ -16,6 +16,12 @@ pub struct Certificate {
     pub mask: u16,
 }
 
+// A clock that was noted, or that none was.
+pub enum Noted {
+    Never,
+    At(u32),
+}
+
 // Genesis.
 pub fn genesis() -> Certificate
     ensures { λ r. ⌜ certificateOf r ≡ words.genesis ⌝ }

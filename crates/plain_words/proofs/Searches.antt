@@ -9,8 +9,8 @@ use native.Mathlib.Nat.{le-of-suc-le-suc}
 use lib.ListN.{length, getD, set, drop}
 use Rattle.rules.specs.Lists.{first, any, alter}
 use Rattle.rules.proofs.Tests.{by-bool}
-use Rattle.plain_tables.specs.Places.{firsts, place}
-use Rattle.plain_tables.proofs.Firsts.{firsts-next, firsts-done}
+use Rattle.plain_words.specs.Places.{firsts, place}
+use Rattle.plain_words.proofs.Firsts.{firsts-next, firsts-done}
 
 -- a loop upward: so far nothing matched
 module _ {A B : Type 0} (f : A → B) (d : A) (p : B → Bool) (xs : List A) (n : ℕ) where

@@ -7,7 +7,7 @@ use native.Mathlib.Nat.{le-of-suc-le-suc}
 use native.Mathlib.Numerals.{add-one}
 use lib.ListN.{length, getD, set, take, drop}
 use lib.Seq.{drop-nil}
-use Rattle.plain_tables.specs.Places.{firsts}
+use Rattle.plain_words.specs.Places.{firsts}
 
 module _ {A B : Type 0} (f : A → B) where
   pub firsts-long : (xs : List A) (n : ℕ) → n ≤ length xs → length (firsts f xs n) ≡ n
