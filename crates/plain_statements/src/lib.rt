@@ -14,7 +14,7 @@ ghost use Rattle.rules.specs.Inputs as inputs;
 ghost use Rattle.fields.specs.Names.{nameOf};
 ghost use Rattle.wire.specs.Meaning.{statementOf};
 ghost use Rattle.plain_words.specs.Places.{Within, place};
-ghost use Rattle.plain_statements.specs.Meaning.{statements, foundOf, room, Holds};
+ghost use Rattle.plain_statements.specs.Meaning.{heldOf, statements, foundOf, room, Holds, opens, uses, over};
 
 // The room of the table.
 pub const ROOM: usize = Settings::MOST_STATEMENTS + 1;
@@ -147,5 +147,83 @@ impl Statements {
             return Found::Here(held);
         }
         Found::Nowhere
+    }
+
+    // "Has a new-view of that view stored".
+    pub fn is_opened(self, view: u32) -> bool
+        requires { ⌜ Within room (self .items) (self .count) ⌝ }
+        ensures { λ r. ⌜ r ≡ any (opens view) (statements self) ⌝ }
+    {
+        let n = self.count;
+        let mut i: usize = 0;
+        while i < n {
+            let held = self.items[i];
+            let x = held.statement;
+            if x.is_new_view & (x.view == view) {
+                return true;
+            }
+            i += 1;
+        }
+        false
+    }
+
+    // "The name or parent of any stored statement".
+    pub fn is_used(self, name: Name) -> bool
+        requires { ⌜ Within room (self .items) (self .count) ⌝ }
+        ensures { λ r. ⌜ r ≡ any (uses (nameOf name)) (statements self) ⌝ }
+    {
+        let n = self.count;
+        let mut i: usize = 0;
+        while i < n {
+            let held = self.items[i];
+            let x = held.statement;
+            if Statements::uses(x, name) {
+                return true;
+            }
+            i += 1;
+        }
+        false
+    }
+
+    // Whether a name is a statement's, or its parent's.
+    fn uses(x: Statement, name: Name) -> bool
+        ensures { λ r. ⌜ r ≡ uses (nameOf name) (statementOf x none) ⌝ }
+    {
+        let own = name.same(x.name);
+        let link = name.same(x.link);
+        own | (!x.is_new_view & link)
+    }
+
+    // "The greatest-height statement of the view", the first of several.
+    pub fn top(self, view: u32) -> Found
+        requires { ⌜ Within room (self .items) (self .count) ⌝ }
+        ensures { λ r. ⌜ foundOf r ≡ inputs.top view (statements self) ⌝ }
+    {
+        let mut best = Found::Nowhere;
+        let mut i = self.count;
+        while 0 < i {
+            i -= 1;
+            let held = self.items[i];
+            best = Statements::greater(held, view, best);
+        }
+        best
+    }
+
+    // A statement before the top of those behind it: itself, where it is of the view and they are not greater.
+    fn greater(held: Held, view: u32, best: Found) -> Found
+        ensures { λ r. ⌜ foundOf r ≡ over view (heldOf held) (foundOf best) ⌝ }
+    {
+        if held.statement.view != view {
+            return best;
+        }
+        match best {
+            Found::Here(other) => {
+                if held.statement.height < other.statement.height {
+                    return best;
+                }
+                Found::Here(held)
+            }
+            Found::Nowhere => Found::Here(held),
+        }
     }
 }

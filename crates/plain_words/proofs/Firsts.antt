@@ -36,6 +36,12 @@ module _ {A B : Type 0} (f : A → B) where
   pub firsts-next : (d : A) (xs : List A) (n i : ℕ) → n ≤ length xs → i < n → drop i (firsts f xs n) ≡ f (getD xs i d) ∷ drop (i + 1) (firsts f xs n)
   firsts-next d xs n i h k = next d xs n i h k ∙ ap (λ (j : ℕ). f (getD xs i d) ∷ drop j (firsts f xs n)) (sym (add-one i))
 
+  -- as a loop downward meets them: the item before a place, then the rest
+  pub firsts-back : (d : A) (xs : List A) (n i : ℕ) → n ≤ length xs → 0 < i → i ≤ n → drop (i - 1) (firsts f xs n) ≡ f (getD xs (i - 1) d) ∷ drop i (firsts f xs n)
+  firsts-back d xs n i h k l =
+      let e : i - 1 + 1 ≡ i = omega arith in
+      firsts-next d xs n (i - 1) h (omega arith) ∙ ap (λ (j : ℕ). f (getD xs (i - 1) d) ∷ drop j (firsts f xs n)) e
+
   -- the item at a place
   pub firsts-at : (d : A) (e : B) (xs : List A) (n i : ℕ) → n ≤ length xs → i < n → getD (firsts f xs n) i e ≡ f (getD xs i d)
   unfolding firsts

@@ -5,8 +5,9 @@ use Rattle.wire.specs.Meaning.{statementOf}
 use mathlib.Core.Path.{refl, _∙_}
 use lib.ListN.{length-set, getD}
 use Rattle.rules.specs.Inputs as inputs
-use Rattle.plain_statements.specs.Meaning.{blank, statements}
-use Rattle.plain_statements.proofs.Laws.{noted-held, altered, unaltered}
+use Rattle.plain_statements.proofs.Laws.{noted-held}
+use Rattle.plain_words.proofs.Tables.{altered, unaltered, within-set}
+use Rattle.plain_statements.specs.Meaning.{heldOf, blank, statements, room}
 use borrow.Author.Needs.{needs}
 use Rattle.plain_statements.proofs.Statements.noted.Statement.{statement}
 use Rattle.plain_statements.proofs.Statements.noted.Tie as tie
@@ -33,17 +34,18 @@ returns c =
     let i = c .before .before .before .place-of-same .result in
     let w = c .before .before .before .before .pre in
     record {
-      within = record { long = length-set (a .t1 .items) i _ ∙ w .long; most = w .most };
-      is = altered (a .t1) w (words.sameStatement (statementOf (a .x) none)) i (c .before .before .before .place-of-same .ensures) (inputs.noted (a .clock)) _ (c .before .before .if1 .taken) (noted-held (a .clock) (getD (a .t1 .items) i blank));
+      within = within-set room (a .t1 .items) (a .t1 .count) w i _;
+      is = altered heldOf blank room (a .t1 .items) (a .t1 .count) w (words.sameStatement (statementOf (a .x) none)) i (c .before .before .before .place-of-same .ensures) (inputs.noted (a .clock)) _ (c .before .before .if1 .taken) (noted-held (a .clock) (getD (a .t1 .items) i blank));
     }
 
 returns-2 : tie.Need-returns-2
+unfolding statements
 returns-2 c =
     let a = c .before .before .args in
     let w = c .before .before .pre in
     record {
       within = w;
-      is = unaltered (a .t1) w (words.sameStatement (statementOf (a .x) none)) (c .before .place-of-same .result) (c .before .place-of-same .ensures) (inputs.noted (a .clock)) (c .if1 .left);
+      is = unaltered heldOf blank room (a .t1 .items) (a .t1 .count) w (words.sameStatement (statementOf (a .x) none)) (c .before .place-of-same .result) (c .before .place-of-same .ensures) (inputs.noted (a .clock)) (c .if1 .left);
     }
 
 pub noted-spec : {M : Type 1} → statement M

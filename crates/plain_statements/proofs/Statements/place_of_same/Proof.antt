@@ -1,6 +1,7 @@
 -- `plain_statements::Statements::place_of_same` meets its contract. Assumes nothing.
-use Rattle.plain_statements.proofs.Laws.{long, same-held}
-use Rattle.plain_statements.specs.Meaning.{heldOf, blank, statements}
+use Rattle.plain_statements.proofs.Laws.{same-held}
+use Rattle.plain_words.proofs.Tables.{long}
+use Rattle.plain_statements.specs.Meaning.{heldOf, blank, statements, room}
 use Prim.Native.Nat.{_+_, _-_, _<_, _≤_}
 use mathlib.Core.Path.{_≡_, refl, sym, ap, _∙_}
 use native.Mathlib.Omega.{arith}
@@ -42,7 +43,7 @@ unfolding statements
 returns c =
     let a = c .before .before .before .before .before .args in
     let l = c .before .before .before .before .loop in
-    sym (place-here heldOf blank (words.sameStatement (statementOf (a .x) none)) (a .t1 .items) (a .t1 .count) (l .i) (long (a .t1) (c .before .before .before .before .before .pre)) (omega arith) (l .inv .1)
+    sym (place-here heldOf blank (words.sameStatement (statementOf (a .x) none)) (a .t1 .items) (a .t1 .count) (l .i) (long heldOf blank room (a .t1 .items) (a .t1 .count) (c .before .before .before .before .before .pre)) (omega arith) (l .inv .1)
     (same-held (a .x) (getD (a .t1 .items) (l .i) blank) ∙ sym (c .before .same-statement .ensures) ∙ c .if1 .taken))
 
 add-i : tie.Need-add-i Inv-loop μ-loop
@@ -59,7 +60,7 @@ loop-again c =
     let a = c .before .before .before .before .before .args in
     let l = c .before .before .before .before .loop in (
       omega arith,
-      place-next heldOf blank (words.sameStatement (statementOf (a .x) none)) (a .t1 .items) (a .t1 .count) (l .i) (long (a .t1) (c .before .before .before .before .before .pre)) (omega arith) (l .inv .1)
+      place-next heldOf blank (words.sameStatement (statementOf (a .x) none)) (a .t1 .items) (a .t1 .count) (l .i) (long heldOf blank room (a .t1 .items) (a .t1 .count) (c .before .before .before .before .before .pre)) (omega arith) (l .inv .1)
           (same-held (a .x) (getD (a .t1 .items) (l .i) blank) ∙ sym (c .before .same-statement .ensures) ∙ c .if1 .left),
     )
 
