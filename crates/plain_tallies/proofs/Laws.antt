@@ -8,7 +8,7 @@ use native.Mathlib.Omega.{arith}
 use native.Mathlib.Nat.{le-of-suc-le-suc}
 use native.Mathlib.Numerals.{add-one}
 use lib.ListN.{length, getD, set, drop}
-use lib.Dec.{ltb}
+use lib.Dec.{ltb, eqb}
 use borrow.Author.Tests.{eq-eqb, ne-eqb}
 use Rattle.rules.specs.Lists.{keep}
 use Rattle.rules.specs.Sizes.{Settings, quorum}
@@ -17,10 +17,10 @@ use Rattle.rules.specs.Words.{Certificate, Moment, reachedAt, certificateOf, of
 use Rattle.rules.proofs.Tests.{by-bool}
 use Rattle.plain_words.specs.Places.{firsts, Within, place}
 use Rattle.plain_words.proofs.Firsts.{firsts-more}
-use Rattle.plain_words.proofs.Tables.{long, inside, outside, item, changed}
+use Rattle.plain_words.proofs.Tables.{counted, inside, outside, item, changed}
 use Rattle.plain_tallies.specs.declared.Tally.{Tally}
 use Rattle.plain_tallies.specs.declared.Tallies.{Tallies}
-use Rattle.plain_tallies.specs.Meaning.{tallyOf, blank, tallies, room, bestOf}
+use Rattle.plain_tallies.specs.Meaning.{tallyOf, blank, tallies, room, Holds, bestOf}
 
 -- ---- over lists
 
@@ -131,3 +131,26 @@ module _ (k : Moment) (t : Certificate) (us : List words.Tally) where
   pub join-other : (t .view ≡ 0 → ⊥) → join k t us ≡ joinCertificate k t us
   unfolding joinCertificate
   join-other d = rw (ne-eqb (t .view) 0 d, joinCertificate)
+
+-- ---- a joining adds one tally at most
+
+join-long : (k : Moment) (t : Certificate) (us : List words.Tally) → length (join k t us) ≤ length us + 1
+unfolding join
+join-long k t [] = omega arith
+join-long k t (u ∷ us) =
+    let h = join-long k t us in
+    by-bool (sameBlock t (certificateOf u)) (λ q. rw (q, join) (omega arith)) (λ q. rw (q, join) (omega arith))
+
+certificate-long : (k : Moment) (t : Certificate) (us : List words.Tally) → length (joinCertificate k t us) ≤ length us + 1
+unfolding joinCertificate
+certificate-long k t us =
+    let h = join-long k t us in
+    by-bool (eqb (t .view) 0) (λ q. rw (q, joinCertificate) (omega arith)) (λ q. rw (q, joinCertificate) h)
+
+pub tally-count : (u : Tallies) → Within room (u .items) (u .count) → length (tallies u) ≡ u .count
+unfolding tallies
+tally-count u w = counted tallyOf blank room (u .items) (u .count) w
+
+pub certificate-count : (u : Tallies) → Within room (u .items) (u .count) → (k : Moment) (t : Certificate) (r : Tallies) → Holds r (joinCertificate k t (tallies u)) → r .count ≤ u .count + 1
+certificate-count u w k t r h =
+    omega (arith, tally-count u w, tally-count r (h .within), ap length (h .is), certificate-long k t (tallies u))

@@ -1,6 +1,5 @@
 // The tallies, held by value, for the plain engine. The array has the room of three tallies beyond the limit: no call adds more than
-// two, and a joining asks for a free place. So
-// a rule runs first, and its tables are measured afterwards, as the definitions have it.
+// two, and a joining asks for a free place. So a rule runs first, and its tables are measured afterwards, as the definitions have it.
 use fields::Name;
 use plain_words::Certificate;
 use plain_words::Noted;

@@ -59,9 +59,11 @@ loop-again : tie.Need-loop-again Inv-loop μ-loop
 unfolding tallies
 loop-again c =
     let a = c .before .before .before .before .before .before .args in
-    let l = c .before .before .before .before .before .loop in
-    (omega arith, place-next tallyOf blank (words.ofBlock (certificateOf (a .t))) (a .t1 .items) (a .t1 .count) (l .i) (long tallyOf blank room (a .t1 .items) (a .t1 .count) (c .before .before .before .before .before .before .pre)) (omega arith) (l .inv .1)
-    (ap (words.sameBlock (certificateOf (a .t))) (sym (c .before .before .certificate-of .ensures)) ∙ sym (c .before .same-block .ensures) ∙ c .if1 .left))
+    let l = c .before .before .before .before .before .loop in (
+      omega arith,
+      place-next tallyOf blank (words.ofBlock (certificateOf (a .t))) (a .t1 .items) (a .t1 .count) (l .i) (long tallyOf blank room (a .t1 .items) (a .t1 .count) (c .before .before .before .before .before .before .pre)) (omega arith) (l .inv .1)
+          (ap (words.sameBlock (certificateOf (a .t))) (sym (c .before .before .certificate-of .ensures)) ∙ sym (c .before .same-block .ensures) ∙ c .if1 .left),
+    )
 
 returns-2 : tie.Need-returns-2 Inv-loop μ-loop
 unfolding tallies
