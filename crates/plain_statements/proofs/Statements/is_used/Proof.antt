@@ -37,7 +37,7 @@ uses-requires : tie.Need-uses-requires Inv-loop μ-loop
 uses-requires c κs = search needs
 
 returns : tie.Need-returns Inv-loop μ-loop
-unfolding statements 
+unfolding statements
 returns c =
     let a = c .before .before .before .before .before .before .args in
     let l = c .before .before .before .before .before .loop in
@@ -52,7 +52,7 @@ loop-less c =
     omega arith
 
 loop-again : tie.Need-loop-again Inv-loop μ-loop
-unfolding statements 
+unfolding statements
 loop-again c =
     let a = c .before .before .before .before .before .before .args in
     let l = c .before .before .before .before .before .loop in
