@@ -134,14 +134,14 @@ module _ (k : Moment) (t : Certificate) (us : List words.Tally) where
 
 -- ---- a joining adds one tally at most
 
-join-long : (k : Moment) (t : Certificate) (us : List words.Tally) → length (join k t us) ≤ length us + 1
+pub join-long : (k : Moment) (t : Certificate) (us : List words.Tally) → length (join k t us) ≤ length us + 1
 unfolding join
 join-long k t [] = omega arith
 join-long k t (u ∷ us) =
     let h = join-long k t us in
     by-bool (sameBlock t (certificateOf u)) (λ q. rw (q, join) (omega arith)) (λ q. rw (q, join) (omega arith))
 
-certificate-long : (k : Moment) (t : Certificate) (us : List words.Tally) → length (joinCertificate k t us) ≤ length us + 1
+pub certificate-long : (k : Moment) (t : Certificate) (us : List words.Tally) → length (joinCertificate k t us) ≤ length us + 1
 unfolding joinCertificate
 certificate-long k t us =
     let h = join-long k t us in
