@@ -6,14 +6,13 @@ use plain_statements::Statements;
 use plain_tables::NAMES;
 use plain_tables::Names;
 ghost use mathlib.Core.Path.{_≡_};
-ghost use mathlib.Core.List.{[]};
 ghost use Prim.Native.Nat.{_<_, _-_};
 ghost use Rattle.fields.specs.Names.{nameOf};
 ghost use Rattle.rules.specs.Lists.{first};
 ghost use Rattle.rules.specs.Inputs as inputs;
 ghost use Rattle.plain_words.specs.Places.{Within};
 ghost use Rattle.plain_statements.specs.Meaning.{heldOf, foundOf, statements};
-ghost use Rattle.plain_tables.specs.Meaning.{names, room, Holds};
+ghost use Rattle.plain_tables.specs.Meaning.{names, room};
 ghost use Rattle.plain_chains.specs.Meaning.{Gives};
 
 // Names, or none.
@@ -48,15 +47,6 @@ fn first_block(xs: Statements, height: u32, name: Name) -> Found
     Found::Nowhere
 }
 
-// No names.
-fn no_names() -> Names
-    ensures { λ r. ⌜ Holds r [] ⌝ }
-{
-    let zero = Name::zero();
-    let items = [zero; NAMES];
-    Names { items, count: 0 }
-}
-
 // One height lower.
 fn lower(height: u32) -> usize
     ensures { λ r. ⌜ r ≡ height - 1 ⌝ }
@@ -74,14 +64,14 @@ fn chain(xs: Statements, x: Held) -> Maybe
 {
     let s = x.statement;
     let mut k = lower(s.height);
-    let none = no_names();
+    let blank = Names::none();
     if NAMES <= k {
         return Maybe {
             some: false,
-            names: none,
+            names: blank,
         };
     }
-    let mut items = none.items;
+    let mut items = blank.items;
     let count = k + 1;
     let name = s.name;
     items[k] = name;
@@ -90,7 +80,7 @@ fn chain(xs: Statements, x: Held) -> Maybe
         let Found::Here(y) = first_block(xs, k as u32, link) else {
             return Maybe {
                 some: false,
-                names: none,
+                names: blank,
             };
         };
         k -= 1;

@@ -26,21 +26,6 @@ conflict-own : (x : Held) → conflict (statementOf (x .statement) none) ≡ con
 unfolding conflict sameStatement against heldOf statementOf
 conflict-own x = refl
 
--- a search, upward
-module _ (p : Statement → Bool) (items : List Held) (n : ℕ) where
-  pub first-done : (i : ℕ) → n ≤ i → first p (drop i (firsts heldOf items n)) ≡ none
-  unfolding first
-  first-done i h = rw (firsts-done heldOf items n i h)
-
-  module _ (d : Held) (i : ℕ) (l : n ≤ length items) (h : i < n) where
-    pub first-here : p (heldOf (getD items i d)) ≡ true → first p (drop i (firsts heldOf items n)) ≡ some (heldOf (getD items i d))
-    unfolding first
-    first-here t = ap (first p) (firsts-next heldOf d items n i l h) ∙ rw (t, first)
-
-    pub first-next : p (heldOf (getD items i d)) ≡ false → first p (drop i (firsts heldOf items n)) ≡ first p (drop (i + 1) (firsts heldOf items n))
-    unfolding first
-    first-next t = ap (first p) (firsts-next heldOf d items n i l h) ∙ rw (t, first)
-
 -- the pair, upward
 two : (x y : Statement) (xs : List Statement) → first (conflict x) xs ≡ some y → pair (x ∷ xs) ≡ some (x, y)
 unfolding pair

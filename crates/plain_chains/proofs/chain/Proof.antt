@@ -17,24 +17,24 @@ use Rattle.plain_chains.proofs.chain.Statement.{statement}
 use Rattle.plain_chains.proofs.chain.Tie as tie
 
 abbrev Inv-loop : tie.InvT-loop
-Inv-loop xs k₀ none items₀ count link₀ k items link =
+Inv-loop xs k₀ blank items₀ count link₀ k items link =
     Walk (statements xs) (chainTo (statements xs) k₀ (nameOf link₀) (drop k₀ (firsts nameOf items₀ count))) items count k (nameOf link) room
 
 abbrev μ-loop : tie.MeasureT-loop
-μ-loop xs k₀ none items₀ count link₀ k items link = k
+μ-loop xs k₀ blank items₀ count link₀ k items link = k
 
 lower-requires : tie.Need-lower-requires Inv-loop μ-loop
 lower-requires c κs = search needs
 
-no-names-requires : tie.Need-no-names-requires Inv-loop μ-loop
-no-names-requires c κs = search needs
+none-requires : tie.Need-none-requires Inv-loop μ-loop
+none-requires c κs = search needs
 
 returns : tie.Need-returns Inv-loop μ-loop
 unfolding maybeOf heldOf statementOf
 returns c =
     let s = c .before .before .before .before in
     record {
-      within = c .before .no-names .ensures .within;
+      within = c .before .none .ensures .within;
       is = too-high (statements (s .args .xs)) (heldOf (s .args .x)) (omega (arith, counted (s .args .xs) (s .pre .0), s .pre .1, c .if1 .taken, c .before .before .lower .ensures));
     }
 
@@ -49,8 +49,8 @@ array-set-from-items c = omega arith
 
 loop-holds : tie.Need-loop-holds Inv-loop μ-loop
 loop-holds c =
-    let w = c .before .before .before .before .no-names .ensures .within in
-    record { long = length-set (c .before .before .before .before .no-names .result .items) _ _ ∙ w .long; fits = omega arith; below = omega arith; is = refl }
+    let w = c .before .before .before .before .none .ensures .within in
+    record { long = length-set (c .before .before .before .before .none .result .items) _ _ ∙ w .long; fits = omega arith; below = omega arith; is = refl }
 
 cast-first-block : tie.Need-cast-first-block Inv-loop μ-loop
 cast-first-block c = record { fits = omega (arith, c .before .loop .inv .below, c .before .loop .inv .fits) }
@@ -69,8 +69,8 @@ unfolding maybeOf heldOf statementOf
 returns-2 c =
     let s = c .before .before .before .before .before .before .before .before .before .before .before .before in
     record {
-      within = c .before .before .before .before .before .before .before .before .before .no-names .ensures .within;
-      is = sym (chain-start (statements (s .args .xs)) (heldOf (s .args .x)) (c .before .before .before .before .before .before .before .before .before .no-names .result .items) _ (s .args .x .statement .name) (c .before .before .before .before .before .before .before .before .before .before .lower .ensures) (omega (arith, c .before .before .before .before .before .before .before .before .before .no-names .ensures .within .long, c .before .before .before .before .before .before .before .before .if1 .left)) refl
+      within = c .before .before .before .before .before .before .before .before .before .none .ensures .within;
+      is = sym (chain-start (statements (s .args .xs)) (heldOf (s .args .x)) (c .before .before .before .before .before .before .before .before .before .none .result .items) _ (s .args .x .statement .name) (c .before .before .before .before .before .before .before .before .before .before .lower .ensures) (omega (arith, c .before .before .before .before .before .before .before .before .before .none .ensures .within .long, c .before .before .before .before .before .before .before .before .if1 .left)) refl
           ∙ walk-broken (c .before .before .before .before .loop .inv) (c .before .before .before .loop-test .taken) (sym (c .before .before .first-block .ensures) ∙ ap foundOf (c .enum-told .given .1)));
     }
 
@@ -97,7 +97,7 @@ returns-3 c =
     let w = c .before .loop .inv in
     record {
       within = record { long = w .long; most = w .fits };
-      is = sym (chain-start (statements (s .args .xs)) (heldOf (s .args .x)) (c .before .before .before .before .before .before .no-names .result .items) _ (s .args .x .statement .name) (c .before .before .before .before .before .before .before .lower .ensures) (omega (arith, c .before .before .before .before .before .before .no-names .ensures .within .long, c .before .before .before .before .before .if1 .left)) refl ∙ walk-end w (c .loop-test .left));
+      is = sym (chain-start (statements (s .args .xs)) (heldOf (s .args .x)) (c .before .before .before .before .before .before .none .result .items) _ (s .args .x .statement .name) (c .before .before .before .before .before .before .before .lower .ensures) (omega (arith, c .before .before .before .before .before .before .none .ensures .within .long, c .before .before .before .before .before .if1 .left)) refl ∙ walk-end w (c .loop-test .left));
     }
 
 pub chain-spec : {M : Type 1} → statement M
@@ -107,7 +107,7 @@ chain-spec =
     Inv-loop
     μ-loop
     lower-requires
-    no-names-requires
+    none-requires
     returns
     add-count
     mul-items

@@ -9,7 +9,8 @@ use Rattle.rules.specs.Words as words
 use Rattle.wire.specs.Meaning.{statementOf}
 use Rattle.plain_words.specs.Places.{firsts}
 use Rattle.plain_statements.specs.Meaning.{heldOf, statements, blank}
-use Rattle.plain_pairs.proofs.Laws.{conflict-held, first-done, first-here, first-next}
+use Rattle.plain_pairs.proofs.Laws.{conflict-held}
+use Rattle.plain_chains.proofs.Parts.{first-done, first-here, first-next}
 use borrow.Author.Needs.{needs}
 use Rattle.plain_pairs.proofs.conflict_from.Statement.{statement}
 use Rattle.plain_pairs.proofs.conflict_from.Tie as tie
@@ -39,7 +40,7 @@ returns c =
     let a = c .before .before .before .before .before .args in
     let w = c .before .before .before .before .before .pre .0 in
     let l = c .before .before .before .before .loop in
-    sym (l .inv .1 ∙ first-here (words.conflict (statementOf (a .x) none)) (a .t1 .items) (a .t1 .count) blank (l .i) (omega (arith, w .long, w .most)) (c .before .before .before .loop-test .taken) (conflict-held (a .x) (getD (a .t1 .items) (l .i) blank) ∙ sym (c .before .conflict .ensures) ∙ c .if1 .taken))
+    sym (l .inv .1 ∙ first-here heldOf (words.conflict (statementOf (a .x) none)) (a .t1 .items) (a .t1 .count) blank (l .i) (omega (arith, w .long, w .most)) (c .before .before .before .loop-test .taken) (conflict-held (a .x) (getD (a .t1 .items) (l .i) blank) ∙ sym (c .before .conflict .ensures) ∙ c .if1 .taken))
 
 add-i : tie.Need-add-i Inv-loop μ-loop
 add-i c = let w = c .before .before .before .before .before .pre .0 in omega (arith, w .most, c .before .before .before .loop-test .taken)
@@ -52,14 +53,14 @@ loop-again c =
     let a = c .before .before .before .before .before .args in
     let w = c .before .before .before .before .before .pre .0 in
     let l = c .before .before .before .before .loop in
-    (omega (arith, c .before .before .before .loop-test .taken), l .inv .1 ∙ first-next (words.conflict (statementOf (a .x) none)) (a .t1 .items) (a .t1 .count) blank (l .i) (omega (arith, w .long, w .most)) (c .before .before .before .loop-test .taken) (conflict-held (a .x) (getD (a .t1 .items) (l .i) blank) ∙ sym (c .before .conflict .ensures) ∙ c .if1 .left))
+    (omega (arith, c .before .before .before .loop-test .taken), l .inv .1 ∙ first-next heldOf (words.conflict (statementOf (a .x) none)) (a .t1 .items) (a .t1 .count) blank (l .i) (omega (arith, w .long, w .most)) (c .before .before .before .loop-test .taken) (conflict-held (a .x) (getD (a .t1 .items) (l .i) blank) ∙ sym (c .before .conflict .ensures) ∙ c .if1 .left))
 
 returns-2 : tie.Need-returns-2 Inv-loop μ-loop
 unfolding statements
 returns-2 c =
     let a = c .before .before .args in
     let l = c .before .loop in
-    sym (l .inv .1 ∙ first-done (words.conflict (statementOf (a .x) none)) (a .t1 .items) (a .t1 .count) (l .i) (c .loop-test .left))
+    sym (l .inv .1 ∙ first-done heldOf (words.conflict (statementOf (a .x) none)) (a .t1 .items) (a .t1 .count) (l .i) (c .loop-test .left))
 
 pub conflict-from-spec : {M : Type 1} → statement M
 conflict-from-spec =
