@@ -1,0 +1,39 @@
+-- `plain_acts::certificate_joined` meets its contract. Assumes nothing.
+use mathlib.Core.Option.{none}
+use Rattle.wire.specs.Meaning.{statementOf, messageOf}
+use Rattle.plain_words.specs.Meaning.{certificateOf}
+use Rattle.plain_tallies.specs.Meaning.{openerOf, momentOf}
+use Rattle.plain_tables.proofs.Laws.{given}
+use Rattle.plain_acts.proofs.Laws.{certificate-gives}
+use borrow.Author.Needs.{needs}
+use Rattle.plain_acts.proofs.certificate_joined.Statement.{statement}
+use Rattle.plain_acts.proofs.certificate_joined.Tie as tie
+
+moment-of-requires : tie.Need-moment-of-requires
+moment-of-requires c κs = search needs
+
+certificate-of-requires : tie.Need-certificate-of-requires
+certificate-of-requires c κs =
+    c .before .pre .2
+
+join-certificate-requires : tie.Need-join-certificate-requires
+join-certificate-requires c κs =
+    (c .before .before .before .before .pre .0 .tallies, c .before .before .before .before .pre .1)
+
+with-tables-requires : tie.Need-with-tables-requires
+with-tables-requires c κs = search needs
+
+returns : tie.Need-returns
+returns c =
+    let a = c .before .before .before .before .before .before .args in
+    given (c .with-tables .ensures) (certificate-gives (a .e) (c .before .before .before .before .before .before .pre .0) (momentOf (c .before .before .before .before .before .moment-of .result)) (statementOf (a .x) none) (certificateOf (c .before .before .before .before .certificate-of .result)) (c .before .join-certificate .result) (c .before .before .before .before .before .moment-of .ensures) (c .before .before .before .before .certificate-of .ensures) (c .before .join-certificate .ensures))
+
+pub certificate-joined-spec : {M : Type 1} → statement M
+certificate-joined-spec =
+    tie.close
+    (tie.spec
+    moment-of-requires
+    certificate-of-requires
+    join-certificate-requires
+    with-tables-requires
+    returns)

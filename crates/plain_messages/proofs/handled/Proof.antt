@@ -1,0 +1,147 @@
+-- `plain_messages::handled` meets its contract. Assumes nothing.
+use mathlib.Core.Path.{_≡_, refl, sym, ap, _∙_}
+use native.Mathlib.Omega.{arith}
+use mathlib.Core.Option.{none, some}
+use Rattle.rules.specs.Messages.{vote, blame, blameSet, status, allowed}
+use Rattle.rules.specs.Inputs as inputs
+use Rattle.rules.specs.Words as words
+use Rattle.rules.proofs.Allowed.{allowed-rights}
+use Rattle.fields.specs.Names.{nameOf}
+use Rattle.wire.specs.Meaning.{statementOf, messageOf}
+use Rattle.wire.specs.declared.Message.{Message}
+use Rattle.plain_words.specs.Meaning.{certificateOf}
+use Rattle.plain_tables.specs.Meaning.{state}
+use Rattle.plain_messages.proofs.Laws.{few-tallies, view-small, author-small, voter-certificate, told, stated-worked, tallied-worked, blamed-worked}
+use borrow.Author.Needs.{needs}
+use Rattle.plain_messages.proofs.handled.Statement.{statement}
+use Rattle.plain_messages.proofs.handled.Tie as tie
+
+enum-known-message : tie.Need-enum-known-message
+enum-known-message c = search needs
+
+statement-requires : tie.Need-statement-requires
+unfolding messageOf
+statement-requires c κs =
+    let a = c .before .before .before .before .before .args in
+    let k = c .before .before .before .before .before .pre .0 in
+    (k, ap (λ (z : Message). allowed (state (a .e) .settings) (messageOf z)) (sym (c .before .before .message .given .1)) ∙ c .before .before .before .before .before .pre .1, c .before .before .before .before .before .pre .2)
+
+enum-known-message-2 : tie.Need-enum-known-message-2
+enum-known-message-2 c = search needs
+
+voter-requires : tie.Need-voter-requires
+unfolding messageOf
+voter-requires c κs =
+    let a = c .before .before .before .before .args in
+    let k = c .before .before .before .before .pre .0 in
+    author-small (a .e) k (c .before .message2 .given .0 .1 .1 .1 .0) (allowed-rights (state (a .e) .settings) (vote (c .before .message2 .given .0 .0) (c .before .message2 .given .0 .1 .0) (nameOf (c .before .message2 .given .0 .1 .1 .0)) (c .before .message2 .given .0 .1 .1 .1 .0)) (ap (λ (z : Message). allowed (state (a .e) .settings) (messageOf z)) (sym (c .before .message2 .given .1)) ∙ c .before .before .before .before .pre .1) .2)
+
+tallied-requires : tie.Need-tallied-requires
+tallied-requires c κs =
+    let a = c .before .before .before .before .before .args in
+    let k = c .before .before .before .before .before .pre .0 in
+    (k .sized, omega (arith, few-tallies (a .e) k))
+
+enum-known-message-3 : tie.Need-enum-known-message-3
+enum-known-message-3 c = search needs
+
+voter-requires-2 : tie.Need-voter-requires-2
+unfolding messageOf
+voter-requires-2 c κs =
+    let a = c .before .before .before .before .args in
+    let k = c .before .before .before .before .pre .0 in
+    author-small (a .e) k (c .before .message3 .given .0 .1 .0) (allowed-rights (state (a .e) .settings) (blame (c .before .message3 .given .0 .0) (c .before .message3 .given .0 .1 .0)) (ap (λ (z : Message). allowed (state (a .e) .settings) (messageOf z)) (sym (c .before .message3 .given .1)) ∙ c .before .before .before .before .pre .1) .1)
+
+blaming-requires : tie.Need-blaming-requires
+unfolding messageOf
+blaming-requires c κs =
+    let a = c .before .before .before .before .before .before .args in
+    let k = c .before .before .before .before .before .before .pre .0 in
+    (k .sized, view-small (a .e) k (c .before .before .before .message3 .given .0 .0) (allowed-rights (state (a .e) .settings) (blame (c .before .before .before .message3 .given .0 .0) (c .before .before .before .message3 .given .0 .1 .0)) (ap (λ (z : Message). allowed (state (a .e) .settings) (messageOf z)) (sym (c .before .before .before .message3 .given .1)) ∙ c .before .before .before .before .before .before .pre .1) .0), c .before .before .before .before .before .before .pre .2)
+
+enum-known-message-4 : tie.Need-enum-known-message-4
+enum-known-message-4 c = search needs
+
+blaming-requires-2 : tie.Need-blaming-requires-2
+unfolding messageOf
+blaming-requires-2 c κs =
+    let a = c .before .before .before .before .before .args in
+    let k = c .before .before .before .before .before .pre .0 in
+    (k .sized, view-small (a .e) k (c .before .before .message4 .given .0 .0) (allowed-rights (state (a .e) .settings) (blameSet (c .before .before .message4 .given .0 .0) (c .before .before .message4 .given .0 .1 .0)) (ap (λ (z : Message). allowed (state (a .e) .settings) (messageOf z)) (sym (c .before .before .message4 .given .1)) ∙ c .before .before .before .before .before .pre .1) .0), c .before .before .before .before .before .pre .2)
+
+enum-known-message-5 : tie.Need-enum-known-message-5
+enum-known-message-5 c = search needs
+
+tallied-requires-2 : tie.Need-tallied-requires-2
+tallied-requires-2 c κs =
+    let a = c .before .before .before .before .args in
+    let k = c .before .before .before .before .pre .0 in
+    (k .sized, omega (arith, few-tallies (a .e) k))
+
+same-length : tie.Need-same-length
+same-length c = search needs
+
+returns : tie.Need-returns
+returns c =
+    let a = c .before .before .before .before .before .before .before .before .args in
+    let k = c .before .before .before .before .before .before .before .before .pre .0 in
+    told (a .e) _ (a .at) (c .before .before .before .before .before .message .given .1) (stated-worked (a .e) _ (a .at) (c .before .before .before .before .before .message .given .0 .0) (c .before .before .statement .ensures))
+
+returns-2 : tie.Need-returns-2
+unfolding messageOf inputs.handled
+returns-2 c =
+    let a = c .before .before .before .before .before .before .args in
+    told (a .e) _ (a .at) (c .before .before .before .message2 .given .1)
+    (tallied-worked (a .e) _ (a .at) (some (c .before .before .before .message2 .given .0 .1 .1 .1 .0)) _ _ (voter-certificate (c .before .before .before .message2 .given .0 .0) (c .before .before .before .message2 .given .0 .1 .0) (c .before .before .before .message2 .given .0 .1 .1 .0) (c .before .before .before .message2 .given .0 .1 .1 .1 .0) (c .before .voter .ensures)) (c .tallied .ensures))
+
+same-length-2 : tie.Need-same-length-2
+same-length-2 c = search needs
+
+returns-3 : tie.Need-returns-3
+unfolding messageOf inputs.handled
+returns-3 c =
+    let a = c .before .before .before .before .before .before .before .before .before .args in
+    let k = c .before .before .before .before .before .before .before .before .before .pre .0 in
+    told (a .e) _ (a .at) (c .before .before .before .before .before .before .message3 .given .1) (blamed-worked (a .e) _ (a .at) (c .before .before .before .before .before .before .message3 .given .0 .0) (c .before .before .before .before .voter2 .ensures) (c .before .before .blaming .ensures))
+
+same-length-3 : tie.Need-same-length-3
+same-length-3 c = search needs
+
+returns-4 : tie.Need-returns-4
+unfolding messageOf inputs.handled
+returns-4 c =
+    let a = c .before .before .before .before .before .before .before .before .args in
+    let k = c .before .before .before .before .before .before .before .before .pre .0 in
+    told (a .e) _ (a .at) (c .before .before .before .before .before .message4 .given .1) (c .before .before .blaming2 .ensures)
+
+returns-5 : tie.Need-returns-5
+unfolding messageOf inputs.handled certificateOf
+returns-5 c =
+    let a = c .before .before .before .before .before .args in
+    let t : words.Certificate = record { view = (c .before .before .message5 .given .0 .1 .1 .0); height = (c .before .before .message5 .given .0 .0); name = nameOf (c .before .before .message5 .given .0 .1 .0); mask = (c .before .before .message5 .given .0 .1 .1 .1 .0) } in
+    told (a .e) _ (a .at) (c .before .before .message5 .given .1) (tallied-worked (a .e) _ (a .at) none t t refl (c .tallied2 .ensures))
+
+pub handled-spec : {M : Type 1} → statement M
+handled-spec =
+    tie.close
+    (tie.spec
+    enum-known-message
+    statement-requires
+    enum-known-message-2
+    voter-requires
+    tallied-requires
+    enum-known-message-3
+    voter-requires-2
+    blaming-requires
+    enum-known-message-4
+    blaming-requires-2
+    enum-known-message-5
+    tallied-requires-2
+    same-length
+    returns
+    returns-2
+    same-length-2
+    returns-3
+    same-length-3
+    returns-4
+    returns-5)

@@ -1,0 +1,4 @@
+pub mod Statements
+pub mod Firsts
+pub mod Searches
+pub mod Tables
