@@ -1,0 +1,1 @@
+// The list that a host lends to the plain engine.
