@@ -9,13 +9,13 @@ use native.Mathlib.Nat.{add-zero, zero-add}
 use lib.ListN.{length, take, drop, getD, replicate, length-append, length-replicate, length-drop}
 use lib.Seq.{length-take-le, take-at, drop-at}
 use lib.Dec.{leb, ltb, eqb, lit<, lit≤}
-use borrow.Author.Tests.{eqb-true, eq-eqb, leb-true, leb-false, le-leb, ltb-true, lt-ltb}
-use Rattle.rules.specs.Limits.{small, leastStations, mostStations, leastDelay, mostDelay}
-use Rattle.rules.specs.Lists.{unbe, within}
+use borrow.Author.Tests.{eq-eqb, leb-false, le-leb, lt-ltb}
+use Rattle.rules.specs.Limits.{small}
+use Rattle.rules.specs.Lists.{unbe}
 use Rattle.rules.specs.Sizes.{Settings, goodSettings}
 use Rattle.rules.proofs.Bytes.{length-unbe, be-unbe}
 use Rattle.rules.proofs.Tests.{eqb-self}
-use Rattle.rules.proofs.Truths.{and-2, and-3, and-4, both}
+use Rattle.rules.proofs.Truths.{both}
 use Rattle.fields.specs.Places.{number, put}
 use Rattle.fields.proofs.Laws.{length-put, number-put-before, number-put-after, number-put-same}
 use Rattle.fields.proofs.Lists.{number-drop, number-take, number-piece, number-append-left, number-append-right}
@@ -27,6 +27,8 @@ use Rattle.slots.proofs.OneForm.{judged-blank, reads-back}
 use Rattle.journal.specs.Journal.{slotCount, slotAt, withSlot, slotsFrom, slotsOf}
 use Rattle.cuts.proofs.Places.{length-with, count-with, slot-here, slot-before, slot-behind, slots-same, slots-split}
 use Rattle.lent_list.specs.Lists.{Input, tick, offer, message, kindOf, bytesOf, inputOf, headLength, mostSlots, recordsIn, slotsIn, hasLength, settingsIn, countIn, isPlaced, arePlaced, hasForm, inputsIn, inputsOf, freshList, isFull, added}
+use Rattle.lent_list.proofs.Lengths.{lengths}
+use Rattle.lent_list.proofs.Made.{settings-fit}
 
 -- the slots of some inputs, numbered from q on
 unfoldable pub wholes : ℕ → List Input → List Slot
@@ -246,25 +248,9 @@ number-zeros a at (suc w) = omega (arith, number-zeros a at w, zero-at a (at + w
 number-unbe : (w v : ℕ) → v < 256 ^ w → number (unbe w v) 0 w ≡ v
 number-unbe w v f = ap (number (unbe w v) 0) (sym (length-unbe w v)) ∙ sym (be-number (unbe w v)) ∙ be-unbe w v f
 
--- good settings fit their places
-settings-fit : (g : Settings) → goodSettings g ≡ true → (g .n < 256) × (g .D < 65536) × (g .own < 256)
-unfolding goodSettings within
-settings-fit g e =
-    let t = and-4 (eqb (g .n % 2) 1) (leb leastStations (g .n) && leb (g .n) mostStations) (leb leastDelay (g .D) && leb (g .D) mostDelay) (ltb (g .own) (g .n)) e in
-    let a = leb-true (g .n) mostStations (and-2 (leb leastStations (g .n)) (leb (g .n) mostStations) (t .1) .1) in
-    let b = leb-true (g .D) mostDelay (and-2 (leb leastDelay (g .D)) (leb (g .D) mostDelay) (t .2) .1) in
-    let c = ltb-true (g .own) (g .n) (t .3) in
-    (omega arith, omega arith, omega arith)
-
 module _ (g : Settings) (good : goodSettings g ≡ true) (s : g .size ≡ small) (l : List ℕ) (proper : hasLength l ≡ true) where
   abbrev made-list : List ℕ
   made-list = freshList g (length l)
-
-  lengths : (length l ≡ headLength + slotLength * slotsIn l) × (1 ≤ slotsIn l) × (slotsIn l ≤ mostSlots)
-  unfolding hasLength
-  lengths =
-      let t = and-3 (eqb (length l) (headLength + slotLength * slotsIn l)) (leb 1 (slotsIn l)) (leb (slotsIn l) mostSlots) proper in
-      (eqb-true (length l) (headLength + slotLength * slotsIn l) (t .0), leb-true 1 (slotsIn l) (t .1), leb-true (slotsIn l) mostSlots (t .2))
 
   abbrev tail : List ℕ
   tail = replicate (length l - 4) 0
@@ -277,7 +263,7 @@ module _ (g : Settings) (good : goodSettings g ≡ true) (s : g .size ≡ small)
 
   length-made : length made-list ≡ length l
   unfolding freshList
-  length-made = omega (arith, length-append (unbe 1 (g .n)) second, length-append (unbe 2 (g .D)) third, length-append (unbe 1 (g .own)) tail, length-unbe 1 (g .n), length-unbe 2 (g .D), length-unbe 1 (g .own), length-tail, lengths .0)
+  length-made = omega (arith, length-append (unbe 1 (g .n)) second, length-append (unbe 2 (g .D)) third, length-append (unbe 1 (g .own)) tail, length-unbe 1 (g .n), length-unbe 2 (g .D), length-unbe 1 (g .own), length-tail, lengths l proper .0)
     where
       length-tail : length tail ≡ length l - 4
       length-tail = length-replicate (length l - 4) 0
@@ -318,9 +304,9 @@ module _ (g : Settings) (good : goodSettings g ≡ true) (s : g .size ≡ small)
   unfolding countIn slotsFrom wholes
   fresh-lists =
       record {
-        some = lengths .1;
-        few = lengths .2;
-        long = length-made ∙ lengths .0;
+        some = lengths l proper .1;
+        few = lengths l proper .2;
+        long = length-made ∙ lengths l proper .0;
         good = good;
         settings = settings-back;
         zeros = zero-behind 8 8 (lit≤ tt);

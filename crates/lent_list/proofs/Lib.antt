@@ -1,0 +1,4 @@
+pub mod Lengths
+pub mod Placed
+pub mod Made
+pub mod Adding
