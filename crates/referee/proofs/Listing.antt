@@ -9,7 +9,7 @@ use native.Mathlib.Nat.{add-zero, zero-add}
 use lib.ListN.{length, take, drop, getD, replicate, length-append, length-replicate, length-drop}
 use lib.Seq.{length-take-le, take-at, drop-at}
 use lib.Dec.{leb, ltb, eqb, lit<, lit≤}
-use borrow.Author.Tests.{eq-eqb, leb-false, le-leb, lt-ltb}
+use borrow.Author.Tests.{eq-eqb, leb-true, leb-false, le-leb, lt-ltb}
 use Rattle.rules.specs.Limits.{small}
 use Rattle.rules.specs.Lists.{unbe}
 use Rattle.rules.specs.Sizes.{Settings, goodSettings}
@@ -141,6 +141,10 @@ module _ {m : ℕ} {g : Settings} {xs : List Input} {l : List ℕ} (h : Lists m 
   pub not-full : isFull l ≡ false → length xs < m
   unfolding isFull
   not-full f = omega (arith, leb-false (slotsIn l) (countIn l) f, many, h .count)
+
+  pub filled : isFull l ≡ true → m ≤ length xs
+  unfolding isFull
+  filled f = omega (arith, leb-true (slotsIn l) (countIn l) f, many, h .count)
 
 -- ---- one input more
 

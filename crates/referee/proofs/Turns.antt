@@ -1,6 +1,6 @@
 -- One input, handed to the plain engine with its list and to the station with its store: where the two hold the same inputs, both
 -- answer alike and hold the same inputs again, or the list has no slot left. Assumes nothing.
-use Prim.Native.Nat.{ℕ, _+_, _*_, _^_, _<_, _≤_}
+use Prim.Native.Nat.{ℕ, _+_, _*_, _/_, _^_, _<_, _≤_}
 use mathlib.Core.Path.{_≡_, refl, sym, ap, ap₂, _∙_, subst}
 use mathlib.Core.Bool.{Bool, true, false, _&&_, _||_}
 use mathlib.Core.List.{List, [], _∷_, _++_}
@@ -10,20 +10,21 @@ use native.Mathlib.Nat.{add-zero}
 use lib.ListN.{length, drop}
 use lib.Dec.{leb, eqb}
 use borrow.Author.Tests.{eqb-true, eq-eqb, leb-true, le-leb}
-use Rattle.rules.specs.Limits.{Size, small, leastOut}
+use Rattle.rules.specs.Limits.{Size, small, leastOut, lastClock}
 use Rattle.rules.specs.Lists.{be}
 use Rattle.rules.specs.Sizes.{Settings}
-use Rattle.rules.specs.Messages.{read, outgoing}
+use Rattle.rules.specs.Messages.{read, allowed, outgoing}
 use Rattle.rules.specs.Words.{State, split, clock as late, fresh}
-use Rattle.rules.specs.Inputs.{Work, handled}
+use Rattle.rules.specs.Inputs.{Work, handled, offered, ticked}
 use Rattle.rules.specs.Refusals as rules
-use Rattle.rules.specs.Refusals.{Outcome, done, refused, stopping, hasRoom, ifRoom, running, result}
+use Rattle.rules.specs.Refusals.{Outcome, done, refused, stopping, hasRoom, ifRoom, running, ahead, usedUp, heard, result}
 use Rattle.rules.specs.WellFormed.{wellFormed}
 use Rattle.rules.proofs.Answers.{by-step, by-offer, by-tick}
 use Rattle.rules.proofs.Bytes.{Bytes, be-lt}
 use Rattle.rules.proofs.Tests.{by-bool, by-option, no-bool, no-some}
 use Rattle.kept.specs.Parts.{WellFormed}
 use Rattle.kept.proofs.WellFormed.{whole}
+use Rattle.kept.proofs.Outs.{step-room, offer-room, tick-room}
 use Rattle.kept.proofs.Calls.{Kept, step-kept, offer-kept, tick-kept}
 use Rattle.store.specs.Layout.{storeLength, sizeIn}
 use Rattle.store.specs.Decode.{decode, stateFrom, stateOf, encode}
@@ -76,6 +77,34 @@ module _ (s : State) where
       (λ q. by-bool (running s) (λ r. rw (r, q, rules.step) (λ e. no-bool (sym e))) (λ r. rw (r, rules.step) (λ e. no-bool (sym e))))
       (λ m q e. rw (q, isReadable))
 
+  -- 13 is none of the rules' numbers
+  room-listed : (w : Work) → ifRoom s w .number ≡ 13 → ⊥
+  unfolding ifRoom done stopping refused
+  room-listed w = by-bool (hasRoom (w .now)) (λ q. rw (q, ifRoom) (λ e. omega (arith, e))) (λ q. rw (q, ifRoom) (λ e. omega (arith, e)))
+
+  pub unlisted : (x : Input) → answerTo x s .number ≡ 13 → ⊥
+  unfolding answerTo rules.tick rules.offer rules.step heard refused stopping
+  unlisted tick =
+      by-bool (running s)
+      (λ r.
+      by-bool (eqb (s .clock) lastClock) (λ c. rw (r, c, rules.tick) (λ e. omega (arith, e)))
+      (λ c. by-option (ticked s) (λ q. rw (r, c, q, rules.tick) (λ e. omega (arith, e))) (λ w q. rw (r, c, q, rules.tick) (room-listed w))))
+      (λ r. rw (r, rules.tick) (λ e. omega (arith, e)))
+  unlisted (offer name) =
+      by-bool (running s)
+      (λ r. by-option (offered (be name) s) (λ q. rw (r, q, rules.offer) (λ e. omega (arith, e))) (λ m q. rw (r, q, rules.offer) (room-listed (handled m s))))
+      (λ r. rw (r, rules.offer) (λ e. omega (arith, e)))
+  unlisted (message bs) =
+      by-bool (running s)
+      (λ r.
+      by-option (read bs) (λ q. rw (r, q, rules.step) (λ e. omega (arith, e))) λ m q.
+      by-bool (allowed (s .settings) m)
+      (λ a.
+      by-bool (ahead m s) (λ w. rw (r, q, a, w, rules.step) (λ e. omega (arith, e))) λ w.
+      by-bool (usedUp m s) (λ u. rw (r, q, a, w, rules.step, u, heard) (λ e. omega (arith, e))) (λ u. rw (r, q, a, w, rules.step, u, heard) (room-listed (handled m s))))
+      (λ a. rw (r, q, a, rules.step) (λ e. omega (arith, e))))
+      (λ r. rw (r, rules.step) (λ e. omega (arith, e)))
+
 -- what a host hands over is bytes, and an offered name that is looked at is one
 abbrev Handed : Input → Type 0
 Handed tick = Unit {0}
@@ -99,6 +128,13 @@ unfolding answerTo bytesOf
 answer-kept s w tick b h = tick-kept w
 answer-kept s w (offer name) b h = offer-kept w (be name) (subst (λ (k : ℕ). be name < 256 ^ k) h (be-lt b))
 answer-kept s w (message bs) b h = step-kept w bs b
+
+-- what is said fits the least out buffer
+answer-room : (s : State) → wellFormed s ≡ true → (x : Input) → length (outgoing (answerTo x s .out)) ≤ leastOut (s .settings .size)
+unfolding answerTo
+answer-room s w tick = tick-room s w
+answer-room s w (offer name) = offer-room s (be name)
+answer-room s w (message bs) = step-room s bs
 
 -- ---- the inputs of a list, and one more
 
@@ -125,10 +161,12 @@ pub record Tied (m : ℕ) (g : Settings) (l b : List ℕ) : Type 0 where
   pub settings : state .settings ≡ g
   pub store : b ≡ encode state
 
--- what a call comes to: the list has no slot left; or both answer alike, and are tied again
-pub data Turn (m : ℕ) (g : Settings) (p : Answer) (c : Called) : Type 0 where
-  full : p .result ≡ 13 * 2 ^ 32 → Turn m g p c
-  alike : Same p c → Tied m g (p .list) (c .store) → Turn m g p c
+-- what a call comes to: 13, and the list has no slot left; a refusal of both, which adds nothing to the list; or an answer 0, 6, 7 or
+-- 8 of both, which adds exactly this input. Both answer alike, and are tied again.
+pub data Turn (m : ℕ) (g : Settings) (x : Input) (l : List ℕ) (p : Answer) (c : Called) : Type 0 where
+  full : isFull l ≡ true → p .result ≡ 13 * 2 ^ 32 → Turn m g x l p c
+  passed : Same p c → Tied m g (p .list) (c .store) → p .list ≡ l → (p .result ≡ 13 * 2 ^ 32 → ⊥) → isKept (p .result / 2 ^ 32) ≡ false → Turn m g x l p c
+  joined : Same p c → Tied m g (p .list) (c .store) → inputsOf (p .list) ≡ inputsOf l ++ x ∷ [] → isKept (p .result / 2 ^ 32) ≡ true → Turn m g x l p c
 
 module _ {m : ℕ} {g : Settings} (few : g .size ≡ small) {l b : List ℕ} (t : Tied m g l b) where
   abbrev s : State
@@ -203,9 +241,15 @@ module _ {m : ℕ} {g : Settings} (few : g .size ≡ small) {l b : List ℕ} (t 
         ∙ called-encoded f s o whole-state (subst (λ (z : Size). leastOut z ≤ length o) (sym size-is) (leb-true (leastOut small) (length o) e))
 
   -- both refuse, and nothing changes
-  both-refuse : (k : ℕ) (o : List ℕ) → Turn m g (refusal k l o) (calls.refusal k b o)
+  both-refuse : (x : Input) (k : ℕ) → (k ≡ 13 → ⊥) → isKept k ≡ false → (o : List ℕ) → Turn m g x l (refusal k l o) (calls.refusal k b o)
   unfolding refusal calls.refusal
-  both-refuse k o = alike (record { result = refl; out = refl }) t
+  both-refuse x k n u o =
+      let e : k * 2 ^ 32 / 2 ^ 32 ≡ k = omega arith in
+      passed (record { result = refl; out = refl }) t refl (λ d. n (omega (arith, d))) (ap isKept e ∙ u)
+
+  refuse-lengths : (x : Input) (o : List ℕ) → Turn m g x l (refusal 1 l o) (calls.refusal 1 b o)
+  unfolding isKept
+  refuse-lengths x o = both-refuse x 1 (λ e. omega (arith, e)) refl o
 
   -- ---- an input that is looked at
 
@@ -216,20 +260,36 @@ module _ {m : ℕ} {g : Settings} (few : g .size ≡ small) {l b : List ℕ} (t 
     keeps : Kept s z
     keeps = answer-kept s (t .formed) x h named
 
+    -- what is said is less than 2^32 bytes
+    said-room : length (outgoing (z .out)) ≤ leastOut (s .settings .size)
+    said-room = answer-room s whole-state x
+
+    said-few : length (outgoing (z .out)) < 2 ^ 32
+    unfolding leastOut
+    said-few = let r : length (outgoing (z .out)) ≤ leastOut small = subst (λ (y : Size). length (outgoing (z .out)) ≤ leastOut y) size-is said-room in omega (arith, r)
+
+    number-told : result z / 2 ^ 32 ≡ z .number
+    unfolding result
+    number-told = omega (arith, said-few)
+
+    more : isKept (z .number) ≡ true → isFull l ≡ false → Lists m g (t .inputs ++ x ∷ []) (added (kindOf x) (bytesOf x) l)
+    more k e = lists-more (t .lists) x (kept-input s x h named k) (not-full (t .lists) e)
+
     -- 0, 6, 7 and 8 add exactly this input
-    entered-turn : isKept (z .number) ≡ true → isFull l ≡ false → Turn m g (entered x z l o) (answered z o)
+    entered-turn : isKept (z .number) ≡ true → isFull l ≡ false → Turn m g x l (entered x z l o) (answered z o)
     unfolding entered answered
     entered-turn k e =
-        alike (record { result = refl; out = refl })
+        joined (record { result = refl; out = refl })
         (record {
           inputs = t .inputs ++ x ∷ [];
-          lists = lists-more (t .lists) x (kept-input s x h named k) (not-full (t .lists) e);
+          lists = more k e;
           state = z .next;
           folds = folded-more (fresh g) (t .inputs) s x (t .folds) k;
           formed = keeps .formed;
           settings = keeps .settings ∙ t .settings;
           store = refl;
         })
+        (gives-back (more k e) ∙ ap (_++ x ∷ []) (sym (gives-back (t .lists)))) (ap isKept number-told ∙ k)
 
     -- any other number adds nothing
     refused-answered : (k : ℕ) → answered (refused k s) o ≡ calls.refusal k b o
@@ -237,23 +297,23 @@ module _ {m : ℕ} {g : Settings} (few : g .size ≡ small) {l b : List ℕ} (t 
     refused-answered k =
         ap₂ (λ (r : ℕ) (c : List ℕ). record { result = r; store = c; out = o }) (add-zero (k * 2 ^ 32)) (sym (t .store))
 
-    refused-turn : isKept (z .number) ≡ false → Turn m g (refusal (z .number) l o) (answered z o)
+    refused-turn : isKept (z .number) ≡ false → Turn m g x l (refusal (z .number) l o) (answered z o)
     refused-turn k =
-        subst (λ (c : Called). Turn m g (refusal (z .number) l o) c)
-        (sym (ap (λ (u : Outcome). answered u o) (unkept s x k) ∙ refused-answered (z .number))) (both-refuse (z .number) o)
+        subst (λ (c : Called). Turn m g x l (refusal (z .number) l o) c)
+        (sym (ap (λ (u : Outcome). answered u o) (unkept s x k) ∙ refused-answered (z .number))) (both-refuse x (z .number) (unlisted s x) k o)
 
-    looked-turn : Turn m g (kept x z l o) (answered z o)
+    looked-turn : Turn m g x l (kept x z l o) (answered z o)
     looked-turn =
         by-bool (isKept (z .number))
         (λ k.
-        by-bool (isFull l) (λ e. rw (kept-by x o k e) (full (unfold refusal in refl))) (λ e. rw (kept-by x o k e) (entered-turn k e)))
+        by-bool (isFull l) (λ e. rw (kept-by x o k e) (full e (unfold refusal in refl))) (λ e. rw (kept-by x o k e) (entered-turn k e)))
         (λ k. rw (kept-by x o k refl) (refused-turn k))
 
-    pub turn : Turn m g (plainly x l o) (called (answerTo x) b o)
+    pub turn : Turn m g x l (plainly x l o) (called (answerTo x) b o)
     turn =
         by-bool (leb (leastOut small) (length o))
         (λ e. rw (plain-long x o e, station-long (answerTo x) o e) looked-turn)
-        (λ e. rw (plain-short x o e, station-short (answerTo x) o e) (both-refuse 1 o))
+        (λ e. rw (plain-short x o e, station-short (answerTo x) o e) (refuse-lengths x o))
 
   -- ---- any input
 
@@ -272,11 +332,11 @@ module _ {m : ℕ} {g : Settings} (few : g .size ≡ small) {l b : List ℕ} (t 
     unfolding offerCalled
     station-offer e = ap station-test e
 
-  pub turns : (x : Input) → Bytes (bytesOf x) → (o : List ℕ) → Turn m g (plainCall x l o) (stationCall x b o)
+  pub turns : (x : Input) → Bytes (bytesOf x) → (o : List ℕ) → Turn m g x l (plainCall x l o) (stationCall x b o)
   unfolding plainCall stationCall plainTick plainStep tickCalled stepCalled answerTo bytesOf
   turns tick h o = turn tick h tt o
   turns (message bs) h o = turn (message bs) h tt o
   turns (offer name) h o =
       by-bool (eqb (length name) 32)
       (λ e. rw (plain-offer name o e, station-offer name o e) (turn (offer name) h (eqb-true (length name) 32 e) o))
-      (λ e. rw (plain-offer name o e, station-offer name o e) (both-refuse 1 o))
+      (λ e. rw (plain-offer name o e, station-offer name o e) (refuse-lengths (offer name) o))
