@@ -20,16 +20,22 @@ use Rattle.journal.specs.Journal.{slotCount, slotAt, slotsFrom, slotsOf}
 use Rattle.journal.proofs.Rooms.{slots-step, slots-end}
 use Rattle.lent_list.specs.Lists.{headLength, recordsIn, slotsIn, settingsIn, countIn, isPlaced, arePlaced, hasForm}
 
--- one slot, as the code judged a part of the list
+-- a part of the list, as the code judged it, is what the slot of its place holds
+pub part-held : (l : List ℕ) (p m : ℕ) {r : Slot} → Judged (take m (drop (headLength + p * slotLength) l)) (judged (take m (drop (headLength + p * slotLength) l))) r → m ≡ slotLength
+    → slotOf (slotAt (recordsIn l) p) r ≡ judged (slotAt (recordsIn l) p)
+unfolding slotAt
+part-held l p m {r} h e =
+    let d : take m (drop (headLength + p * slotLength) l) ≡ slotAt (recordsIn l) p =
+    ap₂ (λ (i : ℕ) (y : List ℕ). take i y) e (sym (drop-drop (p * slotLength) headLength l)) in
+    subst (λ (y : List ℕ). slotOf y r ≡ judged y) d (h .is)
+
+-- one slot
 module _ (l : List ℕ) (c p m : ℕ) {r : Slot} (h : Judged (take m (drop (headLength + p * slotLength) l)) (judged (take m (drop (headLength + p * slotLength) l))) r) (e : m ≡ slotLength) where
   abbrev s : List ℕ
   s = slotAt (recordsIn l) p
 
   here : {x : slots.Slot} → slotOf s r ≡ x → judged s ≡ x
-  unfolding slotAt
-  here f =
-      let d : take m (drop (headLength + p * slotLength) l) ≡ s = ap₂ (λ (i : ℕ) (y : List ℕ). take i y) e (sym (drop-drop (p * slotLength) headLength l)) in
-      sym (subst (λ (y : List ℕ). slotOf y r ≡ judged y) d (h .is)) ∙ f
+  here f = sym (part-held l p m h e) ∙ f
 
   pub at-blank : r ≡ Blank → leb c p ≡ isPlaced c p (judged s)
   unfolding isPlaced slotOf

@@ -93,6 +93,11 @@ unfoldable pub inputsOf : List ℕ → List Input
 unfolding inputsIn slotsOf
 inputsOf l = inputsIn (slotsOf (recordsIn l))
 
+-- those from a place on
+unfoldable pub inputsAfter : List ℕ → ℕ → List Input
+unfolding inputsIn slotsFrom slotsIn
+inputsAfter l p = inputsIn (slotsFrom (recordsIn l) p (slotsIn l - p))
+
 -- ---- a fresh list, and one input more
 
 -- the settings, and zeros

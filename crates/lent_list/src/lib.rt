@@ -8,6 +8,7 @@ ghost use Rattle.settings.specs.declared.Size.the-variants.{Small};
 ghost use Rattle.slots.specs.Slots.{isInput, judged};
 ghost use Rattle.journal.specs.Journal.{slotAt, slotsOf};
 ghost use Rattle.lent_list.specs.Lists.{recordsIn, slotsIn, hasLength, countIn, isPlaced, arePlaced, hasForm, isFull, added};
+ghost use Rattle.lent_list.specs.Meaning.{Stands};
 ghost use Rattle.lent_list.specs.Plain.{left, plainFresh};
 use settings::Made;
 use settings::Settings;
@@ -98,6 +99,31 @@ pub fn has_form(list: &[u8]) -> bool
         return are_placed(list, records);
     }
     false
+}
+
+// What the slot of a place holds: an input, or none.
+pub enum Held {
+    Input { kind: u64, start: usize, end: usize },
+    Nothing,
+}
+
+// The input in the slot of a place.
+pub fn held_at(list: &[u8], place: usize) -> Held
+    requires { ⌜ (hasLength (now list) ≡ true) × (place < slotsIn (now list)) ⌝ }
+    ensures { λ r. ⌜ Stands (now (list .entry)) place r ⌝ }
+{
+    let at = HEAD + place * slots::LENGTH;
+    let after = at + slots::LENGTH;
+    match slots::judge(&list[at..after]) {
+        Slot::Blank => Held::Nothing,
+        Slot::Torn => Held::Nothing,
+        Slot::Bad => Held::Nothing,
+        Slot::Whole { kind, length, .. } => {
+            let start = at + slots::INPUT;
+            let end = start + length;
+            Held::Input { kind, start, end }
+        }
+    }
 }
 
 // Adds an input: its record behind the last one, and the number of records in the head.
