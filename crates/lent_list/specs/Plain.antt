@@ -1,6 +1,6 @@
 -- 02, request 13: the five calls of the plain engine, whole: what each answers, leaves in the list and leaves in the out buffer, for
 -- all bytes of all lengths. Each answer is worked out "from the whole list, straight from the rules". Assumes nothing.
-use Prim.Native.Nat.{ℕ, _*_, _^_}
+use Prim.Native.Nat.{ℕ, _+_, _*_, _^_}
 use mathlib.Core.Path.{_≡_}
 use mathlib.Core.Bool.{Bool, true, false, _&&_, _||_}
 use mathlib.Core.List.{List, [], _∷_, _++_}
@@ -13,7 +13,7 @@ use Rattle.rules.specs.Sizes.{Settings, goodSettings}
 use Rattle.rules.specs.Messages.{outgoing}
 use Rattle.rules.specs.Words.{State, fresh}
 use Rattle.rules.specs.Refusals as rules
-use Rattle.rules.specs.Refusals.{Outcome, result}
+use Rattle.rules.specs.Refusals.{Outcome}
 use Rattle.lent_list.specs.Lists.{Input, tick, offer, message, kindOf, bytesOf, hasLength, hasForm, settingsIn, inputsOf, freshList, isFull, added}
 
 -- ---- the rules over the whole list
@@ -53,16 +53,20 @@ unfoldable pub refusal : ℕ → List ℕ → List ℕ → Answer
 refusal k l o = record { result = k * 2 ^ 32; list = l; out = o }
 
 -- the input joins the list, and what is said stands in the out buffer
-unfoldable pub entered : Input → Outcome → List ℕ → List ℕ → Answer
-unfolding result outgoing added kindOf bytesOf
-entered x y l o =
-    let said = outgoing (y .out) in
-    record { result = result y; list = added (kindOf x) (bytesOf x) l; out = said ++ drop (length said) o }
+unfoldable pub entered : ℕ → List ℕ → ℕ → List ℕ → List ℕ → List ℕ → Answer
+unfolding added
+entered k bs number said l o = record { result = number * 2 ^ 32 + length said; list = added k bs l; out = said ++ drop (length said) o }
 
--- what is answered with another number than 0, 6, 7 and 8 leaves all as it is; "after all other refusals" 13: no slot is left
-unfoldable pub kept : Input → Outcome → List ℕ → List ℕ → Answer
+-- an input by its kind and its bytes, which the rules answer with a number and some bytes: another number than 0, 6, 7 and 8 leaves
+-- all as it is; "after all other refusals" 13: no slot is left
+unfoldable pub entering : ℕ → List ℕ → ℕ → List ℕ → List ℕ → List ℕ → Answer
 unfolding isKept refusal isFull entered
-kept x y l o = elim (isKept (y .number)) [ false ↦ refusal (y .number) l o | true ↦ elim (isFull l) [ true ↦ refusal 13 l o | false ↦ entered x y l o ] ]
+entering k bs number said l o =
+    elim (isKept number) [ false ↦ refusal number l o | true ↦ elim (isFull l) [ true ↦ refusal 13 l o | false ↦ entered k bs number said l o ] ]
+
+unfoldable pub kept : Input → Outcome → List ℕ → List ℕ → Answer
+unfolding entering kindOf bytesOf outgoing
+kept x y l o = entering (kindOf x) (bytesOf x) (y .number) (outgoing (y .out)) l o
 
 -- 1, 2, then what the rules say of the state that the list gives
 unfoldable pub plainly : Input → List ℕ → List ℕ → Answer

@@ -1,7 +1,8 @@
 // The list that a host lends to the plain engine: its form, a fresh one, and one input more.
 ghost use mathlib.Core.Path.{_≡_};
 ghost use mathlib.Core.Bool.{true, false};
-ghost use Prim.Native.Nat.{_<_};
+ghost use Prim.Native.Nat.{_<_, _≤_, _^_};
+ghost use lib.ListN.{length};
 ghost use Rattle.fields.specs.Places.{number};
 ghost use Rattle.settings.specs.Made.{made};
 ghost use Rattle.settings.specs.declared.Size.the-variants.{Small};
@@ -9,7 +10,7 @@ ghost use Rattle.slots.specs.Slots.{isInput, judged};
 ghost use Rattle.journal.specs.Journal.{slotAt, slotsOf};
 ghost use Rattle.lent_list.specs.Lists.{recordsIn, slotsIn, hasLength, countIn, isPlaced, arePlaced, hasForm, isFull, added};
 ghost use Rattle.lent_list.specs.Meaning.{Stands};
-ghost use Rattle.lent_list.specs.Plain.{left, plainFresh};
+ghost use Rattle.lent_list.specs.Plain.{isKept, entering, Gives, left, plainFresh};
 use settings::Made;
 use settings::Settings;
 use settings::Size;
@@ -137,6 +138,56 @@ pub fn add(list: &mut [u8], kind: u64, input: &[u8])
     let at = HEAD + place * slots::LENGTH;
     let end = at + slots::LENGTH;
     slots::write_record(&mut list[at..end], records, kind, input);
+}
+
+// Whether an input that is answered with this number is kept.
+pub fn is_kept(number: u64) -> bool
+    ensures { λ r. ⌜ r ≡ isKept number ⌝ }
+{
+    if number == 0 {
+        return true;
+    }
+    if number == 6 {
+        return true;
+    }
+    if number == 7 {
+        return true;
+    }
+    number == 8
+}
+
+// Whether a list has no slot left.
+fn is_full(list: &[u8]) -> bool
+    requires { ⌜ hasLength (now list) ≡ true ⌝ }
+    ensures { λ r. ⌜ r ≡ isFull (now (list .entry)) ⌝ }
+{
+    let slots = (list.len() - HEAD) / slots::LENGTH;
+    let records = fields::get(list, 4, 4) as usize;
+    slots <= records
+}
+
+// Enters an input that the rules answered with a number and with the first bytes of a buffer.
+pub fn enter(
+    list: &mut [u8],
+    out: &mut [u8],
+    kind: u64,
+    input: &[u8],
+    number: u64,
+    said: &[u8],
+) -> u64
+    requires { ⌜ (hasLength (now list) ≡ true) × (isKept number ≡ true → isInput kind (now input) ≡ true) ⌝ }
+    requires { ⌜ (number < 256) × (length (now said) < 2 ^ 32) × (length (now said) ≤ length (now out)) ⌝ }
+    ensures { λ r. ⌜ Gives (entering kind (now (input .entry)) number (now (said .entry)) (now (list .entry)) (now (out .entry))) r (now (list .exit)) (now (out .exit)) ⌝ }
+{
+    if is_kept(number) {
+        if is_full(list) {
+            return slots::refuse(13);
+        }
+        add(list, kind, input);
+        slots::copy(out, 0, said);
+        return slots::refuse(number) + said.len() as u64;
+    }
+    slots::refuse(number)
 }
 
 // Makes a fresh list of whatever was in it.

@@ -33,10 +33,9 @@ use Rattle.oneform.proofs.OneForm.{encoded-left}
 use Rattle.calls.specs.Calls as calls
 use Rattle.calls.specs.Calls.{Called, answered, called, stepCalled, tickCalled, offerCalled}
 use Rattle.promises.proofs.Carried.{called-encoded}
-use Rattle.slots.specs.Slots.{mostInput, isReadable, isInput}
-use Rattle.slots.proofs.Inputs.{readable-fits, tick-input, offer-input, message-input}
 use Rattle.lent_list.specs.Lists.{Input, tick, offer, message, kindOf, bytesOf, hasLength, hasForm, settingsIn, inputsOf, isFull, added}
-use Rattle.lent_list.specs.Plain.{answerTo, isKept, folded, held, Answer, refusal, entered, kept, plainly, plainStep, plainTick, plainOffer}
+use Rattle.lent_list.specs.Plain.{answerTo, isKept, folded, held, Answer, refusal, entered, entering, kept, plainly, plainStep, plainTick, plainOffer}
+use Rattle.lent_list.proofs.Kept.{Handed, kept-input}
 use Rattle.referee.specs.Runs.{plainCall, stationCall, Same}
 use Rattle.referee.proofs.Listing.{Lists, has-length, has-form, gives-back, not-full, lists-more}
 
@@ -69,14 +68,6 @@ module _ (s : State) where
   unkept (offer name) = by-offer Refuses s refuses (be name) (λ m q. room-refuses (handled m s))
   unkept (message bs) = by-step Refuses s refuses bs (λ m q a u. room-refuses (handled m s))
 
-  -- a message that is kept can be read
-  read-kept : (bs : List ℕ) → isKept (rules.step bs s .number) ≡ true → isReadable bs ≡ true
-  unfolding rules.step refused isKept isReadable
-  read-kept bs =
-      by-option (read bs)
-      (λ q. by-bool (running s) (λ r. rw (r, q, rules.step) (λ e. no-bool (sym e))) (λ r. rw (r, rules.step) (λ e. no-bool (sym e))))
-      (λ m q e. rw (q, isReadable))
-
   -- 13 is none of the rules' numbers
   room-listed : (w : Work) → ifRoom s w .number ≡ 13 → ⊥
   unfolding ifRoom done stopping refused
@@ -104,23 +95,6 @@ module _ (s : State) where
       by-bool (usedUp m s) (λ u. rw (r, q, a, w, rules.step, u, heard) (λ e. omega (arith, e))) (λ u. rw (r, q, a, w, rules.step, u, heard) (room-listed (handled m s))))
       (λ a. rw (r, q, a, rules.step) (λ e. omega (arith, e))))
       (λ r. rw (r, rules.step) (λ e. omega (arith, e)))
-
--- what a host hands over is bytes, and an offered name that is looked at is one
-abbrev Handed : Input → Type 0
-Handed tick = Unit {0}
-Handed (offer name) = length name ≡ 32
-Handed (message bs) = Unit {0}
-
-readable-most : (bs : List ℕ) → Bytes bs → isReadable bs ≡ true → length bs ≤ mostInput
-unfolding isReadable
-readable-most bs b = by-option (read bs) (λ q. rw (q, isReadable) (λ e. no-bool (sym e))) (λ m q e. readable-fits bs m b q)
-
--- what is kept is a journal's input
-pub kept-input : (s : State) (x : Input) → Bytes (bytesOf x) → Handed x → isKept (answerTo x s .number) ≡ true → isInput (kindOf x) (bytesOf x) ≡ true
-unfolding answerTo kindOf bytesOf
-kept-input s tick b h e = sym (tick-input 1 [] (omega arith) refl)
-kept-input s (offer name) b h e = sym (offer-input 2 name (omega arith) refl) ∙ eq-eqb (length name) 32 h
-kept-input s (message bs) b h e = let r = read-kept s bs e in sym (message-input 3 bs (readable-most bs b r) refl (sym r))
 
 -- a well-formed state stays so
 answer-kept : (s : State) → WellFormed s → (x : Input) → Bytes (bytesOf x) → Handed x → Kept s (answerTo x s)
@@ -209,11 +183,14 @@ module _ {m : ℕ} {g : Settings} (few : g .size ≡ small) {l b : List ℕ} (t 
     unfolding plainly
     plain-long e = ap judged-by (proper o ∙ e) ∙ ap looked held-is
 
+    abbrev enters : Answer
+    enters = entered (kindOf x) (bytesOf x) (y .number) (outgoing (y .out)) l o
+
     abbrev keep : Bool → Bool → Answer
-    keep z w = elim z [ false ↦ refusal (y .number) l o | true ↦ elim w [ true ↦ refusal 13 l o | false ↦ entered x y l o ] ]
+    keep z w = elim z [ false ↦ refusal (y .number) l o | true ↦ elim w [ true ↦ refusal 13 l o | false ↦ enters ] ]
 
     kept-by : {z w : Bool} → isKept (y .number) ≡ z → isFull l ≡ w → kept x y l o ≡ keep z w
-    unfolding kept
+    unfolding kept entering
     kept-by p q = ap₂ keep p q
 
   module _ (f : State → Outcome) (o : List ℕ) where
@@ -276,8 +253,8 @@ module _ {m : ℕ} {g : Settings} (few : g .size ≡ small) {l b : List ℕ} (t 
     more k e = lists-more (t .lists) x (kept-input s x h named k) (not-full (t .lists) e)
 
     -- 0, 6, 7 and 8 add exactly this input
-    entered-turn : isKept (z .number) ≡ true → isFull l ≡ false → Turn m g x l (entered x z l o) (answered z o)
-    unfolding entered answered
+    entered-turn : isKept (z .number) ≡ true → isFull l ≡ false → Turn m g x l (enters x o) (answered z o)
+    unfolding entered answered result
     entered-turn k e =
         joined (record { result = refl; out = refl })
         (record {
