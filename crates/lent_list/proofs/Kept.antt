@@ -8,10 +8,13 @@ use native.Mathlib.Omega.{arith}
 use lib.ListN.{length}
 use lib.Dec.{eqb}
 use borrow.Author.Tests.{eq-eqb, ne-eqb}
-use Rattle.rules.specs.Messages.{read}
+use Rattle.rules.specs.Limits.{lastClock}
+use Rattle.rules.specs.Lists.{be}
+use Rattle.rules.specs.Messages.{read, allowed}
 use Rattle.rules.specs.Words.{State}
 use Rattle.rules.specs.Refusals as rules
-use Rattle.rules.specs.Refusals.{refused, running}
+use Rattle.rules.specs.Inputs.{Work, handled, offered, ticked}
+use Rattle.rules.specs.Refusals.{done, refused, stopping, hasRoom, ifRoom, running, ahead, usedUp, heard}
 use Rattle.rules.proofs.Bytes.{Bytes}
 use Rattle.rules.proofs.Tests.{by-bool, by-option, no-bool}
 use Rattle.slots.specs.Slots.{mostInput, isReadable, isInput}
@@ -46,6 +49,35 @@ read-kept s bs =
     by-option (read bs)
     (λ q. by-bool (running s) (λ r. rw (r, q, rules.step) (λ e. no-bool (sym e))) (λ r. rw (r, rules.step) (λ e. no-bool (sym e))))
     (λ m q e. rw (q, isReadable))
+
+-- the rules' numbers
+module _ (s : State) where
+  room-number : (w : Work) → ifRoom s w .number ≤ 12
+  unfolding ifRoom done stopping refused
+  room-number w = by-bool (hasRoom (w .now)) (λ q. rw (q, ifRoom) (omega arith)) (λ q. rw (q, ifRoom) (omega arith))
+
+  pub most-number : (x : Input) → answerTo x s .number ≤ 12
+  unfolding answerTo rules.tick rules.offer rules.step heard refused stopping
+  most-number tick =
+      by-bool (running s)
+      (λ r.
+      by-bool (eqb (s .clock) lastClock) (λ c. rw (r, c, rules.tick) (omega arith))
+      (λ c. by-option (ticked s) (λ q. rw (r, c, q, rules.tick) (omega arith)) (λ w q. rw (r, c, q, rules.tick) (room-number w))))
+      (λ r. rw (r, rules.tick) (omega arith))
+  most-number (offer name) =
+      by-bool (running s)
+      (λ r. by-option (offered (be name) s) (λ q. rw (r, q, rules.offer) (omega arith)) (λ m q. rw (r, q, rules.offer) (room-number (handled m s))))
+      (λ r. rw (r, rules.offer) (omega arith))
+  most-number (message bs) =
+      by-bool (running s)
+      (λ r.
+      by-option (read bs) (λ q. rw (r, q, rules.step) (omega arith)) λ m q.
+      by-bool (allowed (s .settings) m)
+      (λ a.
+      by-bool (ahead m s) (λ w. rw (r, q, a, w, rules.step) (omega arith)) λ w.
+      by-bool (usedUp m s) (λ u. rw (r, q, a, w, rules.step, u, heard) (omega arith)) (λ u. rw (r, q, a, w, rules.step, u, heard) (room-number (handled m s))))
+      (λ a. rw (r, q, a, rules.step) (omega arith)))
+      (λ r. rw (r, rules.step) (omega arith))
 
 -- what a host hands over is bytes, and an offered name that is looked at is one
 abbrev pub Handed : Input → Type 0

@@ -14,7 +14,7 @@ use Rattle.rules.specs.Sizes.{Settings, goodSettings}
 use Rattle.rules.proofs.Bytes.{pow-pos, length-unbe}
 use Rattle.rules.proofs.Tests.{by-bool}
 use Rattle.rules.proofs.Truths.{and-2, and-4}
-use Rattle.settings.specs.Made.{made, pick}
+use Rattle.settings.specs.Made.{made, pick, sizeFrom, settingsOf}
 use Rattle.settings.specs.declared.Settings as declared
 use Rattle.settings.specs.declared.Size.the-variants.{Small}
 use Rattle.settings.specs.declared.Made.{Made}
@@ -47,15 +47,21 @@ module _ (n d own : ℕ) where
   made-bad e f =
       by-bool (goodSettings asked) (λ t. let m = made-is t in let z : _≡_ {A = ℕ} 0 1 = cc in absurd (omega arith)) (λ t. t)
 
--- the settings in a list's head
-module _ (l : List ℕ) {r : Made} (e : r ≡ made (number l 0 1) (number l 1 2) (number l 3 1) Small) where
-  pub head-good : {g : declared.Settings} → r ≡ Good g → goodSettings (settingsIn l) ≡ true
+-- the settings in a list's head, as the code reads them
+module _ (l : List ℕ) where
+  pub head-is : {n d own : ℕ} → n ≡ number l 0 1 → d ≡ number l 1 2 → own ≡ number l 3 1 → asked n d own ≡ settingsIn l
   unfolding settingsIn
-  head-good f = made-good (number l 0 1) (number l 1 2) (number l 3 1) e f
+  head-is p q r = λ i. record { n = p i; D = q i; own = r i; size = small }
 
-  pub head-bad : r ≡ Bad → goodSettings (settingsIn l) ≡ false
-  unfolding settingsIn
-  head-bad f = made-bad (number l 0 1) (number l 1 2) (number l 3 1) e f
+  module _ {g : declared.Settings} (e : settingsOf g ≡ settingsIn l) (z : g .size ≡ Small) {r : Made} (m : r ≡ made (g .n) (g .delay) (g .own) Small) where
+    same : asked (g .n) (g .delay) (g .own) ≡ settingsIn l
+    same = ap (λ y. record { n = g .n; D = g .delay; own = g .own; size = sizeFrom y }) (sym z) ∙ e
+
+    pub head-good : {h : declared.Settings} → r ≡ Good h → goodSettings (settingsIn l) ≡ true
+    head-good f = sym (ap goodSettings same) ∙ made-good (g .n) (g .delay) (g .own) m f
+
+    pub head-bad : r ≡ Bad → goodSettings (settingsIn l) ≡ false
+    head-bad f = sym (ap goodSettings same) ∙ made-bad (g .n) (g .delay) (g .own) m f
 
 -- good settings fit their places
 pub settings-fit : (g : Settings) → goodSettings g ≡ true → (g .n < 256) × (g .D < 65536) × (g .own < 256)

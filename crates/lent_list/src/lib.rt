@@ -3,12 +3,11 @@ ghost use mathlib.Core.Path.{_≡_};
 ghost use mathlib.Core.Bool.{true, false};
 ghost use Prim.Native.Nat.{_<_, _≤_, _^_};
 ghost use lib.ListN.{length};
-ghost use Rattle.fields.specs.Places.{number};
-ghost use Rattle.settings.specs.Made.{made};
+ghost use Rattle.settings.specs.Made.{settingsOf};
 ghost use Rattle.settings.specs.declared.Size.the-variants.{Small};
 ghost use Rattle.slots.specs.Slots.{isInput, judged};
 ghost use Rattle.journal.specs.Journal.{slotAt, slotsOf};
-ghost use Rattle.lent_list.specs.Lists.{recordsIn, slotsIn, hasLength, countIn, isPlaced, arePlaced, hasForm, isFull, added};
+ghost use Rattle.lent_list.specs.Lists.{recordsIn, slotsIn, hasLength, settingsIn, isPlaced, arePlaced, hasForm, isFull, added};
 ghost use Rattle.lent_list.specs.Meaning.{Stands};
 ghost use Rattle.lent_list.specs.Plain.{isKept, entering, Gives, left, plainFresh};
 use settings::Made;
@@ -40,14 +39,19 @@ pub fn has_length(list: &[u8]) -> bool
 }
 
 // The settings in the head.
-pub fn settings_in(list: &[u8]) -> Made
+pub fn settings_in(list: &[u8]) -> Settings
     requires { ⌜ hasLength (now list) ≡ true ⌝ }
-    ensures { λ r. ⌜ r ≡ made (number (now (list .entry)) 0 1) (number (now (list .entry)) 1 2) (number (now (list .entry)) 3 1) Small ⌝ }
+    ensures { λ r. ⌜ (settingsOf r ≡ settingsIn (now (list .entry))) × (r .size ≡ Small) ⌝ }
 {
     let n = fields::get(list, 0, 1);
     let delay = fields::get(list, 1, 2);
     let own = fields::get(list, 3, 1);
-    Settings::new(n, delay, own, Size::Small)
+    Settings {
+        n,
+        delay,
+        own,
+        size: Size::Small,
+    }
 }
 
 // Whether the slot of a place holds what it should in a list of so many records.
@@ -92,7 +96,8 @@ pub fn has_form(list: &[u8]) -> bool
     requires { ⌜ hasLength (now list) ≡ true ⌝ }
     ensures { λ r. ⌜ r ≡ hasForm (now (list .entry)) ⌝ }
 {
-    let Made::Good(_) = settings_in(list) else {
+    let head = settings_in(list);
+    let Made::Good(_) = Settings::new(head.n, head.delay, head.own, Size::Small) else {
         return false;
     };
     if fields::all_zero(list, 8, 8) {

@@ -35,7 +35,7 @@ use Rattle.calls.specs.Calls.{Called, answered, called, stepCalled, tickCalled,
 use Rattle.promises.proofs.Carried.{called-encoded}
 use Rattle.lent_list.specs.Lists.{Input, tick, offer, message, kindOf, bytesOf, hasLength, hasForm, settingsIn, inputsOf, isFull, added}
 use Rattle.lent_list.specs.Plain.{answerTo, isKept, folded, held, Answer, refusal, entered, entering, kept, plainly, plainStep, plainTick, plainOffer}
-use Rattle.lent_list.proofs.Kept.{Handed, kept-input}
+use Rattle.lent_list.proofs.Kept.{Handed, kept-input, most-number}
 use Rattle.referee.specs.Runs.{plainCall, stationCall, Same}
 use Rattle.referee.proofs.Listing.{Lists, has-length, has-form, gives-back, not-full, lists-more}
 
@@ -67,34 +67,6 @@ module _ (s : State) where
   unkept tick = by-tick Refuses s refuses late-refuses split-refuses (λ w r c q. room-refuses w)
   unkept (offer name) = by-offer Refuses s refuses (be name) (λ m q. room-refuses (handled m s))
   unkept (message bs) = by-step Refuses s refuses bs (λ m q a u. room-refuses (handled m s))
-
-  -- 13 is none of the rules' numbers
-  room-listed : (w : Work) → ifRoom s w .number ≡ 13 → ⊥
-  unfolding ifRoom done stopping refused
-  room-listed w = by-bool (hasRoom (w .now)) (λ q. rw (q, ifRoom) (λ e. omega (arith, e))) (λ q. rw (q, ifRoom) (λ e. omega (arith, e)))
-
-  pub unlisted : (x : Input) → answerTo x s .number ≡ 13 → ⊥
-  unfolding answerTo rules.tick rules.offer rules.step heard refused stopping
-  unlisted tick =
-      by-bool (running s)
-      (λ r.
-      by-bool (eqb (s .clock) lastClock) (λ c. rw (r, c, rules.tick) (λ e. omega (arith, e)))
-      (λ c. by-option (ticked s) (λ q. rw (r, c, q, rules.tick) (λ e. omega (arith, e))) (λ w q. rw (r, c, q, rules.tick) (room-listed w))))
-      (λ r. rw (r, rules.tick) (λ e. omega (arith, e)))
-  unlisted (offer name) =
-      by-bool (running s)
-      (λ r. by-option (offered (be name) s) (λ q. rw (r, q, rules.offer) (λ e. omega (arith, e))) (λ m q. rw (r, q, rules.offer) (room-listed (handled m s))))
-      (λ r. rw (r, rules.offer) (λ e. omega (arith, e)))
-  unlisted (message bs) =
-      by-bool (running s)
-      (λ r.
-      by-option (read bs) (λ q. rw (r, q, rules.step) (λ e. omega (arith, e))) λ m q.
-      by-bool (allowed (s .settings) m)
-      (λ a.
-      by-bool (ahead m s) (λ w. rw (r, q, a, w, rules.step) (λ e. omega (arith, e))) λ w.
-      by-bool (usedUp m s) (λ u. rw (r, q, a, w, rules.step, u, heard) (λ e. omega (arith, e))) (λ u. rw (r, q, a, w, rules.step, u, heard) (room-listed (handled m s))))
-      (λ a. rw (r, q, a, rules.step) (λ e. omega (arith, e))))
-      (λ r. rw (r, rules.step) (λ e. omega (arith, e)))
 
 -- a well-formed state stays so
 answer-kept : (s : State) → WellFormed s → (x : Input) → Bytes (bytesOf x) → Handed x → Kept s (answerTo x s)
@@ -277,7 +249,7 @@ module _ {m : ℕ} {g : Settings} (few : g .size ≡ small) {l b : List ℕ} (t 
     refused-turn : isKept (z .number) ≡ false → Turn m g x l (refusal (z .number) l o) (answered z o)
     refused-turn k =
         subst (λ (c : Called). Turn m g x l (refusal (z .number) l o) c)
-        (sym (ap (λ (u : Outcome). answered u o) (unkept s x k) ∙ refused-answered (z .number))) (both-refuse x (z .number) (unlisted s x) k o)
+        (sym (ap (λ (u : Outcome). answered u o) (unkept s x k) ∙ refused-answered (z .number))) (both-refuse x (z .number) (λ e. omega (arith, e, most-number s x)) k o)
 
     looked-turn : Turn m g x l (kept x z l o) (answered z o)
     looked-turn =
