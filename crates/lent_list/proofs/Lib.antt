@@ -1,0 +1,7 @@
+pub mod Lengths
+pub mod Placed
+pub mod Made
+pub mod Standing
+pub mod Kept
+pub mod Adding
+pub mod Entering
