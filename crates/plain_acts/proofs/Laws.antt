@@ -9,7 +9,7 @@ use lib.ListN.{length, getD, set}
 use lib.Bits.{bitOr}
 use lib.Dec.{eqb}
 use lib.Pow.{pow-lt}
-use Rattle.rules.specs.Limits.{maskBits}
+use Rattle.rules.specs.Limits.{mostStations, maskBits}
 use Rattle.rules.specs.Lists.{alter}
 use Rattle.rules.specs.Sizes.{only, joined, goodSettings}
 use Rattle.rules.specs.Messages.{Effect, toAll, blameSet, effect, outgoing}
@@ -53,7 +53,7 @@ module _ (e : Engine) (v : ℕ) where
 -- ---- a change of the station
 
 module _ (e : Engine) (k : Sized e) where
-  pub own-small : e .settings .own < 15
+  pub own-small : e .settings .own < mostStations
   own-small = let s = sizes (settingsOf (e .settings)) (k .good) in omega (arith, s .own, s .most)
 
   pub quit-gives : (o : List Effect) → Gives (phased (Waiting (e .clock)) e) (inputs.quit o (state e) .now)

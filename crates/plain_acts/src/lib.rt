@@ -7,13 +7,12 @@ use plain_tallies::Moment;
 use plain_tallies::Opener;
 use plain_tallies::Tallies;
 use plain_words::Certificate;
-use settings::Settings;
 use wire::Message;
 use wire::Statement;
 ghost use mathlib.Core.Path.{_≡_};
 ghost use mathlib.Core.List.{[]};
 ghost use mathlib.Core.Option.{none};
-ghost use Prim.Native.Nat.{_+_, _^_, _<_, _≤_};
+ghost use Prim.Native.Nat.{_+_, _<_, _≤_};
 ghost use lib.ListN.{length};
 ghost use Rattle.rules.specs.Limits.{maskBits, lastViewSmall};
 ghost use Rattle.rules.specs.Sizes as sizes;
@@ -119,12 +118,12 @@ pub fn stored(e: Engine, x: Statement) -> Engine
     e.with_tables(more, opened)
 }
 
-// The mask of the own station.
-fn own_mask(settings: Settings) -> u16
-    requires { ⌜ settings .own < maskBits ⌝ }
-    ensures { λ r. ⌜ r ≡ sizes.only (settings .own) ⌝ }
+// The mask of one station.
+pub fn mask_of(station: u64) -> u16
+    requires { ⌜ station < maskBits ⌝ }
+    ensures { λ r. ⌜ r ≡ sizes.only station ⌝ }
 {
-    settings::only(settings.own) as u16
+    settings::only(station) as u16
 }
 
 // "Adds the own vote and notes the clock".
@@ -134,7 +133,7 @@ fn voted_for(e: Engine, x: Statement) -> Engine
 {
     let settings = e.settings;
     let moment = moment_of(e, Opener::Nobody);
-    let block = plain_words::own_block(x, own_mask(settings));
+    let block = plain_words::own_block(x, mask_of(settings.own));
     let statements = e.statements;
     let tallies = e.tallies;
     let noted = statements.noted(x, e.clock);
@@ -193,20 +192,13 @@ pub fn blamed(e: Engine, view: u32, mask: u16) -> Engine
     e.with_blames(blames)
 }
 
-// A mask as a word, with its bound.
-fn wide(mask: u16) -> u64
-    ensures { λ r. ⌜ (r ≡ mask) × (r < 2 ^ maskBits) ⌝ }
-{
-    mask as u64
-}
-
 // The "blame mask is full".
 pub fn blame_full(e: Engine, view: u32) -> bool
     requires { ⌜ view ≤ lastViewSmall ⌝ }
     ensures { λ r. ⌜ r ≡ inputs.blameFull view (state e) ⌝ }
 {
     let settings = e.settings;
-    settings.quorum(wide(blames_of(e, view)))
+    settings.quorum(plain_words::wide(blames_of(e, view)))
 }
 
 // "At f+1, while the station is in that view, it sends the set (the mask now held) and quits. Otherwise they are only kept".

@@ -6,8 +6,7 @@ use mathlib.Core.List.{List, [], _∷_}
 use mathlib.Core.Option.{none, some}
 use native.Mathlib.Omega.{arith}
 use lib.ListN.{length}
-use lib.Pow.{pow-lt}
-use Rattle.rules.specs.Limits.{mostStations, lastView, lastViewSmall, mostStatements, mostTallies, mostStatementsSmall, mostTalliesSmall}
+use Rattle.rules.specs.Limits.{maskBits, lastView, lastViewSmall, mostStatements, mostTallies, mostStatementsSmall, mostTalliesSmall}
 use Rattle.rules.specs.Lists.{any, first, all}
 use Rattle.rules.specs.Sizes.{Settings, only}
 use Rattle.rules.specs.Messages.{newView, propose, allowed, viewAllowed, Effect, toAll, outgoing}
@@ -92,7 +91,7 @@ module _ (e : Engine) (k : Whole e) where
       let w : v ≤ lastView (settingsOf (e .settings) .size) = view-within (settingsOf (e .settings)) v q .1 in
       rw (k .sized .small) at w
 
-  pub author-small : (a : ℕ) → a < state e .settings .n → a < mostStations
+  pub author-small : (a : ℕ) → a < state e .settings .n → a < maskBits
   unfolding state
   author-small a h = let s = sizes (settingsOf (e .settings)) (k .sized .good) in omega (arith, s .most)
 
@@ -139,11 +138,6 @@ module _ (x : words.Statement) (e : Engine) (o : List ℕ) (at : ℕ) where
       unfolding inputs.statement state
       alone {r} {left} c w =
           rw (q, i, sym c, inputs.statement) (subst (λ (s : words.State). Worked (inputs.voting x s) o at r left) (g .is) w)
-
--- the mask of one author fits
-pub voter-small : (a : ℕ) → a < mostStations → only a < 2 ^ mostStations
-unfolding only
-voter-small a h = pow-lt h
 
 -- ---- each kind of message
 

@@ -10,10 +10,8 @@ ghost use mathlib.Core.Path.{_≡_};
 ghost use mathlib.Core.Bool.{true};
 ghost use mathlib.Core.List.{[], _∷_};
 ghost use mathlib.Core.Option.{none};
-ghost use Prim.Native.Nat.{_+_, _≤_, _<_};
+ghost use Prim.Native.Nat.{_+_, _≤_};
 ghost use lib.ListN.{length};
-ghost use Rattle.rules.specs.Limits.{mostStations};
-ghost use Rattle.rules.specs.Sizes.{only};
 ghost use Rattle.rules.specs.Messages.{allowed, toAll, outgoing};
 ghost use Rattle.rules.specs.Words.{message as said};
 ghost use Rattle.rules.specs.Inputs as inputs;
@@ -22,14 +20,6 @@ ghost use Rattle.outgoing.specs.Wrote.{Says};
 ghost use Rattle.plain_tables.specs.Meaning.{state};
 ghost use Rattle.plain_acts.specs.Works.{Worked};
 ghost use Rattle.plain_messages.specs.Whole.{Whole};
-
-// The mask of one author.
-fn voter(author: u8) -> u16
-    requires { ⌜ author < mostStations ⌝ }
-    ensures { λ r. ⌜ r ≡ only author ⌝ }
-{
-    settings::only(author as u64) as u16
-}
 
 // Two statements to all, the earlier first.
 fn both(first: Statement, second: Statement, out: &mut [u8], at: usize) -> usize
@@ -78,7 +68,7 @@ pub fn handled(e: Engine, message: Message, out: &mut [u8], at: usize) -> Work
             name,
             author,
         } => {
-            let mask = voter(author);
+            let mask = plain_acts::mask_of(author as u64);
             let t = Certificate {
                 view,
                 height,
@@ -88,7 +78,13 @@ pub fn handled(e: Engine, message: Message, out: &mut [u8], at: usize) -> Work
             let engine = plain_acts::tallied(e, Opener::Author(author), t);
             Work { engine, at }
         }
-        Message::Blame { view, author } => plain_acts::blaming(e, view, voter(author), out, at),
+        Message::Blame { view, author } => plain_acts::blaming(
+            e,
+            view,
+            plain_acts::mask_of(author as u64),
+            out,
+            at,
+        ),
         Message::BlameSet { view, mask } => plain_acts::blaming(e, view, mask, out, at),
         Message::Status {
             height,

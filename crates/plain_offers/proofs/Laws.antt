@@ -34,9 +34,6 @@ module _ (e : Engine) (k : Sized e) where
   pub some-stations : 0 < e .settings .n
   some-stations = let s = sizes (settingsOf (e .settings)) (k .good) in omega (arith, s .own)
 
-  pub own-small : e .settings .own < 15
-  own-small = let s = sizes (settingsOf (e .settings)) (k .good) in omega (arith, s .own, s .most)
-
 -- ---- what is offered
 
 module _ (x : words.Statement) (b : ℕ) (s : words.State) where

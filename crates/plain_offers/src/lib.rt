@@ -10,7 +10,6 @@ ghost use mathlib.Core.Path.{_≡_};
 ghost use mathlib.Core.Option.{none};
 ghost use Prim.Native.Nat.{_^_, _<_, _≤_};
 ghost use lib.ListN.{length};
-ghost use Rattle.rules.specs.Limits.{maskBits};
 ghost use Rattle.rules.specs.Inputs as inputs;
 ghost use Rattle.rules.specs.Refusals as refusals;
 ghost use Rattle.fields.specs.Names.{nameOf};
@@ -24,13 +23,6 @@ ghost use Rattle.plain_offers.specs.Offers.{offerOf, mayOffer, extension
 pub enum Made {
     Propose(Statement),
     Nothing,
-}
-
-// A mask as a word, with its bound.
-fn wide(mask: u16) -> u64
-    ensures { λ r. ⌜ (r ≡ mask) × (r < 2 ^ maskBits) ⌝ }
-{
-    mask as u64
 }
 
 // "Is in a view, leads it".
@@ -65,7 +57,7 @@ fn extended(e: Engine, x: Statement, name: Name) -> Made
     let settings = e.settings;
     let tallies = e.tallies;
     let mask = tallies.voters(plain_words::own_block(x, 0));
-    let certified = settings.quorum(wide(mask));
+    let certified = settings.quorum(plain_words::wide(mask));
     if certified & ((x.height as u64) < Settings::LAST_HEIGHT) {
         let link = x.name;
         let author = settings.own as u8;

@@ -1,9 +1,9 @@
 -- What a change of one part makes of the state, and that a station keeps its room. Assumes nothing.
-use Prim.Native.Nat.{ℕ}
+use Prim.Native.Nat.{ℕ, suc}
 use mathlib.Core.Path.{_≡_, refl, sym, ap₂, subst, _∙_}
 use mathlib.Core.List.{List, []}
 use lib.ListN.{replicate}
-use Rattle.rules.specs.Limits.{lastView}
+use Rattle.rules.specs.Limits.{lastView, lastViewSmall}
 use Rattle.rules.specs.Words.{Statement, Tally, State, genesis, fresh}
 use Rattle.rules.specs.Inputs.{withPhase, withTables, withBlames}
 use Rattle.settings.specs.Made.{settingsOf}
@@ -50,6 +50,6 @@ given {r} {e} {s} p g = subst (λ (z : Engine). Gives z s) (sym p) g
 -- a fresh station
 pub fresh-is : (g : Settings) (lock : Certificate) (xs : Statements) (ts : Tallies) (l : Names) → g .size ≡ Small → certificateOf lock ≡ genesis
     → statementRoom.statements xs ≡ [] → tallyRoom.tallies ts ≡ [] → names l ≡ []
-    → state (record { settings = g; phase = InView; view = 1; entry = 0; clock = 0; lock = lock; statements = xs; tallies = ts; blames = replicate 33 0; log = l }) ≡ fresh (settingsOf g)
+    → state (record { settings = g; phase = InView; view = 1; entry = 0; clock = 0; lock = lock; statements = xs; tallies = ts; blames = replicate (suc lastViewSmall) 0; log = l }) ≡ fresh (settingsOf g)
 unfolding state fresh lastView
 fresh-is g lock xs ts l es el ex et en = rw (el, ex, et, en, es)

@@ -6,8 +6,7 @@ use plain_words::Noted;
 use settings::Settings;
 ghost use mathlib.Core.Path.{_≡_};
 ghost use mathlib.Core.List.{[]};
-ghost use Prim.Native.Nat.{_<_, _≤_, _^_};
-ghost use Rattle.rules.specs.Limits.{maskBits};
+ghost use Prim.Native.Nat.{_<_, _≤_};
 ghost use Rattle.rules.specs.Lists.{any};
 ghost use Rattle.rules.specs.Words as words;
 ghost use Rattle.settings.specs.Made.{settingsOf};
@@ -46,13 +45,6 @@ pub struct Moment {
     pub opener: Opener,
 }
 
-// A mask as a word, with its bound.
-fn wide(mask: u16) -> u64
-    ensures { λ r. ⌜ (r ≡ mask) × (r < 2 ^ maskBits) ⌝ }
-{
-    mask as u64
-}
-
 // The clock that a tally keeps: the one that it has, or the present one once a mask is a quorum.
 fn reached_at(moment: Moment, reached: Noted, mask: u16) -> Noted
     ensures { λ r. ⌜ notedOf r ≡ words.reachedAt (momentOf moment) (notedOf reached) mask ⌝ }
@@ -61,7 +53,7 @@ fn reached_at(moment: Moment, reached: Noted, mask: u16) -> Noted
         Noted::At(clock) => Noted::At(clock),
         Noted::Never => {
             let settings = moment.settings;
-            if settings.quorum(wide(mask)) {
+            if settings.quorum(plain_words::wide(mask)) {
                 return Noted::At(moment.clock);
             }
             Noted::Never
@@ -133,7 +125,7 @@ fn better(settings: Settings, view: u32, t: Tally, best: Certificate) -> Certifi
     ensures { λ r. ⌜ certificateOf r ≡ bestOf (settingsOf settings) view (tallyOf t) (certificateOf best) ⌝ }
 {
     let own = certificate_of(t);
-    let certified = settings.quorum(wide(t.mask));
+    let certified = settings.quorum(plain_words::wide(t.mask));
     let higher = plain_words::higher(own, best);
     if (t.view < view) & certified & higher {
         return own;

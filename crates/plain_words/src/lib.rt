@@ -4,6 +4,8 @@ use fields::Name;
 use wire::Statement;
 ghost use mathlib.Core.Path.{_≡_};
 ghost use mathlib.Core.Option.{none};
+ghost use Prim.Native.Nat.{_^_, _<_};
+ghost use Rattle.rules.specs.Limits.{maskBits};
 ghost use Rattle.rules.specs.Words as words;
 ghost use Rattle.wire.specs.Meaning.{statementOf};
 ghost use Rattle.plain_words.specs.Meaning.{certificateOf, Certifies};
@@ -20,6 +22,13 @@ pub struct Certificate {
 pub enum Noted {
     Never,
     At(u32),
+}
+
+// A mask as a word, with its bound.
+pub fn wide(mask: u16) -> u64
+    ensures { λ r. ⌜ (r ≡ mask) × (r < 2 ^ maskBits) ⌝ }
+{
+    mask as u64
 }
 
 // Genesis.

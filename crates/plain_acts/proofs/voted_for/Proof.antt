@@ -15,8 +15,8 @@ use Rattle.plain_acts.proofs.voted_for.Tie as tie
 moment-of-requires : tie.Need-moment-of-requires
 moment-of-requires c κs = search needs
 
-own-mask-requires : tie.Need-own-mask-requires
-own-mask-requires c κs =
+mask-of-requires : tie.Need-mask-of-requires
+mask-of-requires c κs =
     omega (arith, own-small (c .before .before .args .e) (c .before .before .pre .0))
 
 own-block-requires : tie.Need-own-block-requires
@@ -38,14 +38,14 @@ returns c =
     let a = c .before .before .before .before .before .before .before .before .before .args in
     given (c .with-tables .ensures)
     (voted-gives (a .e) (c .before .before .before .before .before .before .before .before .before .pre .0) (momentOf (c .before .before .before .before .before .before .before .moment-of .result)) (statementOf (a .x) none) (certificateOf (c .before .before .before .before .before .own-block .result)) (c .before .before .noted .result) (c .before .join .result) (c .before .before .before .before .before .before .before .moment-of .ensures)
-    (c .before .before .before .before .before .own-block .ensures ∙ ap (words.ownBlock (statementOf (a .x) none)) (c .before .before .before .before .before .before .own-mask .ensures)) (c .before .before .noted .ensures) (c .before .join .ensures))
+    (c .before .before .before .before .before .own-block .ensures ∙ ap (words.ownBlock (statementOf (a .x) none)) (c .before .before .before .before .before .before .mask-of .ensures)) (c .before .before .noted .ensures) (c .before .join .ensures))
 
 pub voted-for-spec : {M : Type 1} → statement M
 voted-for-spec =
     tie.close
     (tie.spec
     moment-of-requires
-    own-mask-requires
+    mask-of-requires
     own-block-requires
     noted-requires
     join-requires

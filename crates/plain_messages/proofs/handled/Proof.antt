@@ -29,9 +29,16 @@ statement-requires c κs =
 enum-known-message-2 : tie.Need-enum-known-message-2
 enum-known-message-2 c = search needs
 
-voter-requires : tie.Need-voter-requires
+cast-mask-of : tie.Need-cast-mask-of
 unfolding messageOf
-voter-requires c κs =
+cast-mask-of c =
+    let a = c .before .before .before .before .args in
+    let k = c .before .before .before .before .pre .0 in
+    record { fits = omega (arith, author-small (a .e) k (c .before .message2 .given .0 .1 .1 .1 .0) (allowed-rights (state (a .e) .settings) (vote (c .before .message2 .given .0 .0) (c .before .message2 .given .0 .1 .0) (nameOf (c .before .message2 .given .0 .1 .1 .0)) (c .before .message2 .given .0 .1 .1 .1 .0)) (ap (λ (z : Message). allowed (state (a .e) .settings) (messageOf z)) (sym (c .before .message2 .given .1)) ∙ c .before .before .before .before .pre .1) .2)) }
+
+mask-of-requires : tie.Need-mask-of-requires
+unfolding messageOf
+mask-of-requires c κs =
     let a = c .before .before .before .before .args in
     let k = c .before .before .before .before .pre .0 in
     author-small (a .e) k (c .before .message2 .given .0 .1 .1 .1 .0) (allowed-rights (state (a .e) .settings) (vote (c .before .message2 .given .0 .0) (c .before .message2 .given .0 .1 .0) (nameOf (c .before .message2 .given .0 .1 .1 .0)) (c .before .message2 .given .0 .1 .1 .1 .0)) (ap (λ (z : Message). allowed (state (a .e) .settings) (messageOf z)) (sym (c .before .message2 .given .1)) ∙ c .before .before .before .before .pre .1) .2)
@@ -45,9 +52,16 @@ tallied-requires c κs =
 enum-known-message-3 : tie.Need-enum-known-message-3
 enum-known-message-3 c = search needs
 
-voter-requires-2 : tie.Need-voter-requires-2
+cast-mask-of-2 : tie.Need-cast-mask-of-2
 unfolding messageOf
-voter-requires-2 c κs =
+cast-mask-of-2 c =
+    let a = c .before .before .before .before .args in
+    let k = c .before .before .before .before .pre .0 in
+    record { fits = omega (arith, author-small (a .e) k (c .before .message3 .given .0 .1 .0) (allowed-rights (state (a .e) .settings) (blame (c .before .message3 .given .0 .0) (c .before .message3 .given .0 .1 .0)) (ap (λ (z : Message). allowed (state (a .e) .settings) (messageOf z)) (sym (c .before .message3 .given .1)) ∙ c .before .before .before .before .pre .1) .1)) }
+
+mask-of-requires-2 : tie.Need-mask-of-requires-2
+unfolding messageOf
+mask-of-requires-2 c κs =
     let a = c .before .before .before .before .args in
     let k = c .before .before .before .before .pre .0 in
     author-small (a .e) k (c .before .message3 .given .0 .1 .0) (allowed-rights (state (a .e) .settings) (blame (c .before .message3 .given .0 .0) (c .before .message3 .given .0 .1 .0)) (ap (λ (z : Message). allowed (state (a .e) .settings) (messageOf z)) (sym (c .before .message3 .given .1)) ∙ c .before .before .before .before .pre .1) .1)
@@ -92,7 +106,7 @@ unfolding messageOf inputs.handled
 returns-2 c =
     let a = c .before .before .before .before .before .before .args in
     told (a .e) _ (a .at) (c .before .before .before .message2 .given .1)
-    (tallied-worked (a .e) _ (a .at) (some (c .before .before .before .message2 .given .0 .1 .1 .1 .0)) _ _ (voter-certificate (c .before .before .before .message2 .given .0 .0) (c .before .before .before .message2 .given .0 .1 .0) (c .before .before .before .message2 .given .0 .1 .1 .0) (c .before .before .before .message2 .given .0 .1 .1 .1 .0) (c .before .voter .ensures)) (c .tallied .ensures))
+    (tallied-worked (a .e) _ (a .at) (some (c .before .before .before .message2 .given .0 .1 .1 .1 .0)) _ _ (voter-certificate (c .before .before .before .message2 .given .0 .0) (c .before .before .before .message2 .given .0 .1 .0) (c .before .before .before .message2 .given .0 .1 .1 .0) (c .before .before .before .message2 .given .0 .1 .1 .1 .0) (c .before .mask-of .ensures)) (c .tallied .ensures))
 
 same-length-2 : tie.Need-same-length-2
 same-length-2 c = search needs
@@ -102,7 +116,7 @@ unfolding messageOf inputs.handled
 returns-3 c =
     let a = c .before .before .before .before .before .before .before .before .before .args in
     let k = c .before .before .before .before .before .before .before .before .before .pre .0 in
-    told (a .e) _ (a .at) (c .before .before .before .before .before .before .message3 .given .1) (blamed-worked (a .e) _ (a .at) (c .before .before .before .before .before .before .message3 .given .0 .0) (c .before .before .before .before .voter2 .ensures) (c .before .before .blaming .ensures))
+    told (a .e) _ (a .at) (c .before .before .before .before .before .before .message3 .given .1) (blamed-worked (a .e) _ (a .at) (c .before .before .before .before .before .before .message3 .given .0 .0) (c .before .before .before .before .mask-of2 .ensures) (c .before .before .blaming .ensures))
 
 same-length-3 : tie.Need-same-length-3
 same-length-3 c = search needs
@@ -128,10 +142,12 @@ handled-spec =
     enum-known-message
     statement-requires
     enum-known-message-2
-    voter-requires
+    cast-mask-of
+    mask-of-requires
     tallied-requires
     enum-known-message-3
-    voter-requires-2
+    cast-mask-of-2
+    mask-of-requires-2
     blaming-requires
     enum-known-message-4
     blaming-requires-2

@@ -16,7 +16,8 @@ use Rattle.settings.specs.Made.{settingsOf}
 use Rattle.wire.specs.Meaning.{statementOf, messageOf}
 use Rattle.plain_tallies.specs.Meaning.{tallies}
 use Rattle.plain_tables.specs.Meaning.{state}
-use Rattle.plain_offers.proofs.Laws.{own-small, extension-made, extension-none, extendable-is, above-is}
+use Rattle.plain_acts.proofs.Laws.{own-small}
+use Rattle.plain_offers.proofs.Laws.{extension-made, extension-none, extendable-is, above-is}
 use borrow.Author.Needs.{needs}
 use Rattle.plain_offers.proofs.extended.Statement.{statement}
 use Rattle.plain_offers.proofs.extended.Tie as tie
