@@ -1,0 +1,192 @@
+-- A call, test by test: barred, folded to nothing, or answered by the rules. Assumes nothing.
+use Prim.Native.Nat.{ℕ, suc, _+_, _-_, _*_, _^_, _<_, _≤_}
+use mathlib.Core.Path.{_≡_, refl, sym, ap, ap₂, _∙_, subst}
+use mathlib.Core.Bool.{Bool, true, false, _&&_}
+use mathlib.Core.List.{List, [], _∷_}
+use mathlib.Core.Option.{Option, none, some}
+use native.Mathlib.Omega.{arith}
+use lib.ListN.{length, take, drop}
+use lib.Seq.{length-take-le}
+use lib.Dec.{leb, eqb}
+use borrow.Author.Tests.{leb-true, eq-eqb, ne-eqb}
+use Rattle.rules.specs.Limits.{Size, small, leastOut, leastOutSmall}
+use Rattle.rules.specs.Lists.{be}
+use Rattle.rules.specs.Messages.{outgoing}
+use Rattle.rules.specs.Words as words
+use Rattle.rules.specs.Words.{State}
+use Rattle.rules.specs.Refusals as rules
+use Rattle.rules.specs.Refusals.{Outcome}
+use Rattle.rules.specs.WellFormed.{wellFormed}
+use Rattle.rules.proofs.Tests.{by-bool, no-some}
+use Rattle.rules.proofs.Truths.{and-2}
+use Rattle.rules.proofs.Bytes as bytes
+use Rattle.fields.specs.Places.{number, Bytes}
+use Rattle.wire.proofs.Reading.{be-number}
+use Rattle.kept.proofs.Outs.{step-room, offer-room, tick-room}
+use Rattle.lent_list.specs.Lists.{Input, tick, offer, message, kindOf, bytesOf, hasLength, hasForm, settingsIn, inputsOf}
+use Rattle.settings.specs.Made.{sizeFrom}
+use Rattle.slots.specs.Slots.{isInput}
+use Rattle.lent_list.proofs.Kept.{Handed, kept-input, most-number}
+use Rattle.lent_list.specs.Plain.{answerTo, isKept, folded, held, Answer, refusal, entering, kept, plainly, plainOffer, Gives}
+use Rattle.plain_tables.specs.Meaning.{state}
+use Rattle.plain_messages.specs.Whole.{Whole}
+use Rattle.plain_turns.specs.Turns.{Answered}
+use Rattle.plain.specs.Meaning.{foldOf, FoldedTo, bar}
+use Rattle.plain.specs.declared.Folded.{Folded}
+use Rattle.plain_turns.specs.declared.Turn.{Turn}
+use Rattle.plain_tables.specs.declared.Engine.{Engine}
+
+-- the bytes of a slice, as a list's
+pub plain-bytes : (s : List ℕ) → Bytes s → bytes.Bytes s
+plain-bytes [] h = bytes.none
+plain-bytes (x ∷ s) h = bytes.one (h 0 .fits) (plain-bytes s (λ i. h (suc i)))
+
+-- a station held by value is one of a small group
+small-group : {e : Engine} → Whole e → state e .settings .size ≡ small
+unfolding state
+small-group w = ap sizeFrom (w .sized .small)
+
+answer-room : (s : State) → wellFormed s ≡ true → (x : Input) → length (outgoing (answerTo x s .out)) ≤ leastOut (s .settings .size)
+unfolding answerTo
+answer-room s w tick = tick-room s w
+answer-room s w (offer name) = offer-room s (be name)
+answer-room s w (message bs) = step-room s bs
+
+module _ (l o : List ℕ) where
+  abbrev lengths-good : Bool
+  lengths-good = hasLength l && leb (leastOut small) (length o)
+
+  abbrev by-form : Bool → ℕ
+  by-form z = elim z [ false ↦ 2 | true ↦ 0 ]
+
+  abbrev by-lengths : Bool → ℕ
+  by-lengths z = elim z [ false ↦ 1 | true ↦ by-form (hasForm l) ]
+
+  pub bar-short : lengths-good ≡ false → bar l o ≡ 1
+  unfolding bar
+  bar-short e = ap by-lengths e
+
+  pub bar-form : {z : Bool} → lengths-good ≡ true → hasForm l ≡ z → bar l o ≡ by-form z
+  unfolding bar
+  bar-form e f = ap by-lengths e ∙ ap by-form f
+
+  pub bar-small : bar l o < 2 ^ 32
+  bar-small =
+      by-bool lengths-good (λ e. by-bool (hasForm l) (λ f. omega (arith, bar-form e f)) (λ f. omega (arith, bar-form e f))) (λ e. omega (arith, bar-short e))
+
+  pub not-barred : bar l o ≡ 0 → (lengths-good ≡ true) × (hasForm l ≡ true)
+  not-barred z =
+      by-bool lengths-good (λ e. by-bool (hasForm l) (λ f. (e, f)) (λ f. absurd (omega (arith, bar-form e f)))) (λ e. absurd (omega (arith, bar-short e)))
+
+  pub open-list : {q : ℕ} → q ≡ bar l o → q ≡ 0 → (hasLength l ≡ true) × (hasForm l ≡ true)
+  open-list e z = let t = not-barred (sym e ∙ z) in (and-2 (hasLength l) (leb (leastOut small) (length o)) (t .0) .0, t .1)
+
+  pub open-out : {q : ℕ} → q ≡ bar l o → q ≡ 0 → leastOutSmall ≤ length o
+  unfolding leastOut
+  open-out e z = leb-true leastOutSmall (length o) (and-2 (hasLength l) (leb (leastOut small) (length o)) (not-barred (sym e ∙ z) .0) .1)
+
+  module _ (x : Input) where
+    abbrev looked : Option State → Answer
+    looked z = elim z [ none ↦ refusal 2 l o | some u ↦ kept x (answerTo x u) l o ]
+
+    abbrev judged : Bool → Answer
+    judged z = elim z [ false ↦ refusal 1 l o | true ↦ looked (held l) ]
+
+    plain-by : {z : Bool} → lengths-good ≡ z → plainly x l o ≡ judged z
+    unfolding plainly
+    plain-by e = ap judged e
+
+    abbrev gives : Bool → Option State
+    gives z = elim z [ false ↦ none | true ↦ folded (words.fresh (settingsIn l)) (inputsOf l) ]
+
+    formless : hasForm l ≡ false → held l ≡ none
+    unfolding held
+    formless f = ap gives f
+
+    refused-by : (k : ℕ) {r : ℕ} → plainly x l o ≡ refusal k l o → r ≡ k * 2 ^ 32 → Gives (plainly x l o) r l o
+    refused-by k e d = rw e (unfold refusal in record { result = d; list = refl; out = refl })
+
+    pub is-barred : {q r : ℕ} → q ≡ bar l o → (q ≡ 0 → ⊥) → r ≡ q * 2 ^ 32 → Gives (plainly x l o) r l o
+    is-barred {q} {r} e n d =
+        by-bool lengths-good
+        (λ p.
+        by-bool (hasForm l) (λ f. absurd (n (e ∙ bar-form p f)))
+        (λ f. refused-by 2 (plain-by p ∙ ap looked (formless f)) (d ∙ ap (_* 2 ^ 32) (e ∙ bar-form p f))))
+        (λ p. refused-by 1 (plain-by p) (d ∙ ap (_* 2 ^ 32) (e ∙ bar-short p)))
+
+    module _ {q : ℕ} (e : q ≡ bar l o) (z : q ≡ 0) {f : Folded} (g : FoldedTo (held l) f) where
+      passes : lengths-good ≡ true
+      passes = not-barred (sym e ∙ z) .0
+
+      abbrev fold-to : Bool → Option State
+      fold-to w = elim w [ true ↦ some (state (f .engine)) | false ↦ none ]
+
+      came : {w : Bool} → f .good ≡ w → fold-to w ≡ held l
+      unfolding foldOf
+      came u = sym (ap fold-to u) ∙ g .is
+
+      pub no-state : {r : ℕ} → f .good ≡ false → r ≡ 2 * 2 ^ 32 → Gives (plainly x l o) r l o
+      no-state u d = refused-by 2 (plain-by passes ∙ ap looked (sym (came u))) d
+
+      module _ (u : f .good ≡ true) {t : Turn} {o₁ : List ℕ} (y : Answered (answerTo x (state (f .engine))) t o₁) where
+        said-is : take (t .count - 0) o₁ ≡ take (t .count) o₁
+        said-is = let n : t .count - 0 ≡ t .count = omega arith in ap (λ (i : ℕ). take i o₁) n
+
+        pub answered-by : {k : ℕ} {bs said : List ℕ} {r : ℕ} {l′ o′ : List ℕ} → k ≡ kindOf x → bs ≡ bytesOf x → said ≡ take (t .count - 0) o₁
+            → Gives (entering k bs (t .number) said l o) r l′ o′ → Gives (plainly x l o) r l′ o′
+        unfolding kept
+        answered-by {k} {bs} {said} {r} {l′} {o′} a b c h =
+            let s : said ≡ outgoing (answerTo x (state (f .engine)) .out) = c ∙ said-is ∙ y .turned .out in
+            let i : entering k bs (t .number) said l o ≡ plainly x l o =
+            (λ j. entering (a j) (b j) (y .turned .number j) (s j) l o) ∙ sym (plain-by passes ∙ ap looked (sym (came u))) in
+            subst (λ (v : Answer). Gives v r l′ o′) i h
+
+        module _ (whole : length o₁ ≡ leastOutSmall) where
+          count-few : t .count ≤ leastOutSmall
+          unfolding leastOut
+          count-few =
+              let m : length (outgoing (answerTo x (state (f .engine)) .out)) ≤ leastOut small =
+              subst (λ (v : Size). length (outgoing (answerTo x (state (f .engine)) .out)) ≤ leastOut v) (small-group (g .whole))
+              (answer-room (state (f .engine)) (g .whole .formed) x) in
+              omega (arith, y .turned .count, m)
+
+          pub count-fits : t .count ≤ length o₁
+          count-fits = omega (arith, count-few, whole)
+
+          part-length : length (take (t .count - 0) o₁) ≡ t .count
+          part-length = ap length said-is ∙ length-take-le (t .count) o₁ count-fits
+
+          -- what entering the answer asks for
+          pub may-enter : bytes.Bytes (bytesOf x) → Handed x
+              → ((hasLength l ≡ true) × (isKept (t .number) ≡ true → isInput (kindOf x) (bytesOf x) ≡ true))
+              × ((t .number < 256) × (length (take (t .count - 0) o₁) < 2 ^ 32) × (length (take (t .count - 0) o₁) ≤ length o))
+          may-enter b n = (
+            (open-list e z .0, λ k. kept-input (state (f .engine)) x b n (ap isKept (sym (y .turned .number)) ∙ k)),
+            (
+              omega (arith, most-number (state (f .engine)) x, y .turned .number),
+              omega (arith, part-length, count-few),
+              omega (arith, part-length, count-few, open-out e z),
+            ),
+          )
+
+-- ---- an offered name
+
+module _ (name l o : List ℕ) where
+  abbrev by-name : Bool → Answer
+  by-name z = elim z [ false ↦ refusal 1 l o | true ↦ plainly (offer name) l o ]
+
+  named : {z : Bool} → eqb (length name) 32 ≡ z → plainOffer name l o ≡ by-name z
+  unfolding plainOffer
+  named e = ap by-name e
+
+  pub name-short : {r : ℕ} → (length name ≡ 32 → ⊥) → r ≡ 1 * 2 ^ 32 → Gives (plainOffer name l o) r l o
+  name-short n d = rw (named (ne-eqb (length name) 32 n)) (unfold refusal in record { result = d; list = refl; out = refl })
+
+  pub name-good : {r : ℕ} {l′ o′ : List ℕ} → length name ≡ 32 → Gives (plainly (offer name) l o) r l′ o′ → Gives (plainOffer name l o) r l′ o′
+  name-good n h = rw (named (eq-eqb (length name) 32 n)) h
+
+  -- the name as the code reads it
+  pub name-read : (s : State) {b : ℕ} {t : Turn} {o₁ : List ℕ} → length name ≡ 32 → b ≡ number name 0 32 → Answered (rules.offer b s) t o₁ → Answered (answerTo (offer name) s) t o₁
+  unfolding answerTo
+  name-read s {b} {t} {o₁} n e h =
+      subst (λ (v : ℕ). Answered (rules.offer v s) t o₁) (e ∙ ap (number name 0) (sym n) ∙ sym (be-number name)) h
