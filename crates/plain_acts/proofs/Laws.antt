@@ -1,17 +1,17 @@
 -- What each act makes of a station's state. Assumes nothing.
-use Prim.Native.Nat.{ℕ, _+_, _^_, _<_, _≤_}
+use Prim.Native.Nat.{ℕ, _+_, _^_, _<_}
 use mathlib.Core.Path.{_≡_, refl, sym, ap, ap₂, subst, _∙_}
 use mathlib.Core.Bool.{Bool, true, false, _&&_}
 use mathlib.Core.List.{List, [], _∷_, _++_}
 use mathlib.Core.Option.{none}
 use native.Mathlib.Omega.{arith}
-use lib.ListN.{length, getD, set}
+use lib.ListN.{getD, set}
 use lib.Bits.{bitOr}
 use lib.Dec.{eqb}
 use lib.Pow.{pow-lt}
 use Rattle.rules.specs.Limits.{mostStations, maskBits}
 use Rattle.rules.specs.Lists.{alter}
-use Rattle.rules.specs.Sizes.{only, joined, goodSettings}
+use Rattle.rules.specs.Sizes.{only, joined}
 use Rattle.rules.specs.Messages.{Effect, toAll, blameSet, effect, outgoing}
 use Rattle.rules.specs.Words as words
 use Rattle.rules.specs.Words.{sameStatement, ownBlock, certificate, join, joinCertificate}
@@ -20,7 +20,6 @@ use Rattle.rules.proofs.Allowed.{sizes}
 use Rattle.settings.specs.Made.{settingsOf}
 use Rattle.outgoing.specs.Wrote.{Says}
 use Rattle.outgoing.proofs.Writing.{says-none, says-one, says-outgoing}
-use Rattle.plain_words.specs.Meaning.{certificateOf}
 use Rattle.plain_statements.specs.declared.Statements.{Statements}
 use Rattle.plain_statements.specs.Meaning as statementRoom
 use Rattle.plain_statements.specs.Meaning.{statements}
@@ -31,8 +30,7 @@ use Rattle.plain_tables.specs.declared.Cause.{Cause}
 use Rattle.plain_tables.specs.declared.Phase.the-variants.{InView, Waiting, Stopped}
 use Rattle.plain_tables.specs.declared.Engine.{Engine}
 use Rattle.plain_tables.specs.Meaning.{state, Sized, Gives, phased, tabled, blaming}
-use Rattle.plain_tables.proofs.Laws.{gives-phase, gives-blames, gives-tabled, given}
-use Rattle.plain_acts.specs.declared.Work.{Work}
+use Rattle.plain_tables.proofs.Laws.{gives-phase, gives-blames, gives-tabled}
 use Rattle.plain_acts.specs.Works.{Worked}
 
 -- ---- whether the station is in a view

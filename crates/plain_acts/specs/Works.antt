@@ -1,6 +1,5 @@
 -- What a rule leaves: a station in its next state, and what it said, written into the out buffer from a place on. Assumes nothing.
 use Prim.Native.Nat.{ℕ}
-use mathlib.Core.Path.{_≡_}
 use mathlib.Core.List.{List}
 use Rattle.rules.specs.Messages.{outgoing}
 use Rattle.rules.specs.Inputs as inputs

@@ -1,27 +1,25 @@
 -- What holds of a whole station and of an allowed statement, and what a statement and each message come to. Assumes nothing.
-use Prim.Native.Nat.{ℕ, _+_, _^_, _<_, _≤_}
-use mathlib.Core.Path.{_≡_, refl, sym, ap, subst, _∙_}
-use mathlib.Core.Bool.{Bool, true, false, not, _&&_}
+use Prim.Native.Nat.{ℕ, _^_, _<_, _≤_}
+use mathlib.Core.Path.{_≡_, sym, ap, subst, _∙_}
+use mathlib.Core.Bool.{Bool, true, false}
 use mathlib.Core.List.{List, [], _∷_}
 use mathlib.Core.Option.{none, some}
 use native.Mathlib.Omega.{arith}
 use lib.ListN.{length}
 use Rattle.rules.specs.Limits.{maskBits, lastView, lastViewSmall, mostStatements, mostTallies, mostStatementsSmall, mostTalliesSmall}
-use Rattle.rules.specs.Lists.{any, first, all}
+use Rattle.rules.specs.Lists.{any, first}
 use Rattle.rules.specs.Sizes.{Settings, only}
-use Rattle.rules.specs.Messages.{newView, propose, allowed, viewAllowed, Effect, toAll, outgoing}
+use Rattle.rules.specs.Messages.{newView, propose, allowed, viewAllowed, toAll, outgoing}
 use Rattle.rules.specs.Words as words
 use Rattle.rules.specs.Words.{message, sameStatement, conflict, joinCertificate, join, ownBlock, certificate}
 use Rattle.rules.specs.Inputs as inputs
-use Rattle.rules.specs.WellFormed.{wellFormed, isName, statementGood}
-use Rattle.rules.proofs.Tests.{by-bool, and-left}
+use Rattle.rules.specs.WellFormed.{isName, statementGood}
+use Rattle.rules.proofs.Tests.{by-bool}
 use Rattle.rules.proofs.Truths.{and-4}
 use Rattle.rules.proofs.Searches.{first-mem}
 use Rattle.rules.proofs.Allowed.{sizes, view-within, allowed-rights}
-use Rattle.rules.proofs.Bounds.{views-most}
 use Rattle.fields.specs.Names.{nameOf}
 use Rattle.settings.specs.Made.{settingsOf}
-use Rattle.settings.specs.declared.Size.the-variants.{Small}
 use Rattle.fields.specs.declared.Name.{Name}
 use Rattle.wire.specs.Meaning.{statementOf, messageOf, Linked}
 use Rattle.wire.specs.declared.Message.{Message}
@@ -32,7 +30,6 @@ use Rattle.outgoing.proofs.Writing.{says-none}
 use Rattle.kept.proofs.WellFormed.{parts}
 use Rattle.kept.proofs.Lists.{all-mem}
 use Rattle.plain_words.specs.Meaning.{certificateOf, Certifies}
-use Rattle.plain_words.specs.Places.{Within}
 use Rattle.plain_words.proofs.Tables.{counted}
 use Rattle.plain_statements.specs.declared.Held.{Held}
 use Rattle.plain_statements.specs.Meaning as statementRoom
@@ -41,7 +38,7 @@ use Rattle.plain_tallies.specs.Meaning as tallyRoom
 use Rattle.plain_tallies.specs.Meaning.{tallies}
 use Rattle.plain_tallies.proofs.Laws.{tally-count, join-long, certificate-long}
 use Rattle.plain_tables.specs.declared.Engine.{Engine}
-use Rattle.plain_tables.specs.Meaning.{state, Sized, Gives}
+use Rattle.plain_tables.specs.Meaning.{state, Gives}
 use Rattle.plain_acts.specs.declared.Work.{Work}
 use Rattle.plain_acts.specs.Works.{Worked}
 use Rattle.plain_messages.specs.Whole.{Whole}

@@ -7,7 +7,7 @@ use wire::Statement;
 ghost use mathlib.Core.Path.{_≡_};
 ghost use mathlib.Core.List.{[], _∷_, _++_};
 ghost use mathlib.Core.Option.{none};
-ghost use Prim.Native.Nat.{_<_, _≤_};
+ghost use Prim.Native.Nat.{_<_};
 ghost use Rattle.rules.specs.Lists.{any, first, alter};
 ghost use Rattle.rules.specs.Words as words;
 ghost use Rattle.rules.specs.Inputs as inputs;

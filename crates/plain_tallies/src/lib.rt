@@ -6,7 +6,7 @@ use plain_words::Noted;
 use settings::Settings;
 ghost use mathlib.Core.Path.{_≡_};
 ghost use mathlib.Core.List.{[]};
-ghost use Prim.Native.Nat.{_<_, _≤_};
+ghost use Prim.Native.Nat.{_<_};
 ghost use Rattle.rules.specs.Lists.{any};
 ghost use Rattle.rules.specs.Words as words;
 ghost use Rattle.settings.specs.Made.{settingsOf};

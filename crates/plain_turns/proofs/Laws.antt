@@ -1,16 +1,15 @@
 -- What each refusal, and a rule's work, come to. Assumes nothing.
-use Prim.Native.Nat.{ℕ, suc, _+_, _≤_}
+use Prim.Native.Nat.{ℕ, suc, _≤_}
 use mathlib.Core.Path.{_≡_, refl, sym, ap, ap₂, subst, _∙_}
-use mathlib.Core.Bool.{Bool, true, false, not, _&&_}
-use mathlib.Core.List.{List, [], _∷_, _++_}
+use mathlib.Core.Bool.{true, false, _&&_}
+use mathlib.Core.List.{List, [], _∷_}
 use mathlib.Core.Option.{none, some}
 use native.Mathlib.Omega.{arith}
 use native.Mathlib.Nat.{zero-add}
 use lib.ListN.{length, take, drop}
 use lib.Seq.{take-append-seam}
-use lib.Dec.{leb, eqb}
-use Rattle.rules.specs.Limits.{mostStatements, mostTallies, mostStatementsSmall, mostTalliesSmall, mostOpened}
-use Rattle.rules.specs.Lists.{any}
+use lib.Dec.{leb}
+use Rattle.rules.specs.Limits.{mostStatements, mostTallies, mostStatementsSmall, mostTalliesSmall}
 use Rattle.rules.specs.Messages as messages
 use Rattle.rules.specs.Messages.{outgoing, read, allowed, viewOf}
 use Rattle.rules.specs.Words as words
@@ -20,10 +19,7 @@ use Rattle.rules.specs.Refusals as refusals
 use Rattle.rules.specs.WellFormed.{wellFormed}
 use Rattle.rules.proofs.Bytes as bytes
 use Rattle.rules.proofs.Tests.{by-bool}
-use Rattle.fields.specs.Names.{nameOf}
 use Rattle.fields.specs.Places.{Bytes}
-use Rattle.settings.specs.Made.{settingsOf}
-use Rattle.settings.specs.declared.Size.the-variants.{Small}
 use Rattle.wire.specs.Meaning.{statementOf, messageOf}
 use Rattle.wire.specs.declared.Statement as wire
 use Rattle.wire.specs.declared.Message.the-variants.{Stated}
@@ -31,7 +27,6 @@ use Rattle.outgoing.specs.Wrote.{Says}
 use Rattle.outgoing.proofs.Writing.{wrote-prefix}
 use Rattle.kept.proofs.Room.{handled-bytes}
 use Rattle.kept.proofs.Calls.{step-whole}
-use Rattle.plain_words.specs.Meaning.{certificateOf}
 use Rattle.plain_words.proofs.Tables.{counted}
 use Rattle.plain_statements.specs.Meaning as statementRoom
 use Rattle.plain_statements.specs.Meaning.{heldOf, blank, statements}
@@ -41,7 +36,7 @@ use Rattle.plain_tables.specs.declared.Cause.{Cause}
 use Rattle.plain_tables.specs.declared.Cause.the-variants.{Full}
 use Rattle.plain_tables.specs.declared.Phase.the-variants.{InView, Waiting, Stopped}
 use Rattle.plain_tables.specs.declared.Engine.{Engine}
-use Rattle.plain_tables.specs.Meaning.{state, Sized, Gives}
+use Rattle.plain_tables.specs.Meaning.{state, Sized}
 use Rattle.plain_tables.proofs.Laws.{gives-phase}
 use Rattle.plain_acts.specs.declared.Work.{Work}
 use Rattle.plain_acts.specs.Works.{Worked}

@@ -1,7 +1,7 @@
 -- A statement's sameness and certificate, over the code's values. Assumes nothing.
 use Prim.Native.Nat.{ℕ, _^_, _<_}
 use mathlib.Core.Path.{_≡_, refl, sym}
-use mathlib.Core.Bool.{Bool, true, false, _&&_, Bool·beq}
+use mathlib.Core.Bool.{true, _&&_, Bool·beq}
 use mathlib.Core.Option.{Option, none}
 use native.Mathlib.Omega.{arith}
 use lib.Dec.{eqb}

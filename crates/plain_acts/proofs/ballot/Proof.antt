@@ -1,9 +1,6 @@
 -- `plain_acts::ballot` meets its contract. Assumes nothing.
-use mathlib.Core.Path.{_≡_, refl, sym, ap, ap₂, _∙_}
 use native.Mathlib.Omega.{arith}
-use mathlib.Core.Option.{none}
 use Rattle.rules.specs.Messages.{toAll}
-use Rattle.rules.specs.Words.{message}
 use Rattle.rules.specs.Inputs as inputs
 use Rattle.wire.specs.Meaning.{statementOf, messageOf}
 use Rattle.outgoing.proofs.Writing.{length-to-all, length-write-most, says-length}

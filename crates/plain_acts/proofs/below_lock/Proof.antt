@@ -4,7 +4,7 @@ use mathlib.Core.Bool.{Bool, _&&_}
 use Rattle.rules.specs.Words as words
 use Rattle.plain_words.specs.Meaning.{certificateOf}
 use Rattle.rules.specs.Inputs as inputs
-use Rattle.wire.specs.Meaning.{statementOf, messageOf}
+use Rattle.wire.specs.Meaning.{statementOf}
 use Rattle.plain_tables.specs.Meaning.{state}
 use borrow.Author.Needs.{needs}
 use Rattle.plain_acts.proofs.below_lock.Statement.{statement}

@@ -1,5 +1,5 @@
 -- `plain_acts::blame_full` meets its contract. Assumes nothing.
-use mathlib.Core.Path.{_≡_, refl, sym, ap, ap₂, _∙_}
+use mathlib.Core.Path.{ap, _∙_}
 use Rattle.rules.specs.Sizes.{quorum}
 use Rattle.rules.specs.Inputs as inputs
 use Rattle.settings.specs.Made.{settingsOf}

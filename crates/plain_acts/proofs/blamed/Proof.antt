@@ -1,5 +1,4 @@
 -- `plain_acts::blamed` meets its contract. Assumes nothing.
-use native.Mathlib.Omega.{arith}
 use Rattle.plain_tables.proofs.Laws.{given}
 use Rattle.plain_acts.proofs.Laws.{blamed-gives}
 use borrow.Author.Needs.{needs}

@@ -1,9 +1,8 @@
 -- `plain_acts::blames_of` meets its contract. Assumes nothing.
 use native.Mathlib.Omega.{arith}
-use mathlib.Core.Path.{_≡_, refl, sym, ap, ap₂, _∙_}
+use mathlib.Core.Path.{refl}
 use Rattle.rules.specs.Inputs as inputs
 use Rattle.plain_tables.specs.Meaning.{state}
-use borrow.Author.Needs.{needs}
 use Rattle.plain_acts.proofs.blames_of.Statement.{statement}
 use Rattle.plain_acts.proofs.blames_of.Tie as tie
 

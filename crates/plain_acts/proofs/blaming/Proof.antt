@@ -1,8 +1,8 @@
 -- `plain_acts::blaming` meets its contract. Assumes nothing.
-use mathlib.Core.Path.{_≡_, refl, sym, ap, ap₂, _∙_}
+use mathlib.Core.Path.{sym, ap₂, _∙_}
 use native.Mathlib.Omega.{arith}
-use Rattle.wire.specs.Meaning.{statementOf, messageOf}
-use Rattle.outgoing.proofs.Writing.{length-to-all, length-write-most, says-length}
+use Rattle.wire.specs.Meaning.{messageOf}
+use Rattle.outgoing.proofs.Writing.{length-to-all, length-write-most}
 use mathlib.Core.Bool.{_&&_}
 use Rattle.wire.specs.declared.Message.the-variants.{BlameSet}
 use Rattle.plain_acts.proofs.Laws.{only-kept, set-sent}

@@ -1,8 +1,8 @@
 -- `plain_acts::certificate_joined` meets its contract. Assumes nothing.
 use mathlib.Core.Option.{none}
-use Rattle.wire.specs.Meaning.{statementOf, messageOf}
+use Rattle.wire.specs.Meaning.{statementOf}
 use Rattle.plain_words.specs.Meaning.{certificateOf}
-use Rattle.plain_tallies.specs.Meaning.{openerOf, momentOf}
+use Rattle.plain_tallies.specs.Meaning.{momentOf}
 use Rattle.plain_tables.proofs.Laws.{given}
 use Rattle.plain_acts.proofs.Laws.{certificate-gives}
 use borrow.Author.Needs.{needs}

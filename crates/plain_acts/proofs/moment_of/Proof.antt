@@ -1,5 +1,5 @@
 -- `plain_acts::moment_of` meets its contract. Assumes nothing.
-use mathlib.Core.Path.{_≡_, refl, sym, ap, ap₂, _∙_}
+use mathlib.Core.Path.{refl}
 use Rattle.plain_tables.specs.Meaning.{state}
 use Rattle.plain_acts.proofs.moment_of.Statement.{statement}
 use Rattle.plain_acts.proofs.moment_of.Tie as tie

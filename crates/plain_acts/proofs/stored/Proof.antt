@@ -1,9 +1,9 @@
 -- `plain_acts::stored` meets its contract. Assumes nothing.
 use native.Mathlib.Omega.{arith}
 use mathlib.Core.Option.{none}
-use Rattle.wire.specs.Meaning.{statementOf, messageOf}
+use Rattle.wire.specs.Meaning.{statementOf}
 use Rattle.plain_words.specs.Meaning.{certificateOf}
-use Rattle.plain_tallies.specs.Meaning.{openerOf, momentOf}
+use Rattle.plain_tallies.specs.Meaning.{momentOf}
 use Rattle.plain_tallies.proofs.Laws.{certificate-count}
 use Rattle.plain_tables.proofs.Laws.{given}
 use Rattle.plain_acts.proofs.Laws.{stored-gives}

@@ -1,11 +1,11 @@
 -- `plain_acts::voted_for` meets its contract. Assumes nothing.
-use mathlib.Core.Path.{_≡_, refl, sym, ap, ap₂, _∙_}
+use mathlib.Core.Path.{ap, _∙_}
 use native.Mathlib.Omega.{arith}
 use mathlib.Core.Option.{none}
 use Rattle.rules.specs.Words as words
-use Rattle.wire.specs.Meaning.{statementOf, messageOf}
+use Rattle.wire.specs.Meaning.{statementOf}
 use Rattle.plain_words.specs.Meaning.{certificateOf}
-use Rattle.plain_tallies.specs.Meaning.{openerOf, momentOf}
+use Rattle.plain_tallies.specs.Meaning.{momentOf}
 use Rattle.plain_tables.proofs.Laws.{given}
 use Rattle.plain_acts.proofs.Laws.{own-small, voted-gives}
 use borrow.Author.Needs.{needs}

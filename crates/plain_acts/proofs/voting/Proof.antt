@@ -1,7 +1,7 @@
 -- `plain_acts::voting` meets its contract. Assumes nothing.
-use mathlib.Core.Path.{_≡_, refl, sym, ap, ap₂, _∙_}
+use mathlib.Core.Path.{sym, _∙_}
 use mathlib.Core.Option.{none}
-use Rattle.wire.specs.Meaning.{statementOf, messageOf}
+use Rattle.wire.specs.Meaning.{statementOf}
 use Rattle.plain_acts.proofs.Laws.{passed-over, voted-worked}
 use borrow.Author.Needs.{needs}
 use Rattle.plain_acts.proofs.voting.Statement.{statement}

@@ -1,7 +1,7 @@
 -- `plain_messages::both` meets its contract. Assumes nothing.
 use native.Mathlib.Omega.{arith}
 use Rattle.rules.specs.Messages.{toAll}
-use Rattle.wire.specs.Meaning.{statementOf, messageOf}
+use Rattle.wire.specs.Meaning.{messageOf}
 use Rattle.wire.specs.declared.Message.the-variants.{Stated}
 use Rattle.outgoing.proofs.Writing.{length-to-all, length-write-most, says-length}
 use Rattle.plain_acts.proofs.Laws.{says-two}

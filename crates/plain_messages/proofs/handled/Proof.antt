@@ -1,13 +1,13 @@
 -- `plain_messages::handled` meets its contract. Assumes nothing.
-use mathlib.Core.Path.{_≡_, refl, sym, ap, _∙_}
+use mathlib.Core.Path.{refl, sym, ap, _∙_}
 use native.Mathlib.Omega.{arith}
 use mathlib.Core.Option.{none, some}
-use Rattle.rules.specs.Messages.{vote, blame, blameSet, status, allowed}
+use Rattle.rules.specs.Messages.{vote, blame, blameSet, allowed}
 use Rattle.rules.specs.Inputs as inputs
 use Rattle.rules.specs.Words as words
 use Rattle.rules.proofs.Allowed.{allowed-rights}
 use Rattle.fields.specs.Names.{nameOf}
-use Rattle.wire.specs.Meaning.{statementOf, messageOf}
+use Rattle.wire.specs.Meaning.{messageOf}
 use Rattle.wire.specs.declared.Message.{Message}
 use Rattle.plain_words.specs.Meaning.{certificateOf}
 use Rattle.plain_tables.specs.Meaning.{state}

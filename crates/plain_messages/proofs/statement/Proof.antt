@@ -1,10 +1,10 @@
 -- `plain_messages::statement` meets its contract. Assumes nothing.
-use mathlib.Core.Path.{_≡_, refl, sym, ap, _∙_}
+use mathlib.Core.Path.{sym, ap, _∙_}
 use native.Mathlib.Omega.{arith}
-use mathlib.Core.Option.{none, some}
+use mathlib.Core.Option.{none}
 use borrow.Author.Tests.{not-true, not-false}
 use Rattle.rules.specs.Words.{message, conflict}
-use Rattle.wire.specs.Meaning.{statementOf, messageOf}
+use Rattle.wire.specs.Meaning.{statementOf}
 use Rattle.plain_statements.specs.Meaning.{heldOf, foundOf}
 use Rattle.plain_tables.specs.Meaning.{state}
 use Rattle.plain_messages.proofs.Laws.{certifies, links, few-statements, few-tallies, found-linked, stored-room, repeated, elsewhere, against, alone}

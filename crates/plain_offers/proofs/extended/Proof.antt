@@ -1,15 +1,14 @@
 -- `plain_offers::extended` meets its contract. Assumes nothing.
 use lib.Dec.{ltb}
 use Rattle.rules.specs.Limits.{lastHeight}
-use mathlib.Core.Path.{_≡_, refl, sym, ap, ap₂, _∙_}
+use mathlib.Core.Path.{sym, ap, _∙_}
 use native.Mathlib.Omega.{arith}
 use mathlib.Core.Option.{none, some}
-use borrow.Author.Tests.{ltb-true, not-true, not-false}
+use borrow.Author.Tests.{ltb-true}
 use Rattle.rules.specs.Sizes.{quorum}
 use Rattle.rules.specs.Messages as messages
 use Rattle.rules.specs.Words.{message}
 use Rattle.rules.specs.Words as words
-use Rattle.rules.specs.Inputs as inputs
 use Rattle.rules.proofs.Tests.{and-right}
 use Rattle.fields.specs.Names.{nameOf}
 use Rattle.settings.specs.Made.{settingsOf}

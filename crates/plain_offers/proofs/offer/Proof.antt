@@ -1,9 +1,9 @@
 -- `plain_offers::offer` meets its contract. Assumes nothing.
-use mathlib.Core.Path.{_≡_, refl, sym, ap, ap₂, _∙_}
+use mathlib.Core.Path.{sym, ap, _∙_}
 use native.Mathlib.Omega.{arith}
-use borrow.Author.Tests.{ltb-true, not-true, not-false}
+use borrow.Author.Tests.{not-true, not-false}
 use Rattle.fields.specs.Names.{nameOf}
-use Rattle.wire.specs.Meaning.{statementOf, messageOf}
+use Rattle.wire.specs.Meaning.{messageOf}
 use Rattle.wire.specs.declared.Message.the-variants.{Stated}
 use Rattle.plain_tables.specs.Meaning.{state}
 use Rattle.plain_turns.proofs.Laws.{refused-turned, room-turned, turn-as, turn-is}

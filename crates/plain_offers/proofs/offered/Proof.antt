@@ -1,6 +1,6 @@
 -- `plain_offers::offered` meets its contract. Assumes nothing.
-use mathlib.Core.Path.{_≡_, refl, sym, ap, ap₂, _∙_}
-use borrow.Author.Tests.{ltb-true, not-true, not-false}
+use mathlib.Core.Path.{sym, ap, _∙_}
+use borrow.Author.Tests.{not-true, not-false}
 use Rattle.fields.specs.Names.{nameOf}
 use Rattle.plain_statements.specs.Meaning.{heldOf, foundOf}
 use Rattle.plain_tables.specs.Meaning.{state}

@@ -1,11 +1,11 @@
 -- `plain_tallies::better` meets its contract. Assumes nothing.
 use Rattle.settings.specs.Made.{settingsOf}
 use Rattle.plain_tallies.proofs.Laws.{best-own, best-other}
-use mathlib.Core.Path.{_≡_, refl, sym, ap, _∙_}
+use mathlib.Core.Path.{ap, _∙_}
 use Rattle.rules.specs.Words as words
-use Rattle.plain_words.specs.Meaning.{certificateOf, notedOf}
+use Rattle.plain_words.specs.Meaning.{certificateOf}
 use Rattle.rules.specs.Sizes.{quorum}
-use Rattle.plain_tallies.specs.Meaning.{tallyOf, blank, tallies, room, bestOf}
+use Rattle.plain_tallies.specs.Meaning.{tallyOf}
 use borrow.Author.Needs.{needs}
 use Rattle.plain_tallies.proofs.better.Statement.{statement}
 use Rattle.plain_tallies.proofs.better.Tie as tie

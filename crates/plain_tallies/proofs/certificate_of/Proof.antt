@@ -1,7 +1,7 @@
 -- `plain_tallies::certificate_of` meets its contract. Assumes nothing.
 use mathlib.Core.Path.{refl}
-use Rattle.plain_words.specs.Meaning.{certificateOf, notedOf}
-use Rattle.plain_tallies.specs.Meaning.{tallyOf, blank, tallies, room}
+use Rattle.plain_words.specs.Meaning.{certificateOf}
+use Rattle.plain_tallies.specs.Meaning.{tallyOf}
 use Rattle.plain_tallies.proofs.certificate_of.Statement.{statement}
 use Rattle.plain_tallies.proofs.certificate_of.Tie as tie
 

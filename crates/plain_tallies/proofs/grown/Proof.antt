@@ -1,8 +1,7 @@
 -- `plain_tallies::grown` meets its contract. Assumes nothing.
-use mathlib.Core.Path.{_≡_, refl, sym, ap, _∙_}
 use Rattle.rules.specs.Words as words
 use Rattle.rules.specs.Sizes.{joined}
-use Rattle.plain_tallies.specs.Meaning.{tallyOf, blank, tallies, room}
+use Rattle.plain_tallies.specs.Meaning.{tallyOf}
 use borrow.Author.Needs.{needs}
 use Rattle.plain_tallies.proofs.grown.Statement.{statement}
 use Rattle.plain_tallies.proofs.grown.Tie as tie

@@ -1,7 +1,7 @@
 -- `plain_tallies::is_author` meets its contract. Assumes nothing.
-use mathlib.Core.Path.{_≡_, refl, sym, ap, _∙_}
+use mathlib.Core.Path.{sym, ap}
 use Rattle.rules.specs.Words as words
-use Rattle.plain_tallies.specs.Meaning.{tallyOf, blank, tallies, room, openerOf}
+use Rattle.plain_tallies.specs.Meaning.{openerOf}
 use Rattle.plain_tallies.specs.declared.Opener.{Opener}
 use borrow.Author.Needs.{needs}
 use Rattle.plain_tallies.proofs.is_author.Statement.{statement}

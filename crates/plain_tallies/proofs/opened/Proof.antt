@@ -1,8 +1,6 @@
 -- `plain_tallies::opened` meets its contract. Assumes nothing.
-use mathlib.Core.Path.{_≡_, refl, sym, ap, _∙_}
-use Rattle.rules.specs.Words as words
-use Rattle.plain_words.specs.Meaning.{certificateOf, notedOf}
-use Rattle.plain_tallies.specs.Meaning.{tallyOf, blank, tallies, room}
+use Rattle.plain_words.specs.Meaning.{certificateOf}
+use Rattle.plain_tallies.specs.Meaning.{tallyOf}
 use borrow.Author.Needs.{needs}
 use Rattle.plain_tallies.proofs.opened.Statement.{statement}
 use Rattle.plain_tallies.proofs.opened.Tie as tie

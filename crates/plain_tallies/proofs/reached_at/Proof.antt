@@ -1,12 +1,12 @@
 -- `plain_tallies::reached_at` meets its contract. Assumes nothing.
 use Rattle.plain_tallies.proofs.Laws.{reached-now, reached-not}
-use mathlib.Core.Path.{_≡_, refl, sym, ap, _∙_}
+use mathlib.Core.Path.{sym, ap, _∙_}
 use Rattle.rules.specs.Words as words
-use Rattle.plain_words.specs.Meaning.{certificateOf, notedOf}
+use Rattle.plain_words.specs.Meaning.{notedOf}
 use Rattle.rules.specs.Sizes.{quorum}
 use Rattle.settings.specs.Made.{settingsOf}
 use Rattle.plain_words.specs.declared.Noted.{Noted}
-use Rattle.plain_tallies.specs.Meaning.{tallyOf, blank, tallies, room, momentOf}
+use Rattle.plain_tallies.specs.Meaning.{momentOf}
 use borrow.Author.Needs.{needs}
 use Rattle.plain_tallies.proofs.reached_at.Statement.{statement}
 use Rattle.plain_tallies.proofs.reached_at.Tie as tie

@@ -1,5 +1,5 @@
 -- `plain_turns::ahead` meets its contract. Assumes nothing.
-use mathlib.Core.Path.{_≡_, refl, sym, ap, ap₂, _∙_}
+use mathlib.Core.Path.{ap}
 use Prim.Native.Nat.{_+_}
 use lib.Dec.{ltb}
 use Rattle.rules.specs.Refusals as refusals

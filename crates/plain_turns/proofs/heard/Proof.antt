@@ -1,5 +1,5 @@
 -- `plain_turns::heard` meets its contract. Assumes nothing.
-use mathlib.Core.Path.{_≡_, refl, sym, ap, ap₂, _∙_}
+use mathlib.Core.Path.{sym, _∙_}
 use native.Mathlib.Omega.{arith}
 use Rattle.wire.specs.Meaning.{messageOf}
 use Rattle.plain_tables.specs.Meaning.{state}

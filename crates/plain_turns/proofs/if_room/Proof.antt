@@ -1,5 +1,5 @@
 -- `plain_turns::if_room` meets its contract. Assumes nothing.
-use mathlib.Core.Path.{_≡_, refl, sym, ap, ap₂, _∙_}
+use mathlib.Core.Path.{sym, ap, _∙_}
 use mathlib.Core.Bool.{Bool}
 use Rattle.plain_turns.specs.Turns.{refusing, chosen}
 use borrow.Author.Needs.{needs}

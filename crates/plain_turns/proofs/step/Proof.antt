@@ -1,6 +1,5 @@
 -- `plain_turns::step` meets its contract. Assumes nothing.
-use mathlib.Core.Path.{_≡_, refl, sym, ap, ap₂, _∙_}
-use native.Mathlib.Omega.{arith}
+use mathlib.Core.Path.{sym, ap, _∙_}
 use borrow.Author.Tests.{not-true, not-false}
 use Rattle.wire.specs.Meaning.{messageOf, readOf}
 use Rattle.plain_tables.specs.Meaning.{state}

@@ -1,5 +1,5 @@
 -- `plain_turns::view_of` meets its contract. Assumes nothing.
-use mathlib.Core.Path.{_≡_, refl, sym, ap, ap₂, _∙_}
+use mathlib.Core.Path.{sym, ap, _∙_}
 use Rattle.rules.specs.Messages.{viewOf}
 use Rattle.wire.specs.Meaning.{messageOf}
 use Rattle.wire.specs.declared.Message.{Message}

@@ -2,7 +2,7 @@
 use mathlib.Core.Path.{sym, ap, _∙_}
 use Rattle.plain_statements.specs.declared.Found.{Found}
 use Rattle.wire.specs.Meaning.{statementOf}
-use Rattle.plain_statements.specs.Meaning.{heldOf, blank, statements, room, foundOf, over}
+use Rattle.plain_statements.specs.Meaning.{heldOf, foundOf, over}
 use Rattle.plain_statements.proofs.Laws.{over-other, over-none, over-lower, over-greater}
 use borrow.Author.Needs.{needs}
 use Rattle.plain_statements.proofs.Statements.greater.Statement.{statement}

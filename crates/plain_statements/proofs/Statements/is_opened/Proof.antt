@@ -1,14 +1,13 @@
 -- `plain_statements::Statements::is_opened` meets its contract. Assumes nothing.
-use Prim.Native.Nat.{_+_, _-_, _<_, _≤_}
-use mathlib.Core.Path.{_≡_, refl, sym, ap, _∙_}
+use Prim.Native.Nat.{_-_, _≤_}
+use mathlib.Core.Path.{_≡_, refl, sym, _∙_}
 use native.Mathlib.Omega.{arith}
-use lib.ListN.{getD, drop}
+use lib.ListN.{drop}
 use Rattle.rules.specs.Lists.{any}
 use Rattle.plain_words.proofs.Searches.{any-here, any-next, any-done}
 use Rattle.plain_words.proofs.Tables.{long}
 use Rattle.plain_statements.specs.Meaning.{heldOf, blank, statements, room, opens}
 use Rattle.wire.specs.Meaning.{statementOf}
-use borrow.Author.Needs.{needs}
 use Rattle.plain_statements.proofs.Statements.is_opened.Statement.{statement}
 use Rattle.plain_statements.proofs.Statements.is_opened.Tie as tie
 

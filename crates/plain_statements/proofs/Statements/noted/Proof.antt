@@ -2,8 +2,7 @@
 use mathlib.Core.Option.{none}
 use Rattle.rules.specs.Words as words
 use Rattle.wire.specs.Meaning.{statementOf}
-use mathlib.Core.Path.{refl, _∙_}
-use lib.ListN.{length-set, getD}
+use lib.ListN.{getD}
 use Rattle.rules.specs.Inputs as inputs
 use Rattle.plain_statements.proofs.Laws.{noted-held}
 use Rattle.plain_words.proofs.Tables.{altered, unaltered, within-set}

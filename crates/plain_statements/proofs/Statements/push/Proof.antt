@@ -1,5 +1,5 @@
 -- `plain_statements::Statements::push` meets its contract. Assumes nothing.
-use mathlib.Core.Path.{refl, _∙_}
+use mathlib.Core.Path.{_∙_}
 use native.Mathlib.Omega.{arith}
 use lib.ListN.{length-set}
 use Rattle.plain_words.proofs.Firsts.{firsts-more}

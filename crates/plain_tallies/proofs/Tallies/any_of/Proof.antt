@@ -3,7 +3,7 @@ use Prim.Native.Nat.{ℕ}
 use mathlib.Core.Path.{ap, _∙_}
 use lib.Dec.{ltb}
 use Rattle.rules.specs.Words as words
-use Rattle.plain_words.specs.Meaning.{certificateOf, notedOf}
+use Rattle.plain_words.specs.Meaning.{certificateOf}
 use Rattle.plain_words.proofs.Tables.{is-any}
 use Rattle.plain_tallies.specs.Meaning.{tallyOf, blank, tallies, room}
 use borrow.Author.Needs.{needs}

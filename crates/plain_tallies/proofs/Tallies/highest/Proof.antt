@@ -1,10 +1,10 @@
 -- `plain_tallies::Tallies::highest` meets its contract. Assumes nothing.
-use Prim.Native.Nat.{ℕ, _+_, _-_, _<_, _≤_}
-use mathlib.Core.Path.{_≡_, refl, sym, ap, _∙_}
+use Prim.Native.Nat.{_-_, _≤_}
+use mathlib.Core.Path.{_≡_, sym, ap, _∙_}
 use native.Mathlib.Omega.{arith}
 use lib.ListN.{getD, drop}
 use Rattle.rules.specs.Words as words
-use Rattle.plain_words.specs.Meaning.{certificateOf, notedOf}
+use Rattle.plain_words.specs.Meaning.{certificateOf}
 use Rattle.settings.specs.Made.{settingsOf}
 use Rattle.plain_words.proofs.Firsts.{firsts-back, firsts-done}
 use Rattle.plain_words.proofs.Tables.{long}

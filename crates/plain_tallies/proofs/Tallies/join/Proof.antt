@@ -1,8 +1,6 @@
 -- `plain_tallies::Tallies::join` meets its contract. Assumes nothing.
-use mathlib.Core.Path.{_≡_, refl, sym, ap, _∙_}
-use Rattle.rules.specs.Words as words
-use Rattle.plain_words.specs.Meaning.{certificateOf, notedOf}
-use Rattle.plain_tallies.specs.Meaning.{tallyOf, blank, tallies, room, momentOf}
+use Rattle.plain_words.specs.Meaning.{certificateOf}
+use Rattle.plain_tallies.specs.Meaning.{tallies, room, momentOf}
 use Rattle.plain_words.proofs.Tables.{within-set, within-more}
 use Rattle.plain_tallies.proofs.Laws.{joined-here, joined-new}
 use borrow.Author.Needs.{needs}

@@ -1,10 +1,8 @@
 -- `plain_tallies::Tallies::join_certificate` meets its contract. Assumes nothing.
 use Rattle.plain_tallies.proofs.Laws.{join-none, join-other}
-use mathlib.Core.Path.{_≡_, refl, sym, ap, _∙_}
-use Rattle.rules.specs.Words as words
-use Rattle.plain_words.specs.Meaning.{certificateOf, notedOf}
-use borrow.Author.Tests.{eq-eqb, ne-eqb}
-use Rattle.plain_tallies.specs.Meaning.{tallyOf, blank, tallies, room, momentOf}
+use mathlib.Core.Path.{_∙_}
+use Rattle.plain_words.specs.Meaning.{certificateOf}
+use Rattle.plain_tallies.specs.Meaning.{tallies, momentOf}
 use borrow.Author.Needs.{needs}
 use Rattle.plain_tallies.proofs.Tallies.join_certificate.Statement.{statement}
 use Rattle.plain_tallies.proofs.Tallies.join_certificate.Tie as tie

@@ -1,9 +1,8 @@
 -- `plain_tallies::Tallies::opened_by` meets its contract. Assumes nothing.
-use Prim.Native.Nat.{ℕ, _+_, _-_, _<_, _≤_}
-use mathlib.Core.Path.{_≡_, refl, sym, ap, _∙_}
+use Prim.Native.Nat.{ℕ, _+_, _-_, _≤_}
+use mathlib.Core.Path.{_≡_, sym, ap, _∙_}
 use native.Mathlib.Omega.{arith}
 use lib.ListN.{getD, drop}
-use mathlib.Core.List.{_∷_}
 use Rattle.rules.specs.Words as words
 use Rattle.plain_words.proofs.Firsts.{firsts-back, firsts-done}
 use Rattle.plain_words.proofs.Tables.{long}

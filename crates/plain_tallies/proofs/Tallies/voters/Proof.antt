@@ -1,6 +1,6 @@
 -- `plain_tallies::Tallies::voters` meets its contract. Assumes nothing.
-use Rattle.plain_words.specs.Meaning.{certificateOf, notedOf}
-use Rattle.plain_tallies.specs.Meaning.{tallyOf, blank, tallies, room}
+use Rattle.plain_words.specs.Meaning.{certificateOf}
+use Rattle.plain_tallies.specs.Meaning.{tallyOf}
 use Rattle.plain_tallies.proofs.Laws.{voters-here, voters-none}
 use borrow.Author.Needs.{needs}
 use Rattle.plain_tallies.proofs.Tallies.voters.Statement.{statement}
