@@ -1,7 +1,7 @@
 -- What a station does in the view that it has entered, and that it may. Assumes nothing.
-use Prim.Native.Nat.{ℕ, _+_, _<_, _≤_}
+use Prim.Native.Nat.{ℕ, _+_, _≤_}
 use mathlib.Core.Path.{_≡_, refl, sym, ap, subst, _∙_}
-use mathlib.Core.Bool.{Bool, true, false}
+use mathlib.Core.Bool.{true, false}
 use mathlib.Core.List.{List, [], _∷_, List·Memᴰ as Mem}
 use mathlib.Core.Option.{none, some}
 use native.Mathlib.Omega.{arith}
@@ -11,10 +11,9 @@ use Rattle.rules.specs.Limits.{lastView, lastViewSmall}
 use Rattle.rules.specs.Lists.{any, keep}
 use Rattle.rules.specs.Sizes.{leader}
 use Rattle.rules.specs.Messages.{allowed, toAll, toOne, blameSet, status, effect, outgoing}
-use Rattle.rules.specs.Words as words
-use Rattle.rules.specs.Words.{Statement, message, ofBlock, ownBlock, certificate, State}
+use Rattle.rules.specs.Words.{Statement, message, ofBlock, ownBlock, State}
 use Rattle.rules.specs.Inputs as inputs
-use Rattle.rules.specs.Inputs.{_▸_, pair, inOrder, votingAll, arrive, entersNow, nextLock, report, entered, enter}
+use Rattle.rules.specs.Inputs.{pair, inOrder, votingAll, arrive, entersNow, nextLock, report, entered, enter}
 use Rattle.rules.specs.WellFormed.{isName, statementGood, talliesThere}
 use Rattle.rules.proofs.Tests.{by-bool}
 use Rattle.rules.proofs.Truths.{and-2, and-4}
@@ -28,17 +27,16 @@ use Rattle.kept.proofs.Lengths.{bytes, bytes-cons, bytes-none, length-effect}
 use Rattle.kept.proofs.Tallies.{highest-good}
 use Rattle.kept.proofs.Phases.{entering-formed}
 use Rattle.settings.specs.Made.{settingsOf}
-use Rattle.wire.specs.Meaning.{statementOf, Linked}
+use Rattle.wire.specs.Meaning.{Linked}
 use Rattle.outgoing.specs.Wrote.{Says}
 use Rattle.outgoing.proofs.Writing.{says-none, says-one, says-length, length-to-one, length-write-most}
 use Rattle.plain_statements.specs.declared.Held.{Held}
 use Rattle.plain_statements.specs.declared.Statements.{Statements}
-use Rattle.plain_statements.specs.Meaning as statementRoom
 use Rattle.plain_statements.specs.Meaning.{heldOf, statements}
 use Rattle.plain_tallies.specs.Meaning.{tallies}
 use Rattle.plain_tallies.proofs.Laws.{tally-count}
 use Rattle.plain_tables.specs.declared.Engine.{Engine}
-use Rattle.plain_tables.specs.Meaning.{state, Sized, Gives}
+use Rattle.plain_tables.specs.Meaning.{state, Gives}
 use Rattle.plain_acts.specs.declared.Work.{Work}
 use Rattle.plain_acts.specs.Works.{Worked}
 use Rattle.plain_messages.proofs.Laws.{certifies}

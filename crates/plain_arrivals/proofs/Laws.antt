@@ -8,18 +8,15 @@ use native.Mathlib.Omega.{arith}
 use lib.ListN.{length, getD, drop}
 use Rattle.rules.specs.Lists.{any}
 use Rattle.rules.specs.Sizes.{only}
-use Rattle.rules.specs.Messages.{Message, vote, toAll, outgoing}
+use Rattle.rules.specs.Messages.{vote, toAll, outgoing}
 use Rattle.rules.specs.Words as words
 use Rattle.rules.specs.Words.{Statement, Moment, Certificate, Tally, ofBlock, ownBlock, sameBlock, join, message, moment, State}
 use Rattle.rules.specs.Inputs as inputs
 use Rattle.rules.specs.Inputs.{_▸_, voting, votingAll}
 use Rattle.rules.proofs.Tests.{by-bool, no-bool}
-use Rattle.kept.specs.Said.{Each}
 use Rattle.kept.proofs.Lengths.{bytes, bytes-cons, bytes-none, length-effect}
 use Rattle.kept.proofs.Tallies.{join-any}
 use Rattle.wire.specs.Meaning.{statementOf, Linked}
-use Rattle.wire.specs.declared.Statement as wire
-use Rattle.outgoing.specs.Wrote.{Says}
 use Rattle.outgoing.proofs.Writing.{says-none, says-outgoing, says-length, length-to-all, length-write-most}
 use Rattle.plain_words.specs.Meaning.{Certifies}
 use Rattle.plain_words.specs.Places.{Within}
@@ -31,7 +28,7 @@ use Rattle.plain_tallies.specs.Meaning as tallyRoom
 use Rattle.plain_tallies.specs.Meaning.{tallies}
 use Rattle.plain_tallies.proofs.Laws.{tally-count}
 use Rattle.plain_tables.specs.declared.Engine.{Engine}
-use Rattle.plain_tables.specs.Meaning.{state, Sized, Gives}
+use Rattle.plain_tables.specs.Meaning.{state, Sized}
 use Rattle.plain_acts.specs.declared.Work.{Work}
 use Rattle.plain_acts.specs.Works.{Worked}
 use Rattle.plain_arrivals.specs.Votable.{Votable, Votables}
@@ -47,13 +44,13 @@ then-worked w f {o} {o₁} {left} {at} {r} {q} p d =
 
 -- ---- a vote opens no tally, and loses none
 
-pub join-same : (k : Moment) (t : Certificate) (us : List Tally) → any (ofBlock t) us ≡ true → length (join k t us) ≡ length us
+join-same : (k : Moment) (t : Certificate) (us : List Tally) → any (ofBlock t) us ≡ true → length (join k t us) ≡ length us
 unfolding any join
 join-same k t [] e = no-bool (sym e)
 join-same k t (u ∷ us) e = by-bool (ofBlock t u) (λ q. rw (q, join)) (λ q. rw (q, join) (ap suc (join-same k t us (rw (q, any) at e))))
 
 module _ (x : Statement) (s : State) where
-  pub voting-any : (t : Certificate) → any (ofBlock t) (s .tallies) ≡ true → any (ofBlock t) (voting x s .now .tallies) ≡ true
+  voting-any : (t : Certificate) → any (ofBlock t) (s .tallies) ≡ true → any (ofBlock t) (voting x s .now .tallies) ≡ true
   unfolding voting inputs.saying inputs.votedFor inputs.withTables
   voting-any t e = by-bool (inputs.belowLock x s) (λ q. rw (q, voting) e) (λ q. rw (q, voting) (join-any (moment none s) (ownBlock x (only (s .settings .own))) t (s .tallies) e))
 

@@ -2,11 +2,10 @@
 use Prim.Native.Nat.{ℕ, _+_, _<_, _≤_}
 use mathlib.Core.Path.{_≡_, refl, sym, ap, subst, _∙_}
 use mathlib.Core.Bool.{true, false}
-use mathlib.Core.List.{List, _++_}
+use mathlib.Core.List.{List}
 use mathlib.Core.Option.{Option, none, some}
 use native.Mathlib.Omega.{arith}
 use lib.ListN.{length, length-append}
-use lib.Dec.{eqb}
 use borrow.Author.Tests.{eq-eqb, ne-eqb}
 use Rattle.rules.specs.Limits.{lastClock, leastOut, leastOutSmall}
 use Rattle.rules.specs.Messages.{outgoing}
@@ -18,18 +17,14 @@ use Rattle.rules.specs.WellFormed.{wellFormed}
 use Rattle.rules.proofs.Bounds.{out-enough}
 use Rattle.rules.proofs.Commits.{commits-some}
 use Rattle.rules.proofs.Moves.{counted, ticked-none, ticked-some}
-use Rattle.kept.specs.Parts.{Formed, WellFormed}
 use Rattle.kept.proofs.WellFormed.{parts, whole}
 use Rattle.kept.proofs.Phases.{clocks-parts, clock-formed}
 use Rattle.kept.proofs.Logs.{commits-linked}
 use Rattle.kept.proofs.Reports.{due-stored}
 use Rattle.kept.proofs.Ticking.{ticked-bytes}
 use Rattle.kept.proofs.Calls.{tick-whole}
-use Rattle.settings.specs.Made.{settingsOf}
 use Rattle.plain_tables.specs.declared.Cause.{Cause}
-use Rattle.plain_tables.specs.declared.Cause.the-variants.{Split, Clock}
 use Rattle.plain_tables.specs.declared.Phase.the-variants.{Stopped}
-use Rattle.plain_tables.specs.declared.Names.{Names}
 use Rattle.plain_tables.specs.declared.Engine.{Engine}
 use Rattle.plain_tables.specs.Meaning.{names, causeOf, state, Sized, Gives}
 use Rattle.plain_tables.proofs.Laws.{gives-phase}

@@ -1,28 +1,26 @@
 -- What each rule of a tick leaves to the next: a whole station, and room in the out buffer. Assumes nothing.
-use Prim.Native.Nat.{ℕ, suc, _+_, _-_, _*_, _<_, _≤_}
-use mathlib.Core.Path.{_≡_, refl, sym, ap, subst, _∙_}
-use mathlib.Core.Bool.{true, false, _&&_}
-use mathlib.Core.List.{List, [], _∷_}
-use mathlib.Core.Option.{none, some}
+use Prim.Native.Nat.{ℕ, suc, _+_, _-_, _≤_}
+use mathlib.Core.Path.{_≡_, refl, sym, ap, subst}
+use mathlib.Core.Bool.{true, _&&_}
+use mathlib.Core.List.{List}
+use mathlib.Core.Option.{none}
 use native.Mathlib.Omega.{arith}
 use lib.ListN.{length, drop, length-drop}
-use Rattle.rules.specs.Limits.{lastViewSmall, leastOutSmall, mostStatements, mostTallies, mostTalliesSmall}
+use Rattle.rules.specs.Limits.{lastViewSmall, leastOutSmall}
 use Rattle.rules.specs.Lists.{first, any}
-use Rattle.rules.specs.Sizes.{Settings, only}
+use Rattle.rules.specs.Sizes.{only}
 use Rattle.rules.specs.Words as words
-use Rattle.rules.specs.Words.{Statement, ofBlock, ownBlock, certificate, sameStatement, conflict, join, joinCertificate, moment, State}
+use Rattle.rules.specs.Words.{Statement, ofBlock, ownBlock, certificate, sameStatement, conflict, joinCertificate, moment, State}
 use Rattle.rules.specs.Inputs as inputs
 use Rattle.rules.specs.Inputs.{_▸_, logging, complain, lead, enter}
 use Rattle.rules.proofs.Tests.{by-bool, by-option}
 use Rattle.kept.specs.Parts.{Formed, WellFormed}
 use Rattle.kept.proofs.WellFormed.{parts, whole}
-use Rattle.kept.proofs.Lengths.{bytes, reports-bytes}
+use Rattle.kept.proofs.Lengths.{reports-bytes}
 use Rattle.kept.proofs.Tallies.{block-self, join-there}
-use Rattle.kept.proofs.Keeps.{Keeps}
 use Rattle.kept.proofs.Ticks.{logging-keeps, complain-keeps, lead-keeps}
 use Rattle.kept.proofs.Room.{complain-bytes, lead-bytes}
 use Rattle.outgoing.proofs.Writing.{says-length}
-use Rattle.plain_tallies.specs.Meaning as tallyRoom
 use Rattle.plain_tallies.specs.Meaning.{tallies}
 use Rattle.plain_tallies.proofs.Laws.{tally-count, join-long, certificate-long}
 use Rattle.plain_tables.specs.declared.Names.{Names}

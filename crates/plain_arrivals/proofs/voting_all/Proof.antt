@@ -1,12 +1,11 @@
 -- `plain_arrivals::voting_all` meets its contract: what is left is still to be voted on. Assumes nothing.
-use Prim.Native.Nat.{_+_, _-_}
+use Prim.Native.Nat.{_-_}
 use mathlib.Core.Path.{refl}
 use native.Mathlib.Omega.{arith}
 use lib.ListN.{getD}
 use Rattle.plain_statements.specs.Meaning.{blank}
 use Rattle.plain_tables.specs.Meaning.{state}
 use Rattle.plain_arrivals.proofs.Laws.{Voting, held-certifies, held-linked, next-votable, votes-end, votes-again}
-use borrow.Author.Needs.{needs}
 use Rattle.plain_arrivals.proofs.voting_all.Statement.{statement}
 use Rattle.plain_arrivals.proofs.voting_all.Tie as tie
 

@@ -1,5 +1,4 @@
 -- `plain_ticks::ticked` meets its contract. Assumes nothing.
-use mathlib.Core.Path.{sym, _∙_}
 use native.Mathlib.Omega.{arith}
 use borrow.Author.Tests.{not-true, not-false}
 use Rattle.plain_tables.specs.Meaning.{names, state}

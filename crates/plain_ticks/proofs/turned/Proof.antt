@@ -4,7 +4,6 @@ use native.Mathlib.Omega.{arith}
 use Rattle.outgoing.proofs.Writing.{says-length}
 use Rattle.plain_tables.specs.Meaning.{names, state}
 use Rattle.plain_ticks.proofs.Turning.{logged-whole, logged-space, whole-view, complained-whole, complained-space, led-ready, led-space, turned-worked}
-use borrow.Author.Needs.{needs}
 use Rattle.plain_ticks.proofs.turned.Statement.{statement}
 use Rattle.plain_ticks.proofs.turned.Tie as tie
 
