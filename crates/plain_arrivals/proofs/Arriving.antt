@@ -34,7 +34,6 @@ use Rattle.plain_statements.specs.declared.Held.{Held}
 use Rattle.plain_statements.specs.declared.Statements.{Statements}
 use Rattle.plain_statements.specs.Meaning.{heldOf, statements}
 use Rattle.plain_tallies.specs.Meaning.{tallies}
-use Rattle.plain_tallies.proofs.Laws.{tally-count}
 use Rattle.plain_tables.specs.declared.Engine.{Engine}
 use Rattle.plain_tables.specs.Meaning.{state, Gives}
 use Rattle.plain_acts.specs.declared.Work.{Work}
@@ -42,7 +41,7 @@ use Rattle.plain_acts.specs.Works.{Worked}
 use Rattle.plain_messages.proofs.Laws.{certifies}
 use Rattle.plain_orders.specs.Picks.{isOf}
 use Rattle.plain_arrivals.specs.Votable.{Votable, Votables, votesLong, Ready}
-use Rattle.plain_arrivals.proofs.Laws.{then-worked, held-linked}
+use Rattle.plain_arrivals.proofs.Laws.{then-worked, given-count, held-linked}
 
 -- ---- a stored statement may be voted on
 
@@ -75,7 +74,9 @@ module _ (e : Engine) (k : Ready e) where
         let (_, i, j) = pair-some (statements now) (heldOf x, heldOf y) (sym p) in
         let stored : (z : Statement) → Mem z (statements now) → Mem z (statements (e .statements)) =
         λ z m. mem-keep (isOf (e .view)) (statements (e .statements)) z (subst (λ (l : List Statement). Mem z l) c m) .0 in
-        (held-linked x (stored-votable (k .formed) (heldOf x) (stored (heldOf x) i) .certifies), held-linked y (stored-votable (k .formed) (heldOf y) (stored (heldOf y) j) .certifies))
+        let linked : (z : Held) → Mem (heldOf z) (statements now) → Linked (z .statement) =
+        λ z m. held-linked z (stored-votable (k .formed) (heldOf z) (stored (heldOf z) m) .certifies) in
+        (linked x i, linked y j)
 
     pub order-votable : (order : Statements) → statements order ≡ inOrder (statements now) → Votables (state e .tallies) (statements order)
     order-votable order o =
@@ -86,13 +87,15 @@ module _ (e : Engine) (k : Ready e) where
 
 module _ (e : Engine) (o : List ℕ) (at : ℕ) where
   pub arrives-full : {r : Engine} {next m : ℕ} {left : List ℕ} → inputs.blameFull (e .view) (state e) ≡ true → m ≡ inputs.blamesOf (e .view) (state e)
-      → Says o at (effect (toAll (blameSet (e .view) m))) left next → Gives r (inputs.quit [] (state e) .now) → Worked (arrive (state e)) o at (record { engine = r; at = next }) left
+      → Says o at (effect (toAll (blameSet (e .view) m))) left next → Gives r (inputs.quit [] (state e) .now)
+      → Worked (arrive (state e)) o at (record { engine = r; at = next }) left
   unfolding arrive inputs.quit inputs.saying state
   arrives-full {r} {next} {m} {left} q b y g =
       rw (q, arrive)
       (record {
         now = g;
-        says = says-one o at (toAll (blameSet (e .view) (inputs.blamesOf (e .view) (state e)))) left next (subst (λ (j : ℕ). Says o at (effect (toAll (blameSet (e .view) j))) left next) b y);
+        says = says-one o at (toAll (blameSet (e .view) (inputs.blamesOf (e .view) (state e)))) left next
+            (subst (λ (j : ℕ). Says o at (effect (toAll (blameSet (e .view) j))) left next) b y);
       })
 
   module _ (q : inputs.blameFull (e .view) (state e) ≡ false) (now : Statements) (c : statements now ≡ inputs.current (state e)) where
@@ -139,7 +142,7 @@ module _ (e : Engine) (k : Ready e) (o : List ℕ) (at : ℕ) where
         record {
           sized = d .now .sized;
           formed = subst Formed (sym (d .now .is)) (entered-formed (k .formed) q);
-          free = omega (arith, k .free, tally-count (e .tallies) (k .sized .tallies), tally-count (w .engine .tallies) (d .now .sized .tallies), ap (λ (s : State). length (s .tallies)) (d .now .is));
+          free = omega (arith, k .free, given-count {r = e} (record { sized = k .sized; is = refl }), given-count (d .now));
         }
 
     pub entered-space : at + 200 + votesLong ≤ length o → w .at + votesLong ≤ length o₁

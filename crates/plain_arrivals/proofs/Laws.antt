@@ -28,7 +28,7 @@ use Rattle.plain_tallies.specs.Meaning as tallyRoom
 use Rattle.plain_tallies.specs.Meaning.{tallies}
 use Rattle.plain_tallies.proofs.Laws.{tally-count}
 use Rattle.plain_tables.specs.declared.Engine.{Engine}
-use Rattle.plain_tables.specs.Meaning.{state, Sized}
+use Rattle.plain_tables.specs.Meaning.{state, Sized, Gives}
 use Rattle.plain_acts.specs.declared.Work.{Work}
 use Rattle.plain_acts.specs.Works.{Worked}
 use Rattle.plain_arrivals.specs.Votable.{Votable, Votables}
@@ -41,6 +41,11 @@ unfolding _▸_
 then-worked w f {o} {o₁} {left} {at} {r} {q} p d =
     let v : Worked (f (w .now)) o₁ (r .at) q left = subst (λ (s : State). Worked (f s) o₁ (r .at) q left) (p .now .is) d in
     record { now = v .now; says = says-outgoing o at (w .out) (f (w .now) .out) o₁ left (r .at) (q .at) (p .says) (v .says) }
+
+-- as many tallies as the state has
+pub given-count : {r : Engine} {s : State} → Gives r s → r .tallies .count ≡ length (s .tallies)
+unfolding state
+given-count {r} g = sym (tally-count (r .tallies) (g .sized .tallies)) ∙ ap (λ (s : State). length (s .tallies)) (g .is)
 
 -- ---- a vote opens no tally, and loses none
 
@@ -71,8 +76,18 @@ module _ (x : Statement) (s : State) where
       let m = message x in
       let n = vote (x .view) (x .height) (x .name) (s .settings .own) in
       rw (q, voting)
-      (omega
-      (arith, bytes-cons (toAll m) (toAll n ∷ []), bytes-cons (toAll n) [], bytes-none, length-effect (toAll m), length-effect (toAll n), length-to-all m, length-to-all n, length-write-most m, length-write-most n)))
+      (omega (
+        arith,
+        bytes-cons (toAll m) (toAll n ∷ []),
+        bytes-cons (toAll n) [],
+        bytes-none,
+        length-effect (toAll m),
+        length-effect (toAll n),
+        length-to-all m,
+        length-to-all n,
+        length-write-most m,
+        length-write-most n,
+      )))
 
 -- no vote matters
 voting-held : (h : Held) (s : State) → voting (statementOf (h .statement) none) s ≡ voting (heldOf h) s
@@ -99,7 +114,8 @@ pub record Voting (xs : Statements) (e : Engine) (o₀ : List ℕ) (at : ℕ) (o
   pub votable : Votables (state g .tallies) (drop i (statements xs))
   pub does : (o′ : List ℕ) (r : Work) → Worked (votingAll (drop i (statements xs)) (state g)) o next r o′ → Worked (votingAll (statements xs) (state e)) o₀ at r o′
 
-pub votes-end : (xs : Statements) (g : Engine) (o : List ℕ) (i next : ℕ) → Sized g → xs .count ≤ i → Worked (votingAll (drop i (statements xs)) (state g)) o next (record { engine = g; at = next }) o
+pub votes-end : (xs : Statements) (g : Engine) (o : List ℕ) (i next : ℕ) → Sized g → xs .count ≤ i
+    → Worked (votingAll (drop i (statements xs)) (state g)) o next (record { engine = g; at = next }) o
 unfolding statements votingAll inputs.saying outgoing
 votes-end xs g o i next k h =
     subst (λ (l : List Statement). Worked (votingAll l (state g)) o next (record { engine = g; at = next }) o) (sym (firsts-done heldOf (xs .items) (xs .count) i h))
@@ -124,6 +140,7 @@ module _ (xs : Statements) (w : Within room (xs .items) (xs .count)) (d : Held) 
     unfolding state
     votes-again v p =
         let x = heldOf (getD (xs .items) i d) in
+        let ys = drop (i + 1) (statements xs) in
         let all = subst (Votables (tallies (g .tallies))) rest (v .votable) in
         let p′ : Worked (voting x (state g)) o next r o₁ = subst (λ (z : inputs.Work). Worked z o next r o₁) (voting-held (getD (xs .items) i d) (state g)) p in
         let same : tallies (r .engine .tallies) ≡ voting x (state g) .now .tallies = ap (λ (s : State). s .tallies) (p′ .now .is) in
@@ -132,7 +149,7 @@ module _ (xs : Statements) (w : Within room (xs .items) (xs .count)) (d : Held) 
           long = says-length (p′ .says) ∙ v .long;
           space = omega (arith, v .space, p′ .says .ends, says-length (p′ .says), voting-bytes x (state g));
           sized = p′ .now .sized;
-          free = omega (arith, v .free, tally-count (g .tallies) (v .sized .tallies), tally-count (r .engine .tallies) (p′ .now .sized .tallies), ap length same, voting-count x (state g) (all .0 .there));
-          votable = subst (λ (ts : List Tally). Votables ts (drop (i + 1) (statements xs))) (sym same) (voting-votable x (state g) (drop (i + 1) (statements xs)) (all .1));
-          does = λ o′ q z. v .does o′ q (subst (λ (l : List Statement). Worked (votingAll l (state g)) o next q o′) (sym rest) (votes-on x (drop (i + 1) (statements xs)) (state g) p′ z));
+          free = omega (arith, v .free, given-count (record { sized = v .sized; is = refl }), given-count (p′ .now), voting-count x (state g) (all .0 .there));
+          votable = subst (λ (ts : List Tally). Votables ts ys) (sym same) (voting-votable x (state g) ys (all .1));
+          does = λ o′ q z. v .does o′ q (subst (λ (l : List Statement). Worked (votingAll l (state g)) o next q o′) (sym rest) (votes-on x ys (state g) p′ z));
         }

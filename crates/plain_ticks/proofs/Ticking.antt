@@ -96,7 +96,8 @@ module _ (s : State) where
   unfolding ticking
   ticking-split q = rw (ticked-none s q, ticking)
 
-  pub ticking-done : (l : List ℕ) → inputs.commits (counted s .statements) (inputs.due (counted s)) (counted s .log) ≡ some l → ticking s ≡ refusals.ifRoom s (turning l (counted s))
+  pub ticking-done : (l : List ℕ) → inputs.commits (counted s .statements) (inputs.due (counted s)) (counted s .log) ≡ some l
+      → ticking s ≡ refusals.ifRoom s (turning l (counted s))
   unfolding ticking turning
   ticking-done l q = rw (ticked-some s l q, ticking)
 
@@ -132,7 +133,8 @@ module _ (e : Engine) (k : Whole e) where
     turning-short : length (outgoing (turning l (counted (state e)) .out)) ≤ leastOutSmall
     unfolding turning
     turning-short =
-        let b = ticked-bytes (parts (state e) (k .formed)) r (earlier e c) (ticked-some (state e) l q) in omega (arith, b, out-enough (state e .settings .size), small-out e (k .sized))
+        let b = ticked-bytes (parts (state e) (k .formed)) r (earlier e c) (ticked-some (state e) l q) in
+        omega (arith, b, out-enough (state e .settings .size), small-out e (k .sized))
 
     pub ticked-turned : (o : List ℕ) → leastOutSmall ≤ length o → (w : Work) (left : List ℕ) → Worked (turning l (counted (state e))) o 0 w left
         → Turned (ticking (state e)) (chosen (refusals.hasRoom (state (w .engine))) e w) left

@@ -22,7 +22,7 @@ use Rattle.kept.proofs.Ticks.{logging-keeps, complain-keeps, lead-keeps}
 use Rattle.kept.proofs.Room.{complain-bytes, lead-bytes}
 use Rattle.outgoing.proofs.Writing.{says-length}
 use Rattle.plain_tallies.specs.Meaning.{tallies}
-use Rattle.plain_tallies.proofs.Laws.{tally-count, join-long, certificate-long}
+use Rattle.plain_tallies.proofs.Laws.{join-long, certificate-long}
 use Rattle.plain_tables.specs.declared.Names.{Names}
 use Rattle.plain_tables.specs.declared.Engine.{Engine}
 use Rattle.plain_tables.specs.Meaning.{names, state, Gives}
@@ -32,7 +32,7 @@ use Rattle.plain_messages.specs.Whole.{Whole}
 use Rattle.plain_messages.proofs.Laws.{view-small, few-tallies}
 use Rattle.plain_logs.proofs.Saying.{counted}
 use Rattle.plain_arrivals.specs.Votable.{votesLong, Ready}
-use Rattle.plain_arrivals.proofs.Laws.{then-worked, voting-count}
+use Rattle.plain_arrivals.proofs.Laws.{then-worked, given-count, voting-count}
 use Rattle.plain_ticks.specs.Ticks.{Keepable, turning}
 
 -- ---- the tables
@@ -78,11 +78,15 @@ unfolding lead inputs.saying inputs.handled inputs.ownNewView
 lead-few s =
     let t = words.highest (s .settings) (s .view) (s .tallies) in
     by-bool (inputs.leadsNow s)
-    (λ q. rw (q, lead) (statement-few (record { isNewView = true; view = s .view; height = t .height; name = t .name; link = t .view; mask = t .mask; author = s .settings .own; voted = none }) s))
+    (λ q.
+    rw (q, lead)
+    (statement-few
+    (record { isNewView = true; view = s .view; height = t .height; name = t .name; link = t .view; mask = t .mask; author = s .settings .own; voted = none }) s))
     (λ q. rw (q, lead) (omega arith))
 
 -- a station in a state that is formed, with no more in its tables than a well-formed one had
-same-whole : {s : State} (e : Engine) {t : State} → WellFormed s → Gives e t → Formed t → t .settings ≡ s .settings → t .statements ≡ s .statements → t .tallies ≡ s .tallies → Whole e
+same-whole : {s : State} (e : Engine) {t : State} → WellFormed s → Gives e t → Formed t → t .settings ≡ s .settings → t .statements ≡ s .statements
+    → t .tallies ≡ s .tallies → Whole e
 same-whole {s} e {t} w g f c x y =
     record {
       sized = g .sized;
@@ -133,8 +137,7 @@ module _ (e : Engine) (k : Whole e) (o : List ℕ) (at : ℕ) {w : Work} {o₁ :
         sized = d .now .sized;
         formed = subst Formed (sym (d .now .is)) (lead-keeps (parts (state e) (k .formed) .formed) .formed);
         free =
-            omega
-            (arith, lead-few (state e), few-tallies e k, tally-count (e .tallies) (k .sized .tallies), tally-count (w .engine .tallies) (d .now .sized .tallies), ap (λ (s : State). length (s .tallies)) (d .now .is));
+            omega (arith, lead-few (state e), few-tallies e k, given-count {r = e} (record { sized = k .sized; is = refl }), given-count (d .now));
       }
 
   pub led-space : Worked (lead (state e)) o at w o₁ → at + 200 + 200 + votesLong ≤ length o → w .at + 200 + votesLong ≤ length o₁
