@@ -96,7 +96,7 @@ module _ (s : State) where
   unfolding ticking
   ticking-split q = rw (ticked-none s q, ticking)
 
-  pub ticking-done : (l : List ℕ) → inputs.commits (counted s .statements) (inputs.due (counted s)) (counted s .log) ≡ some l
+  ticking-done : (l : List ℕ) → inputs.commits (counted s .statements) (inputs.due (counted s)) (counted s .log) ≡ some l
       → ticking s ≡ refusals.ifRoom s (turning l (counted s))
   unfolding ticking turning
   ticking-done l q = rw (ticked-some s l q, ticking)
