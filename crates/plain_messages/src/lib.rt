@@ -22,7 +22,7 @@ ghost use Rattle.plain_acts.specs.Works.{Worked};
 ghost use Rattle.plain_messages.specs.Whole.{Whole};
 
 // Two statements to all, the earlier first.
-fn both(first: Statement, second: Statement, out: &mut [u8], at: usize) -> usize
+pub fn both(first: Statement, second: Statement, out: &mut [u8], at: usize) -> usize
     requires { ⌜ (Linked first) × (Linked second) × (at + 200 ≤ length (now out)) ⌝ }
     ensures { λ r. ⌜ Says (now (out .entry)) at (outgoing (toAll (said (statementOf first none)) ∷ toAll (said (statementOf second none)) ∷ [])) (now (out .exit)) r ⌝ }
 {

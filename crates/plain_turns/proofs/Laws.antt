@@ -89,16 +89,22 @@ said o bs left end h s =
     let z : end ≡ length bs = s .ends ∙ zero-add (length bs) in
     (z, ap₂ (λ (n : ℕ) (l : List ℕ). take n l) z (s .out ∙ wrote-prefix o bs h) ∙ take-append-seam bs (drop (length bs) o))
 
-module _ (e : Engine) (k : Sized e) (m : messages.Message) (o : List ℕ) (h : 200 ≤ length o) (w : Work) (left : List ℕ) (d : Worked (inputs.handled m (state e)) o 0 w left) where
-  pub room-turned : Turned (refusals.ifRoom (state e) (inputs.handled m (state e))) (chosen (refusals.hasRoom (state (w .engine))) e w) left
+module _ (e : Engine) (k : Sized e) where
+  -- of a rule's work that the buffer has room for
+  pub work-turned : (u : inputs.Work) (o : List ℕ) → length (outgoing (u .out)) ≤ length o → (w : Work) (left : List ℕ) → Worked u o 0 w left
+      → Turned (refusals.ifRoom (state e) u) (chosen (refusals.hasRoom (state (w .engine))) e w) left
   unfolding refusals.ifRoom refusals.done refusals.stopping refusals.refused outgoing
-  room-turned =
+  work-turned u o h w left d =
       by-bool (refusals.hasRoom (state (w .engine)))
       (λ q.
-      let s = said o (outgoing (inputs.handled m (state e) .out)) left (w .at) (omega (arith, handled-bytes m (state e))) (d .says) in
+      let s = said o (outgoing (u .out)) left (w .at) h (d .says) in
       rw (q, sym (ap refusals.hasRoom (d .now .is)) ∙ q, refusals.ifRoom) (record { number = refl; next = d .now; count = s .0; out = s .1 }))
       (λ q.
       rw (q, sym (ap refusals.hasRoom (d .now .is)) ∙ q, refusals.ifRoom) (record { number = refl; next = gives-phase e k (Stopped Full); count = refl; out = refl }))
+
+  pub room-turned : (m : messages.Message) (o : List ℕ) → 200 ≤ length o → (w : Work) (left : List ℕ) → Worked (inputs.handled m (state e)) o 0 w left
+      → Turned (refusals.ifRoom (state e) (inputs.handled m (state e))) (chosen (refusals.hasRoom (state (w .engine))) e w) left
+  room-turned m o h w left d = work-turned (inputs.handled m (state e)) o (omega (arith, handled-bytes m (state e))) w left d
 
 module _ (m : messages.Message) (s : words.State) where
   pub heard-used : refusals.usedUp m s ≡ true → refusals.heard m s ≡ refusals.refused 12 s
