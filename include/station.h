@@ -20,6 +20,7 @@
  *   11  message more than one view ahead of the view held or last quit                       nothing changes
  *   12  vote that would open a tally, by an author who has opened 16                         nothing changes
  *   13  journal: no slot left, no input, or a slot that stops a replay                       see the journal's calls
+ *       plain engine: no slot left in its list                                               nothing changes
  *   14  envelope: no good one, or one that can't be made                                     nothing changes
  *   15  slip: the first bad place as count; or a name that is not logged                     nothing changes
  *
@@ -52,6 +53,9 @@
 /* The most bytes of a relay envelope, which is the least length of the buffer for one, and the least length of its list. */
 #define ENVELOPE_MOST_BYTES 8192
 #define ENVELOPE_LIST_LENGTH 4096
+
+/* The length of a plain engine's list with room for so many inputs, from 1 to 2^20. */
+#define PLAIN_LIST_LENGTH(inputs) (16 + 128 * (size_t)(inputs))
 
 #define STATION_REFUSAL(result) ((uint32_t)((uint64_t)(result) >> 32))
 #define STATION_COUNT(result) ((uint32_t)(result))
@@ -134,6 +138,26 @@ uint64_t slip_check(uint64_t kind, uint64_t n, const uint8_t *slip, size_t slip_
 /* Writes the slip of a logged block of this name of 32 bytes. Done: the count of bytes written. Refusals 1 and 2; 15 with
  * count 0, and nothing written, for a name that is not logged. The store is only read. */
 uint64_t slip_write(const uint8_t *store, size_t store_len, const uint8_t *name, size_t name_len, uint8_t *out, size_t out_len);
+
+/* The plain engine, which answers as a station with the small limits does and keeps no state but its inputs: each call works
+ * its answer out from the whole list, so that a call takes longer the more the list holds. It is a referee to hold a station
+ * to. A list is a head of 16 bytes (n 1, d 2, own 1, records 4, zeros 8) and records as a journal's slots hold them, of the
+ * inputs that were answered 0, 6, 7 or 8, numbered from 0; all else is zero. Its length is PLAIN_LIST_LENGTH(1) to
+ * PLAIN_LIST_LENGTH(2^20). */
+
+/* Makes a fresh list, of the length that is lent, of whatever was in it. Answers 0, or refusal 1 or 10. */
+uint64_t plain_fresh(uint8_t *list, size_t list_len, uint64_t n, uint64_t d, uint64_t own);
+
+/* A message, a tick, an offered name: answered as station_step, station_tick and station_offer do, in their order, and the input
+ * joins the list where the answer is 0, 6, 7 or 8. Besides, 1 for a list of no good length; 2 for one that isn't of its form or
+ * holds an input that was not answered so where it stands; and, after all other refusals, 13 where no slot is left. */
+uint64_t plain_step(uint8_t *list, size_t list_len, const uint8_t *message, size_t message_len, uint8_t *out, size_t out_len);
+uint64_t plain_tick(uint8_t *list, size_t list_len, uint8_t *out, size_t out_len);
+uint64_t plain_offer(uint8_t *list, size_t list_len, const uint8_t *name, size_t name_len, uint8_t *out, size_t out_len);
+
+/* Writes the names of the log, 32 bytes each, from height 1 on. Done: the count of bytes written. The list is only read.
+ * Refusals 1 and 2. */
+uint64_t plain_log(const uint8_t *list, size_t list_len, uint8_t *out, size_t out_len);
 
 #ifdef __cplusplus
 }

@@ -1,12 +1,12 @@
 #!/bin/bash
 # The C face, for stores of both lengths: every call and every refusal number, stores that are not well formed, and
-# recorded runs replayed, also on damaged stores; recorded pairs of reports; relay envelopes; slips; and the journal, with
-# power cuts after any byte.
+# recorded runs replayed, also on damaged stores; recorded pairs of reports; relay envelopes; slips; the journal, with
+# power cuts after any byte; and the plain engine beside the station.
 set -euo pipefail
 cd "$(dirname "$0")/.."
 tools/archive >/dev/null
 mkdir -p target/tests
-for test in calls stores replay reports envelopes slips journal; do
+for test in calls stores replay reports envelopes slips journal plain; do
     cc -std=c11 -O2 -Wall -Wextra -Werror -o "target/tests/$test" "tests/$test.c" target/archive/libstation.a
 done
 target/tests/calls
@@ -19,3 +19,4 @@ target/tests/reports host/second/tests/data/reports.txt
 target/tests/envelopes
 target/tests/slips
 target/tests/journal
+target/tests/plain host/second/tests/data/{sim-001,settings,quorums,fuzz-002,fuzz-008}.txt

@@ -196,7 +196,8 @@ pub fn enter(
 }
 
 // Makes a fresh list of whatever was in it.
-pub fn plain_fresh(list: &mut [u8], n: u64, d: u64, own: u64) -> u64
+#[no_mangle]
+pub extern "C" fn plain_fresh(list: &mut [u8], n: u64, d: u64, own: u64) -> u64
     ensures { λ r. ⌜ left r (now (list .exit)) ≡ plainFresh (now (list .entry)) n d own ⌝ }
 {
     if has_length(list) {

@@ -23,7 +23,7 @@ use Rattle.rules.proofs.Allowed.{view-within}
 use Rattle.rules.proofs.Kept.{enters-at}
 use Rattle.kept.specs.Parts.{Formed}
 use Rattle.kept.proofs.Lists.{all-mem, mem-each}
-use Rattle.kept.proofs.Lengths.{bytes, bytes-cons, bytes-none, length-effect}
+use Rattle.rules.proofs.Lengths.{bytes, bytes-cons, bytes-none, length-effect}
 use Rattle.kept.proofs.Tallies.{highest-good}
 use Rattle.kept.proofs.Phases.{entering-formed}
 use Rattle.settings.specs.Made.{settingsOf}

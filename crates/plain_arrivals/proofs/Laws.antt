@@ -14,7 +14,7 @@ use Rattle.rules.specs.Words.{Statement, Moment, Certificate, Tally, ofBlock, o
 use Rattle.rules.specs.Inputs as inputs
 use Rattle.rules.specs.Inputs.{_▸_, voting, votingAll}
 use Rattle.rules.proofs.Tests.{by-bool, no-bool}
-use Rattle.kept.proofs.Lengths.{bytes, bytes-cons, bytes-none, length-effect}
+use Rattle.rules.proofs.Lengths.{bytes, bytes-cons, bytes-none, length-effect}
 use Rattle.kept.proofs.Tallies.{join-any}
 use Rattle.wire.specs.Meaning.{statementOf, Linked}
 use Rattle.outgoing.proofs.Writing.{says-none, says-outgoing, says-length, length-to-all, length-write-most}

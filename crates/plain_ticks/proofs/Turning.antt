@@ -16,7 +16,7 @@ use Rattle.rules.specs.Inputs.{_▸_, logging, complain, lead, enter}
 use Rattle.rules.proofs.Tests.{by-bool, by-option}
 use Rattle.kept.specs.Parts.{Formed, WellFormed}
 use Rattle.kept.proofs.WellFormed.{parts, whole}
-use Rattle.kept.proofs.Lengths.{reports-bytes}
+use Rattle.rules.proofs.Lengths.{reports-bytes}
 use Rattle.kept.proofs.Tallies.{block-self, join-there}
 use Rattle.kept.proofs.Ticks.{logging-keeps, complain-keeps, lead-keeps}
 use Rattle.kept.proofs.Room.{complain-bytes, lead-bytes}

@@ -1,8 +1,8 @@
 -- What the place of the first match says of each search, and how a loop comes by it; each law once for every table. Assumes nothing.
-use Prim.Native.Nat.{ℕ, zero, suc, _+_, _<_, _≤_}
-use mathlib.Core.Path.{_≡_, refl, sym, ap, _∙_}
+use Prim.Native.Nat.{ℕ, suc, _+_, _<_, _≤_}
+use mathlib.Core.Path.{_≡_, refl, ap, _∙_}
 use mathlib.Core.Bool.{Bool, true, false}
-use mathlib.Core.List.{List, [], _∷_, _++_}
+use mathlib.Core.List.{List, [], _∷_}
 use mathlib.Core.Option.{none, some}
 use native.Mathlib.Omega.{arith}
 use native.Mathlib.Nat.{le-of-suc-le-suc}
@@ -42,11 +42,6 @@ module _ {A B : Type 0} (f : A → B) (d : A) (p : B → Bool) (xs : List A) (n 
 
 -- what the place says
 module _ {A : Type 0} (p : A → Bool) where
-  pub place-most : (xs : List A) → place p xs ≤ length xs
-  unfolding place
-  place-most [] = omega arith
-  place-most (x ∷ xs) = by-bool (p x) (λ q. rw (q, place) (omega arith)) (λ q. let h = place-most xs in rw (q, place) (omega arith))
-
   pub any-at : (xs : List A) → place p xs < length xs → any p xs ≡ true
   unfolding place any
   any-at [] h = absurd (omega arith)
