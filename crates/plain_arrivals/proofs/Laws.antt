@@ -8,16 +8,16 @@ use native.Mathlib.Omega.{arith}
 use lib.ListN.{length, getD, drop}
 use Rattle.rules.specs.Lists.{any}
 use Rattle.rules.specs.Sizes.{only}
-use Rattle.rules.specs.Messages.{vote, toAll, outgoing}
+use Rattle.rules.specs.Messages.{vote, size, toAll, outgoing}
 use Rattle.rules.specs.Words as words
 use Rattle.rules.specs.Words.{Statement, Moment, Certificate, Tally, ofBlock, ownBlock, sameBlock, join, message, moment, State}
 use Rattle.rules.specs.Inputs as inputs
 use Rattle.rules.specs.Inputs.{_▸_, voting, votingAll}
 use Rattle.rules.proofs.Tests.{by-bool, no-bool}
-use Rattle.rules.proofs.Lengths.{bytes, bytes-cons, bytes-none, length-effect}
+use Rattle.rules.proofs.Lengths.{weight, bytes, bytes-cons, bytes-none, size-most}
 use Rattle.kept.proofs.Tallies.{join-any}
 use Rattle.wire.specs.Meaning.{statementOf, Linked}
-use Rattle.outgoing.proofs.Writing.{says-none, says-outgoing, says-length, length-to-all, length-write-most}
+use Rattle.outgoing.proofs.Writing.{says-none, says-outgoing, says-length}
 use Rattle.plain_words.specs.Meaning.{Certifies}
 use Rattle.plain_words.specs.Places.{Within}
 use Rattle.plain_words.proofs.Firsts.{firsts-next, firsts-done}
@@ -67,27 +67,15 @@ module _ (x : Statement) (s : State) where
   voting-votable [] h = tt
   voting-votable (y ∷ ys) h = (record { certifies = h .0 .certifies; there = voting-any (ownBlock y 0) (h .0 .there) }, voting-votable ys (h .1))
 
-  -- two messages at most
-  voting-bytes : bytes (voting x s .out) ≤ 200
-  unfolding voting inputs.saying inputs.ballot
+  -- a statement, and the vote for it
+  voting-bytes : bytes (voting x s .out) ≤ 160
+  unfolding voting inputs.saying inputs.ballot weight size
   voting-bytes =
       by-bool (inputs.belowLock x s) (λ q. rw (q, voting) (omega (arith, bytes-none)))
       (λ q.
       let m = message x in
       let n = vote (x .view) (x .height) (x .name) (s .settings .own) in
-      rw (q, voting)
-      (omega (
-        arith,
-        bytes-cons (toAll m) (toAll n ∷ []),
-        bytes-cons (toAll n) [],
-        bytes-none,
-        length-effect (toAll m),
-        length-effect (toAll n),
-        length-to-all m,
-        length-to-all n,
-        length-write-most m,
-        length-write-most n,
-      )))
+      rw (q, voting) (omega (arith, bytes-cons (toAll m) (toAll n ∷ []), bytes-cons (toAll n) [], bytes-none, size-most m)))
 
 -- no vote matters
 voting-held : (h : Held) (s : State) → voting (statementOf (h .statement) none) s ≡ voting (heldOf h) s
@@ -108,7 +96,7 @@ held-linked h c = c .view
 pub record Voting (xs : Statements) (e : Engine) (o₀ : List ℕ) (at : ℕ) (o : List ℕ) (i : ℕ) (g : Engine) (next : ℕ) : Type 0 where
   pub up : i ≤ xs .count
   pub long : length o ≡ length o₀
-  pub space : next + 200 * (xs .count - i) ≤ length o
+  pub space : next + 160 * (xs .count - i) + 40 ≤ length o
   pub sized : Sized g
   pub free : g .tallies .count < tallyRoom.room
   pub votable : Votables (state g .tallies) (drop i (statements xs))

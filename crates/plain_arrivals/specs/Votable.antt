@@ -1,5 +1,5 @@
 -- What a station needs that it may vote on statements that it stored. Assumes nothing.
-use Prim.Native.Nat.{ℕ, _*_, _<_}
+use Prim.Native.Nat.{ℕ, _+_, _*_, _<_}
 use mathlib.Core.Path.{_≡_}
 use mathlib.Core.Bool.{true}
 use mathlib.Core.List.{List}
@@ -21,9 +21,10 @@ pub record Votable (ts : List Tally) (x : Statement) : Type 0 where
 abbrev pub Votables : List Tally → List Statement → Type 0
 Votables ts xs = Each (Votable ts) xs
 
--- the bytes that a statement and the vote for it take at most, for every statement that a table has room for
+-- the bytes that a statement and the vote for it take at most, for every statement that a table has room for; and what a voting asks
+-- for beyond them
 abbrev pub votesLong : ℕ
-votesLong = 200 * statementRoom.room
+votesLong = 160 * statementRoom.room + 40
 
 -- a station in a formed state whose tallies have room for one more
 pub record Ready (e : Engine) : Type 0 where

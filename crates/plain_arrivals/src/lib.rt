@@ -16,7 +16,7 @@ ghost use Rattle.plain_arrivals.specs.Votable.{Votables, votesLong, Read
 
 // "Votes on stored statements of it by the rules above", one after the other.
 fn voting_all(xs: Statements, e: Engine, out: &mut [u8], at: usize) -> Work
-    requires { ⌜ (Within room (xs .items) (xs .count)) × (Sized e) × (e .tallies .count < tallyRoom.room) × (Votables (state e .tallies) (statements xs)) × (at + 200 * xs .count ≤ length (now out)) ⌝ }
+    requires { ⌜ (Within room (xs .items) (xs .count)) × (Sized e) × (e .tallies .count < tallyRoom.room) × (Votables (state e .tallies) (statements xs)) × (at + 160 * xs .count + 40 ≤ length (now out)) ⌝ }
     ensures { λ r. ⌜ Worked (inputs.votingAll (statements xs) (state e)) (now (out .entry)) at r (now (out .exit)) ⌝ }
 {
     let n = xs.count;
