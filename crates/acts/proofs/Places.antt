@@ -14,8 +14,8 @@ use Rattle.rules.specs.Sizes.{Settings, only}
 use Rattle.rules.specs.Words.{Statement, message, sameStatement, Certificate, Opener, Tally, Moment, ownBlock, sameBlock, ofBlock, join, State, moment}
 use Rattle.rules.specs.Inputs.{withTables, noted, votedFor}
 use Rattle.rules.specs.WellFormed.{statementGood, talliesThere}
-use Rattle.rules.proofs.Tests.{by-bool, no-bool}
-use Rattle.rules.proofs.Truths.{and-2}
+use Rattle.laws.proofs.Tests.{by-bool, no-bool}
+use Rattle.laws.proofs.Truths.{and-2}
 use Rattle.wire.specs.Meaning.{statementOf, Linked}
 use Rattle.wire.specs.declared.Statement as code
 use Rattle.store.specs.Layout.{statementTable, sizeIn, countOf}

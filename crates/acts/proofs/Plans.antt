@@ -12,7 +12,7 @@ use Rattle.rules.specs.Lists.{any}
 use Rattle.rules.specs.Words.{Statement, sameStatement, Certificate, Opener, Tally, Moment, ownBlock, certificate, sameBlock, join, joinCertificate, State, moment}
 use Rattle.rules.specs.Inputs.{saying, stored, statement, tallied}
 use Rattle.rules.specs.Refusals.{hasRoom}
-use Rattle.rules.proofs.Tests.{by-bool}
+use Rattle.laws.proofs.Tests.{by-bool}
 use Rattle.store.specs.Layout.{tallyTable, sizeIn, countOf}
 use Rattle.store.specs.Decode.{tallies, stateFrom, stateOf, Form, Left}
 use Rattle.store.specs.Changes.{blockAt, withVoters, certifying}

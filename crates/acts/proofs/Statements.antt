@@ -26,7 +26,7 @@ use Rattle.store.proofs.Searches.{found-any, missing-any}
 use Rattle.search.specs.Finds.{foundIn, Inside, Finds}
 use Rattle.search.proofs.Searches.{found-first}
 use Rattle.kept.specs.Said.{Sendable}
-use Rattle.rules.proofs.Allowed.{view-within}
+use Rattle.laws.proofs.Allowed.{view-within}
 use Rattle.kept.proofs.Statements.{stated}
 use Rattle.acts.specs.Answers.{Stands}
 use Rattle.acts.specs.Plans.{certifiedAt, needed, newPlan, planned, Newly, Stored}

@@ -9,7 +9,7 @@ use borrow.Author.Tests.{eqb-true, eq-eqb, ne-eqb, not-true, not-false}
 use Rattle.rules.specs.Lists.{be}
 use Rattle.rules.specs.Words.{reachedOf}
 use Rattle.rules.specs.WellFormed.{wellFormed}
-use Rattle.rules.proofs.Tests.{and-left}
+use Rattle.laws.proofs.Tests.{and-left}
 use Rattle.fields.specs.Places.{number, Bytes}
 use Rattle.wire.proofs.Reading.{be-number}
 use Rattle.store.specs.Layout.{storeLength, sizeIn}

@@ -7,8 +7,8 @@ use mathlib.Core.Logic.{_⊎_, inl, inr}
 use mathlib.Core.Option.{Option, none}
 use native.Mathlib.Omega.{arith}
 use Rattle.rules.specs.Words.{Certificate, Tally, certificateOf, sameBlock, ofBlock, reachedOf}
-use Rattle.rules.proofs.Tests.{by-bool}
-use Rattle.rules.proofs.Tallies.{block-eq}
+use Rattle.laws.proofs.Tests.{by-bool}
+use Rattle.laws.proofs.Tallies.{block-eq}
 use Rattle.fields.proofs.Laws.{number-lt}
 use Rattle.store.specs.Layout.{tallyTable, sizeIn, countOf, placeOf}
 use Rattle.store.specs.Decode.{reachedNumber, tallyFor, tallyAt, sinceFor, sinceAt, rows, tallies, Form}

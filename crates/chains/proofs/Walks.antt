@@ -13,7 +13,7 @@ use Rattle.rules.specs.Limits.{mostTalliesLarge}
 use lib.Seq.{getD-set-same, getD-set-other}
 use borrow.Author.Tests.{eqb-true, eq-eqb, ne-eqb}
 use Rattle.rules.specs.Lists.{any}
-use Rattle.rules.proofs.Tests.{by-bool}
+use Rattle.laws.proofs.Tests.{by-bool}
 use Rattle.lookup.specs.Search.{pick}
 use Rattle.store.specs.Decode.{rows, nth}
 use Rattle.heading.proofs.Walks.{any-here, any-next}

@@ -13,7 +13,7 @@ use Rattle.rules.specs.Limits.{mostStatements, mostStatementsLarge}
 use Rattle.rules.specs.Lists.{keep}
 use Rattle.rules.specs.Words.{Statement}
 use Rattle.rules.specs.Inputs.{chain, merge, commit, commits}
-use Rattle.rules.proofs.Tests.{by-bool, and-left}
+use Rattle.laws.proofs.Tests.{by-bool, and-left}
 use Rattle.store.specs.Layout.{statementTable, logTable, countOf}
 use Rattle.store.specs.Decode.{rows, statementAt, statements, nameAt, names, Form}
 use Rattle.store.proofs.Rows.{rows-same}

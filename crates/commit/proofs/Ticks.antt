@@ -16,7 +16,7 @@ use Rattle.rules.specs.Messages.{propose, viewAllowed, blockAllowed, maskAllowe
 use Rattle.rules.specs.Words.{Statement, message, Phase, inView, waiting, stopped, State, sameStatement}
 use Rattle.rules.specs.Inputs.{withClock, isIn, isDue, due, commits}
 use Rattle.rules.specs.WellFormed.{isName, wellFormed, clocksInOrder, lockGood, statementGood, tallyGood, sameTally, talliesThere, blamesGood, linked, fewOpened}
-use Rattle.rules.proofs.Tests.{by-bool, and-left, and-right}
+use Rattle.laws.proofs.Tests.{by-bool, and-left, and-right}
 use Rattle.fields.specs.Places.{Bytes}
 use Rattle.fields.specs.Records.{fields}
 use Rattle.fields.proofs.Laws.{number-lt}

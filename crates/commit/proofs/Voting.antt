@@ -12,7 +12,7 @@ use borrow.Author.Tests.{eq-eqb, ne-eqb, leb-true, le-leb}
 use Rattle.rules.specs.Lists.{keep}
 use Rattle.rules.specs.Words as words
 use Rattle.rules.specs.Inputs.{votes}
-use Rattle.rules.proofs.Tests.{by-bool, no-bool}
+use Rattle.laws.proofs.Tests.{by-bool, no-bool}
 use Rattle.wire.specs.Meaning.{statementOf}
 use Rattle.wire.specs.declared.Statement.{Statement}
 use Rattle.store.specs.Decode.{voteNumber, rows, statementAt, voteAt, statements, stateFrom, stateOf}

@@ -16,7 +16,7 @@ use Rattle.rules.specs.Limits.{mostStatements, mostStatementsLarge}
 use Rattle.rules.specs.Lists.{first}
 use Rattle.rules.specs.Words.{Statement}
 use Rattle.rules.specs.Inputs.{isBlock, chainTo, chain}
-use Rattle.rules.proofs.Tests.{and-left, and-right}
+use Rattle.laws.proofs.Tests.{and-left, and-right}
 use Rattle.store.specs.Layout.{statementTable, countOf}
 use Rattle.store.specs.Decode.{rows, statementAt, statements}
 use Rattle.store.specs.declared.Found.{Found}

@@ -13,8 +13,8 @@ use Rattle.rules.specs.Sizes.{Settings, goodSettings}
 use Rattle.rules.specs.Messages.{viewAllowed}
 use Rattle.rules.specs.Words.{Statement, sameStatement, Tally}
 use Rattle.rules.specs.WellFormed.{clocksInOrder, lockGood, statementGood, tallyGood, sameTally, talliesThere, blamesGood, linked, fewOpened, wellFormed}
-use Rattle.rules.proofs.Tests.{and-left, and-right}
-use Rattle.rules.proofs.Allowed.{sizes}
+use Rattle.laws.proofs.Tests.{and-left, and-right}
+use Rattle.laws.proofs.Allowed.{sizes}
 use Rattle.fields.specs.Records.{fields}
 use Rattle.settings.specs.Made.{sizeFrom, settingsOf}
 use Rattle.store.specs.Layout.{sizeIn, headerFormat, storeLength, statementTable, countOf}

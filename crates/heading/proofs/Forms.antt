@@ -8,8 +8,8 @@ use lib.Dec.{leb, eqb}
 use borrow.Author.Tests.{not-true, not-false, leb-true, eq-eqb}
 use Rattle.rules.specs.Limits.{mostStatementsLarge, mostTalliesLarge}
 use Rattle.rules.specs.Lists.{all, within}
-use Rattle.rules.proofs.Bounds.{statements-most, tallies-most}
-use Rattle.rules.proofs.Tests.{and-left, and-right}
+use Rattle.laws.proofs.Bounds.{statements-most, tallies-most}
+use Rattle.laws.proofs.Tests.{and-left, and-right}
 use Rattle.fields.specs.Places.{number}
 use Rattle.store.specs.Layout.{sizeIn, Table, statementTable, tallyTable, logTable, countOf}
 use Rattle.store.specs.Decode.{tableFits, kinds, hasForm}

@@ -11,8 +11,8 @@ use Rattle.rules.specs.Lists.{first}
 use Rattle.rules.specs.Words.{Statement, Tally, State}
 use Rattle.rules.specs.Inputs.{isBlock, chainTo, chain}
 use Rattle.rules.specs.WellFormed.{statementGood, tallyGood}
-use Rattle.rules.proofs.Tests.{by-option, no-some}
-use Rattle.rules.proofs.Allowed.{Sizes, sizes, view-within, height-le, leader-lt, mask-small, certificate-mask}
+use Rattle.laws.proofs.Tests.{by-option, no-some}
+use Rattle.laws.proofs.Allowed.{Sizes, sizes, view-within, height-le, leader-lt, mask-small, certificate-mask}
 use Rattle.kept.specs.Parts.{Formed, WellFormed}
 use Rattle.kept.proofs.Lists.{all-mem}
 use Rattle.kept.proofs.Tallies.{TallyGood, tally-parts, opener-lt, reached-le, CertificateGood, lock-parts}

@@ -9,7 +9,7 @@ use lib.ListN.{length, take, drop}
 use lib.Seq.{take-add, take-all, drop-at, take-take, drop-drop, length-take-le}
 use lib.Dec.{leb, eqb}
 use borrow.Author.Tests.{leb-true, leb-false}
-use Rattle.rules.proofs.Tests.{by-bool, and-left}
+use Rattle.laws.proofs.Tests.{by-bool, and-left}
 use Rattle.fields.specs.Places.{number}
 use Rattle.slots.specs.Slots as slots
 use Rattle.slots.specs.Slots.{slotLength, mostInput, isInput, recordBytes, isBlank, isEnded, sequenceIn, kindIn, inputIn, isRecord, recordIn, judged, blank, torn, bad, whole}

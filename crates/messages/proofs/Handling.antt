@@ -13,9 +13,9 @@ use Rattle.rules.specs.Messages.{viewOf, viewAllowed, allowed}
 use Rattle.rules.specs.Words.{message, Certificate, sameBlock, ofBlock, State}
 use Rattle.rules.specs.Inputs.{statement, tallied, blaming, handled}
 use Rattle.rules.specs.Refusals.{ifRoom, usedUp, heard}
-use Rattle.rules.proofs.Views.{view-message}
-use Rattle.rules.proofs.Allowed.{view-within, only-lt, mask-parts, allowed-rights}
-use Rattle.rules.proofs.Tests.{by-bool}
+use Rattle.laws.proofs.Views.{view-message}
+use Rattle.laws.proofs.Allowed.{view-within, only-lt, mask-parts, allowed-rights}
+use Rattle.laws.proofs.Tests.{by-bool}
 use Rattle.fields.specs.Names.{nameOf}
 use Rattle.fields.specs.declared.Name.{Name}
 use Rattle.kept.specs.Said.{Sendable}

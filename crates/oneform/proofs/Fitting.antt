@@ -14,10 +14,10 @@ use Rattle.rules.specs.Sizes.{Settings}
 use Rattle.rules.specs.Words.{Statement, Opener, Tally, Phase, inView, waiting, stopped, full, split, clock, State}
 use Rattle.rules.specs.Inputs.{isBlock}
 use Rattle.rules.specs.WellFormed.{isMask, blamesGood, linked, wellFormed}
-use Rattle.rules.proofs.Bounds.{statements-most, tallies-most}
-use Rattle.rules.proofs.Tests.{no-bool, and-left}
-use Rattle.rules.proofs.Truths.{and-3}
-use Rattle.rules.proofs.Allowed.{Sizes, mask-lt, mask-small}
+use Rattle.laws.proofs.Bounds.{statements-most, tallies-most}
+use Rattle.laws.proofs.Tests.{no-bool, and-left}
+use Rattle.laws.proofs.Truths.{and-3}
+use Rattle.laws.proofs.Allowed.{Sizes, mask-lt, mask-small}
 use Rattle.fields.specs.Records.{Fit}
 use Rattle.kept.specs.Parts.{WellFormed, Formed}
 use Rattle.kept.proofs.WellFormed.{parts}

@@ -13,8 +13,8 @@ use Rattle.fields.specs.Places.{put}
 use Rattle.fields.proofs.Laws.{put-both, put-comm}
 use Rattle.rules.specs.Lists.{unbe}
 use Rattle.rules.specs.Messages.{Message, field, width, tagsOf, kind, values, writes, write, size, Effect, toAll, toOne, committed, effect, outgoing}
-use Rattle.rules.proofs.Bytes.{pow-pos, length-unbe}
-use Rattle.rules.proofs.Lengths.{length-field, length-write, size-most, length-effect, weight}
+use Rattle.laws.proofs.Bytes.{pow-pos, length-unbe}
+use Rattle.laws.proofs.Lengths.{length-field, length-write, size-most, length-effect, weight}
 use Rattle.wire.specs.Fields.{head}
 use Rattle.outgoing.specs.Wrote.{wrote, Says, SaysFields}
 

@@ -17,9 +17,9 @@ use Rattle.rules.specs.Words.{State}
 use Rattle.rules.specs.Refusals as rules
 use Rattle.rules.specs.Refusals.{Outcome}
 use Rattle.rules.specs.WellFormed.{wellFormed}
-use Rattle.rules.proofs.Tests.{by-bool, no-some}
-use Rattle.rules.proofs.Truths.{and-2}
-use Rattle.rules.proofs.Bytes as bytes
+use Rattle.laws.proofs.Tests.{by-bool, no-some}
+use Rattle.laws.proofs.Truths.{and-2}
+use Rattle.laws.proofs.Bytes as bytes
 use Rattle.fields.specs.Places.{number, Bytes}
 use Rattle.wire.proofs.Reading.{be-number}
 use Rattle.kept.proofs.Outs.{step-room, offer-room, tick-room}

@@ -16,7 +16,7 @@ use Rattle.rules.specs.Words.{State}
 use Rattle.rules.specs.Refusals as rules
 use Rattle.rules.specs.Refusals.{Outcome}
 use Rattle.rules.specs.WellFormed.{wellFormed}
-use Rattle.rules.proofs.Truths.{and-3}
+use Rattle.laws.proofs.Truths.{and-3}
 use Rattle.kept.proofs.WellFormed.{fresh-whole}
 use Rattle.fields.specs.Places.{number}
 use Rattle.wire.proofs.Reading.{be-number}

@@ -11,8 +11,8 @@ use Rattle.rules.specs.Limits.{small, leastOut, leastOutSmall}
 use Rattle.rules.specs.Lists.{unbe}
 use Rattle.rules.specs.Words as words
 use Rattle.rules.specs.Words.{State}
-use Rattle.rules.proofs.Bytes.{length-unbe}
-use Rattle.rules.proofs.Tests.{by-bool}
+use Rattle.laws.proofs.Bytes.{length-unbe}
+use Rattle.laws.proofs.Tests.{by-bool}
 use Rattle.fields.specs.Names.{nameOf}
 use Rattle.fields.specs.declared.Name.{Name}
 use Rattle.outgoing.specs.Wrote.{wrote}

@@ -22,7 +22,6 @@ use plain_tables::Names;
 use plain_turns::Turn;
 use settings::Settings;
 
-// STUB: `plain_ticks::tick` takes its place; the only function here that is not proved.
 // A state that a fold came to, or that it came to none.
 struct Folded {
     good: bool,

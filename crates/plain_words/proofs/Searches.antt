@@ -8,7 +8,7 @@ use native.Mathlib.Omega.{arith}
 use native.Mathlib.Nat.{le-of-suc-le-suc}
 use lib.ListN.{length, getD, set, drop}
 use Rattle.rules.specs.Lists.{first, any, alter}
-use Rattle.rules.proofs.Tests.{by-bool}
+use Rattle.laws.proofs.Tests.{by-bool}
 use Rattle.plain_words.specs.Places.{firsts, place}
 use Rattle.plain_words.proofs.Firsts.{firsts-next, firsts-done}
 

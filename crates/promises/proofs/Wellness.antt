@@ -9,7 +9,7 @@ use Rattle.rules.specs.Limits.{leastOut}
 use Rattle.rules.specs.Words.{State}
 use Rattle.rules.specs.Refusals.{Outcome, step, tick, offer}
 use Rattle.rules.specs.WellFormed.{wellFormed}
-use Rattle.rules.proofs.Bytes.{Bytes}
+use Rattle.laws.proofs.Bytes.{Bytes}
 use Rattle.fields.specs.Places as places
 use Rattle.kept.proofs.Calls.{step-whole, offer-whole, tick-whole}
 use Rattle.store.specs.Decode.{decode, encode}

@@ -19,9 +19,9 @@ use Rattle.rules.specs.Inputs.{Work, handled, offered, ticked}
 use Rattle.rules.specs.Refusals as rules
 use Rattle.rules.specs.Refusals.{Outcome, done, refused, stopping, hasRoom, ifRoom, running, ahead, usedUp, heard, result}
 use Rattle.rules.specs.WellFormed.{wellFormed}
-use Rattle.rules.proofs.Answers.{by-step, by-offer, by-tick}
-use Rattle.rules.proofs.Bytes.{Bytes, be-lt}
-use Rattle.rules.proofs.Tests.{by-bool, by-option, no-bool, no-some}
+use Rattle.laws.proofs.Answers.{by-step, by-offer, by-tick}
+use Rattle.laws.proofs.Bytes.{Bytes, be-lt}
+use Rattle.laws.proofs.Tests.{by-bool, by-option, no-bool, no-some}
 use Rattle.kept.specs.Parts.{WellFormed}
 use Rattle.kept.proofs.WellFormed.{whole}
 use Rattle.kept.proofs.Outs.{step-room, offer-room, tick-room}

@@ -13,8 +13,8 @@ use Rattle.rules.specs.Words as words
 use Rattle.rules.specs.Words.{State}
 use Rattle.rules.specs.Refusals.{Outcome, refused, running}
 use Rattle.rules.specs.WellFormed.{wellFormed}
-use Rattle.rules.proofs.Tests.{by-bool, and-left}
-use Rattle.rules.proofs.Truths.{and-2, both}
+use Rattle.laws.proofs.Tests.{by-bool, and-left}
+use Rattle.laws.proofs.Truths.{and-2, both}
 use Rattle.fields.specs.Places.{Bytes}
 use Rattle.store.specs.Layout.{storeLength, sizeIn}
 use Rattle.store.specs.Decode.{stateOf, hasForm, Form}

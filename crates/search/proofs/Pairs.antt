@@ -10,7 +10,7 @@ use borrow.Author.Tests.{eq-eqb, ne-eqb, eqb-true, eqb-false}
 use Rattle.rules.specs.Lists.{first, keep}
 use Rattle.rules.specs.Words.{Statement, conflict, Certificate, Tally, ofBlock, voters}
 use Rattle.rules.specs.Inputs.{pair}
-use Rattle.rules.proofs.Tests.{by-bool}
+use Rattle.laws.proofs.Tests.{by-bool}
 use Rattle.words.proofs.Statements.{other-view}
 use Rattle.store.specs.Decode.{rows}
 use Rattle.store.specs.Changes.{firstFrom}

@@ -6,7 +6,7 @@ use mathlib.Core.List.{[], _∷_}
 use mathlib.Core.Option.{Option}
 use native.Mathlib.Omega.{arith}
 use Rattle.rules.specs.Lists.{first, any}
-use Rattle.rules.proofs.Tests.{by-bool}
+use Rattle.laws.proofs.Tests.{by-bool}
 use Rattle.store.specs.Decode.{rows}
 use Rattle.store.specs.declared.Found.{Found}
 use Rattle.store.proofs.Rows.{rows-from}

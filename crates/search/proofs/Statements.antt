@@ -12,7 +12,7 @@ use Rattle.rules.specs.Messages.{allowed}
 use Rattle.rules.specs.Words.{Statement, message, conflict, State}
 use Rattle.rules.specs.Inputs.{isUsed, isOpened, current}
 use Rattle.rules.specs.WellFormed.{isName, statementGood}
-use Rattle.rules.proofs.Tests.{and-left}
+use Rattle.laws.proofs.Tests.{and-left}
 use Rattle.fields.specs.Names.{nameOf}
 use Rattle.wire.specs.Meaning.{statementOf}
 use Rattle.wire.specs.declared.Statement as code

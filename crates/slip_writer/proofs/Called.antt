@@ -13,7 +13,7 @@ use Rattle.rules.specs.Limits.{leastOut}
 use Rattle.rules.specs.Lists.{be}
 use Rattle.rules.specs.WellFormed.{wellFormed}
 use Rattle.rules.specs.Words.{State}
-use Rattle.rules.proofs.Tests.{and-left}
+use Rattle.laws.proofs.Tests.{and-left}
 use Rattle.fields.specs.Places.{number, Bytes}
 use Rattle.wire.proofs.Reading.{be-number}
 use Rattle.outgoing.specs.Wrote.{Says}

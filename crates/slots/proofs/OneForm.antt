@@ -10,14 +10,14 @@ use lib.Dec.{eqb, lit<, lit≤}
 use borrow.Author.Tests.{eqb-true, eq-eqb, ne-eqb}
 use Rattle.rules.specs.Lists.{unbe}
 use Rattle.rules.specs.Messages.{field}
-use Rattle.rules.proofs.Bytes.{be-unbe, length-unbe}
-use Rattle.rules.proofs.Tests.{by-bool, no-bool, eqb-self, and-left, and-right}
+use Rattle.laws.proofs.Bytes.{be-unbe, length-unbe}
+use Rattle.laws.proofs.Tests.{by-bool, no-bool, eqb-self, and-left, and-right}
 use Rattle.fields.specs.Places.{number, put, Bytes}
 use Rattle.fields.proofs.Laws.{number-lt, bytes-put, bytes-set}
 use Rattle.fields.proofs.Lists.{number-tail, number-append-left, number-append-right, bytes-take, bytes-drop, same-list}
 use Rattle.wire.proofs.Reading.{be-number}
 use Rattle.outgoing.specs.Wrote.{wrote}
-use Rattle.rules.proofs.Lengths.{length-field}
+use Rattle.laws.proofs.Lengths.{length-field}
 use Rattle.slots.specs.Slots.{slotLength, mostInput, isInput, recordBytes, isBlank, isEnded, sequenceIn, valueIn, kindIn, inputIn, isRecord, recordIn, judged, blank, torn, bad, whole}
 use Rattle.slots.proofs.Inputs.{input-fits}
 use Rattle.slots.proofs.Records.{length-record, record-wrote}

@@ -10,7 +10,7 @@ use borrow.Author.Tests.{eqb-true}
 use Rattle.rules.specs.Limits.{small, mostStatementsLarge}
 use Rattle.rules.specs.Lists.{iff, any}
 use Rattle.rules.specs.Words.{Statement, sameStatement}
-use Rattle.rules.proofs.Tests.{and-left, and-right}
+use Rattle.laws.proofs.Tests.{and-left, and-right}
 use Rattle.fields.specs.Places.{Bytes, number}
 use Rattle.store.specs.Layout.{statementTable, placeOf}
 use Rattle.store.specs.Decode.{nth, rows, statementAt}

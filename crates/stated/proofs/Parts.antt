@@ -11,7 +11,7 @@ use Rattle.rules.specs.Messages.{allowed}
 use Rattle.rules.specs.Words as words
 use Rattle.rules.specs.Words.{message, ownBlock, certificate, ofBlock}
 use Rattle.rules.specs.WellFormed.{isName, statementGood, talliesThere}
-use Rattle.rules.proofs.Tests.{and-left}
+use Rattle.laws.proofs.Tests.{and-left}
 use Rattle.fields.specs.Places.{Bytes, number}
 use Rattle.fields.proofs.Laws.{number-lt}
 use Rattle.settings.specs.Made.{settingsOf}

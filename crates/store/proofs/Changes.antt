@@ -13,9 +13,9 @@ use Rattle.rules.specs.Lists.{all, within}
 use Rattle.rules.specs.Sizes.{joined}
 use Rattle.rules.specs.Words.{Statement, Tally, Moment, reachedAt, Phase, grown}
 use Rattle.rules.specs.Inputs.{withPhase, withClock, withTables, withBlames, withLog, noted, blamesOf, blamed}
-use Rattle.rules.proofs.Bounds.{statements-most, tallies-most}
-use Rattle.rules.proofs.Masks.{joined-lt}
-use Rattle.rules.proofs.Tests.{and-left, and-right}
+use Rattle.laws.proofs.Bounds.{statements-most, tallies-most}
+use Rattle.laws.proofs.Masks.{joined-lt}
+use Rattle.laws.proofs.Tests.{and-left, and-right}
 use Rattle.fields.specs.Places.{number, put, Bytes}
 use Rattle.fields.specs.Records.{fields, puts, Fit}
 use Rattle.fields.proofs.Records.{length-puts, bytes-puts, fields-puts}

@@ -14,9 +14,9 @@ use Rattle.rules.specs.Limits.{maskBits}
 use Rattle.rules.specs.Sizes.{only, bit, holds, joined, quorum}
 use Rattle.rules.specs.Words.{Tally, Moment, reachedAt, grown}
 use Rattle.rules.specs.WellFormed.{reachedGood}
-use Rattle.rules.proofs.Tests.{by-bool, no-bool}
-use Rattle.rules.proofs.Masks.{quorum-joined}
-use Rattle.rules.proofs.Tallies.{count-quorum}
+use Rattle.laws.proofs.Tests.{by-bool, no-bool}
+use Rattle.laws.proofs.Masks.{quorum-joined}
+use Rattle.laws.proofs.Tallies.{count-quorum}
 
 -- ---- joining is associative
 

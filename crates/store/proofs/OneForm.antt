@@ -6,7 +6,7 @@ use mathlib.Core.List.{List}
 use mathlib.Core.Option.{some, Option·some-injective}
 use Rattle.rules.specs.Words.{State}
 use Rattle.rules.specs.WellFormed.{wellFormed}
-use Rattle.rules.proofs.Tests.{by-bool, no-some, and-left, and-right}
+use Rattle.laws.proofs.Tests.{by-bool, no-some, and-left, and-right}
 use Rattle.fields.specs.Places.{Bytes}
 use Rattle.store.specs.Decode.{stateOf, hasForm, decode, Left, encode}
 use Rattle.store.proofs.Encoded.{encode-state}

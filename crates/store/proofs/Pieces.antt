@@ -7,7 +7,7 @@ use native.Mathlib.Nat.{add-zero, add-assoc, mul-zero, mul-suc, zero-div, zero-m
 use lib.Dec.{T, eqb, eqb→eq}
 use lib.ListN.{length, getD, replicate}
 use Rattle.rules.specs.Lists.{unbe}
-use Rattle.rules.proofs.Bytes.{pow-pos}
+use Rattle.laws.proofs.Bytes.{pow-pos}
 use Rattle.rules.specs.Limits.{Size}
 use Rattle.fields.specs.Places.{number, Bytes}
 use Rattle.fields.specs.Records.{Format, fields}

@@ -7,8 +7,8 @@ use native.Mathlib.Nat.{add-zero, mul-zero, mul-suc, mod-lt, div-add-mod', mul-l
 use lib.Dec.{eqb→eq}
 use lib.ListN.{length, replicate, length-append, length-replicate}
 use Rattle.rules.specs.Lists.{unbe}
-use Rattle.rules.proofs.Bytes as digits
-use Rattle.rules.proofs.Bytes.{length-unbe, pow-pos, bytes-unbe}
+use Rattle.laws.proofs.Bytes as digits
+use Rattle.laws.proofs.Bytes.{length-unbe, pow-pos, bytes-unbe}
 use Rattle.rules.specs.Limits.{Size}
 use Rattle.fields.specs.Places.{number, Bytes}
 use Rattle.fields.specs.Records.{Format, fields, Fit}

@@ -9,7 +9,7 @@ use native.Mathlib.Numerals.{add-one}
 use lib.ListN.{length, getD, set}
 use native.Mathlib.Decide.{decLt}
 use Rattle.rules.specs.Lists.{all}
-use Rattle.rules.proofs.Tests.{and-left, and-right}
+use Rattle.laws.proofs.Tests.{and-left, and-right}
 use Rattle.store.specs.Decode.{rows}
 use Rattle.store.specs.Changes.{changeAt}
 

@@ -12,7 +12,7 @@ use lib.ListN.{length}
 use borrow.Author.Tests.{not-true, not-false}
 use Rattle.rules.specs.Lists.{iff, first, any, alter}
 use Rattle.rules.specs.Words.{Statement, sameStatement, Certificate, Moment, Tally, certificateOf, opened, sameBlock, ofBlock, grown, join}
-use Rattle.rules.proofs.Tests.{eqb-self}
+use Rattle.laws.proofs.Tests.{eqb-self}
 use Rattle.fields.specs.Places.{number, Bytes}
 use Rattle.fields.proofs.Laws.{number-lt, number-split}
 use Rattle.lookup.proofs.Pairs.{same-pair}

@@ -9,7 +9,7 @@ use native.Mathlib.Omega.{arith}
 use lib.Dec.{leb, eqb}
 use borrow.Author.Tests.{leb-true, eqb-true, eqb-false, eq-eqb, ne-eqb}
 use Rattle.rules.specs.Lists.{within}
-use Rattle.rules.proofs.Tests.{by-bool, no-bool, and-right}
+use Rattle.laws.proofs.Tests.{by-bool, no-bool, and-right}
 use Rattle.rules.specs.Limits.{Size}
 use Rattle.rules.specs.Sizes.{quorum}
 use Rattle.fields.specs.Places.{number}

@@ -15,7 +15,7 @@ use Rattle.rules.specs.Lists.{keep}
 use Rattle.rules.specs.Words.{Tally, openedBy}
 use Rattle.rules.specs.Limits.{mostOpened}
 use Rattle.rules.specs.WellFormed.{fewOpened}
-use Rattle.rules.proofs.Tests.{by-bool}
+use Rattle.laws.proofs.Tests.{by-bool}
 use Rattle.store.specs.Layout.{sizeIn, tallyTable, countOf, placeOf}
 use Rattle.store.specs.Decode.{rows, nth, tallyAt, openerAt, openerFor, tallies}
 use Rattle.fields.specs.Places.{Bytes}

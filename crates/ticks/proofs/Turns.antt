@@ -17,7 +17,7 @@ use Rattle.rules.specs.Words.{Statement, sameStatement, message, ownBlock, cert
 use Rattle.rules.specs.Inputs.{Work, saying, _▸_, withClock, withTables, withLog, isIn, certificateJoined, stored, statement, leads, due, commits, logging, complain, leadsNow, ownNewView, lead, enter, ticked}
 use Rattle.rules.specs.Refusals.{refused, stopping, hasRoom, ifRoom, running, tick}
 use Rattle.rules.specs.WellFormed.{linked}
-use Rattle.rules.proofs.Tests.{by-bool}
+use Rattle.laws.proofs.Tests.{by-bool}
 use Rattle.wire.specs.Meaning.{statementOf}
 use Rattle.wire.specs.declared.Statement as code
 use Rattle.store.specs.Layout.{sizeIn}
@@ -27,7 +27,7 @@ use Rattle.store.specs.declared.Station.{Station}
 use Rattle.store.proofs.Loaded.{loaded-settings, loaded-entry, loaded-clock}
 use Rattle.kept.specs.Parts as kept
 use Rattle.kept.proofs.Facts.{clocks-of}
-use Rattle.rules.proofs.Lengths.{bytes, reports-bytes}
+use Rattle.laws.proofs.Lengths.{bytes, reports-bytes}
 use Rattle.kept.proofs.Logs.{linked-length, proposes-length, commits-linked}
 use Rattle.kept.proofs.Phases.{clock-formed}
 use Rattle.kept.proofs.Reports.{due-stored}

@@ -15,8 +15,8 @@ use Rattle.rules.specs.Messages.{viewAllowed}
 use Rattle.rules.specs.Words as words
 use Rattle.rules.specs.Words.{State, inView, waiting, stopped}
 use Rattle.rules.specs.Inputs.{withClock, isIn, leads, blamesOf, votes, overdue, leadsNow, entersNow}
-use Rattle.rules.proofs.Tests.{by-bool}
-use Rattle.rules.proofs.Bounds.{statements-most}
+use Rattle.laws.proofs.Tests.{by-bool}
+use Rattle.laws.proofs.Bounds.{statements-most}
 use Rattle.settings.specs.Made.{settingsOf}
 use Rattle.store.specs.Layout.{sizeIn}
 use Rattle.store.specs.Decode.{blameAt, stateFrom, stateOf}

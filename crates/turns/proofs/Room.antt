@@ -15,9 +15,9 @@ use Rattle.rules.specs.Words.{Statement, sameStatement, conflict, ownBlock, ofB
 use Rattle.rules.specs.Inputs.{Work, saying, _▸_, withPhase, withTables, withBlames, withLog, isIn, quit, belowLock, votedFor, voting, certificateJoined, stored, statement, handled, blamesOf, blamed, blameFull, blaming, leads, logging, votes, overdue, complain, leadsNow, ownNewView, lead, entersNow, nextLock, entering, entered, current, pair, inOrder, votingAll, arrive, enter}
 use Rattle.rules.specs.Refusals.{hasRoom}
 use Rattle.rules.specs.WellFormed.{talliesThere, linked}
-use Rattle.rules.proofs.Tests.{by-bool, by-option}
-use Rattle.rules.proofs.Truths.{and-2, and-3}
-use Rattle.rules.proofs.Statements.{mem-order}
+use Rattle.laws.proofs.Tests.{by-bool, by-option}
+use Rattle.laws.proofs.Truths.{and-2, and-3}
+use Rattle.laws.proofs.Statements.{mem-order}
 use Rattle.kept.specs.Parts.{Formed}
 use Rattle.kept.specs.Said.{Each}
 use Rattle.kept.proofs.Lists.{mem-each, all-mem}

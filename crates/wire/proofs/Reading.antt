@@ -14,8 +14,8 @@ use Rattle.fields.proofs.Lists.{number-cons, number-piece}
 use Rattle.rules.specs.Lists.{be, unbe, iff, within as between, any, all, keep}
 use Rattle.rules.specs.Messages.{Message, Row, table, rowOf, tagsOf, width, after, readField, reads, body, read}
 use Rattle.rules.specs.Sizes.{holds}
-use Rattle.rules.proofs.Tests.{by-bool, no-bool, and-left, and-right}
-use Rattle.rules.proofs.Truths.{iff-eq}
+use Rattle.laws.proofs.Tests.{by-bool, no-bool, and-left, and-right}
+use Rattle.laws.proofs.Truths.{iff-eq}
 use Rattle.wire.specs.Fields.{head, isField, numberOf, behind, Found, has, Tags, Place, value, start, moved, walked, made, ended}
 
 -- a field that stands at a place lies within the message

@@ -12,10 +12,10 @@ use Rattle.rules.specs.Sizes.{Settings, leader}
 use Rattle.rules.specs.Messages.{newView, propose, viewAllowed, blockAllowed, maskAllowed, certificateAllowed, allowed}
 use Rattle.rules.specs.Words.{Statement, message, sameStatement, against, conflict, Certificate, certificate, below, State}
 use Rattle.rules.specs.Inputs.{belowLock}
-use Rattle.rules.proofs.Bounds.{views-most}
-use Rattle.rules.proofs.Statements.{same-like, same-sym}
-use Rattle.rules.proofs.Tests.{by-bool, and-left, and-right, no-bool}
-use Rattle.rules.proofs.Truths.{beq-iff}
+use Rattle.laws.proofs.Bounds.{views-most}
+use Rattle.laws.proofs.Statements.{same-like, same-sym}
+use Rattle.laws.proofs.Tests.{by-bool, and-left, and-right, no-bool}
+use Rattle.laws.proofs.Truths.{beq-iff}
 use Rattle.fields.specs.Names.{nameOf}
 use Rattle.fields.specs.declared.Name.{Name}
 use Rattle.wire.specs.Meaning.{statementOf}

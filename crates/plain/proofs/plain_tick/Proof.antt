@@ -4,7 +4,7 @@ use mathlib.Core.Path.{_≡_, refl, sym, _∙_}
 use native.Mathlib.Omega.{arith}
 use lib.ListN.{length, length-replicate}
 use Rattle.rules.specs.Limits.{leastOutSmall}
-use Rattle.rules.proofs.Bytes.{none}
+use Rattle.laws.proofs.Bytes.{none}
 use Rattle.lent_list.specs.Lists.{tick, offer, message, kindOf, bytesOf}
 use Rattle.lent_list.specs.Plain.{answerTo, plainStep, plainTick}
 use Rattle.plain.proofs.Answers.{bar-small, open-list, open-out, is-barred, no-state, answered-by, count-fits, may-enter, plain-bytes}

@@ -1,5 +1,5 @@
 -- `turns::complain` meets its contract: the blame is said, then joined. Assumes nothing.
-use Rattle.rules.proofs.Allowed.{only-lt}
+use Rattle.laws.proofs.Allowed.{only-lt}
 use Rattle.wire.specs.Meaning.{messageOf}
 use Rattle.turns.proofs.Parts.{works-still, complain-calm, blame-bytes, complained}
 use Rattle.turns.proofs.Moments.{view-of-loaded}

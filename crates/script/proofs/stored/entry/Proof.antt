@@ -1,7 +1,7 @@
 -- `script::stored::entry` is safe: the store is of its exact length, and its limits are small numbers. Assumes nothing.
 use native.Mathlib.Omega.{arith}
 use borrow.Author.Needs.{needs}
-use Rattle.rules.proofs.Bounds.{statements-most}
+use Rattle.laws.proofs.Bounds.{statements-most}
 use Rattle.store.specs.Layout.{sizeIn}
 use Rattle.script.proofs.Exact.{exact-long}
 use Rattle.script.proofs.stored.entry.Statement.{statement}

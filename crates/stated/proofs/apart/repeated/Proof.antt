@@ -3,7 +3,7 @@ use Prim.Native.Nat.{ℕ, _+_}
 use mathlib.Core.Path.{sym, ap, _∙_}
 use native.Mathlib.Omega.{arith}
 use Rattle.rules.specs.Limits.{small}
-use Rattle.rules.proofs.Tests.{no-bool}
+use Rattle.laws.proofs.Tests.{no-bool}
 use Rattle.store.specs.Layout.{statementTable, placeOf}
 use Rattle.heading.proofs.Forms.{few-statements}
 use Rattle.chains.specs.Chains.{chainOf, stir, stirName}

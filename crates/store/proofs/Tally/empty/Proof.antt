@@ -1,6 +1,6 @@
 -- `Tally::empty` meets its contract: the block without a voter. Assumes nothing.
 use Rattle.rules.specs.Words.{reachedAt}
-use Rattle.rules.proofs.Tallies.{no-quorum}
+use Rattle.laws.proofs.Tallies.{no-quorum}
 use Rattle.settings.specs.Made.{settingsOf}
 use Rattle.words.specs.Meaning.{blockOf}
 use Rattle.store.specs.Meaning.{tallyOf, momentOf}

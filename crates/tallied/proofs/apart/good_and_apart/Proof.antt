@@ -6,7 +6,7 @@ use native.Mathlib.Omega.{arith}
 use borrow.Author.Tests.{not-true, not-false}
 use Rattle.rules.specs.Lists.{all, distinct}
 use Rattle.rules.specs.WellFormed.{tallyGood, sameTally}
-use Rattle.rules.proofs.Tests.{no-bool}
+use Rattle.laws.proofs.Tests.{no-bool}
 use Rattle.settings.specs.Made.{settingsOf}
 use Rattle.store.specs.Decode.{rows, tallyAt, tallies}
 use Rattle.heading.proofs.Walks.{all-end, all-next, distinct-end, distinct-next}

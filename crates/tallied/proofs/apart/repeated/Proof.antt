@@ -3,7 +3,7 @@ use Prim.Native.Nat.{ℕ, _+_, _*_}
 use mathlib.Core.Path.{sym, ap, _∙_}
 use native.Mathlib.Omega.{arith}
 use lib.Dec.{lit≤}
-use Rattle.rules.proofs.Tests.{no-bool}
+use Rattle.laws.proofs.Tests.{no-bool}
 use Rattle.store.specs.Layout.{tallySize}
 use Rattle.heading.proofs.Forms.{few-tallies}
 use Rattle.chains.specs.Chains.{chainOf, stirName}

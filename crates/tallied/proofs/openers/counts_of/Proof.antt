@@ -4,7 +4,7 @@ use mathlib.Core.Path.{_≡_, refl}
 use native.Mathlib.Omega.{arith}
 use lib.ListN.{length, length-set}
 use borrow.Author.Needs.{needs}
-use Rattle.rules.proofs.Bounds.{tallies-most}
+use Rattle.laws.proofs.Bounds.{tallies-most}
 use Rattle.store.specs.Layout.{sizeIn}
 use Rattle.tallied.specs.Tallies.{Counted}
 use Rattle.tallied.proofs.Counting.{counted-start, counted-more, counted-most, counted-whole, opener-small}

@@ -1,5 +1,5 @@
 -- `tallied::tallies::tally_good` meets its contract. Assumes nothing.
-use Rattle.rules.proofs.Truths.{beq-iff}
+use Rattle.laws.proofs.Truths.{beq-iff}
 use Rattle.tallied.proofs.Parts.{tally-is}
 use borrow.Author.Needs.{needs}
 use Rattle.tallied.proofs.tallies.tally_good.Statement.{statement}

@@ -4,11 +4,11 @@ use Prim.Native.Nat.{ℕ, suc, _+_, _*_, _≤_}
 use native.Mathlib.Omega.{arith}
 use mathlib.Core.List.{List, [], _∷_, _++_}
 use lib.ListN.{length, length-append}
 use Rattle.rules.specs.Lists.{unbe}
 use Rattle.rules.specs.Messages.{Message, newView, propose, vote, blame, blameSet, status, field, width, rowOf, tagsOf, kind, values, writes, write, size, Effect, toAll, toOne, committed, effect, outgoing}
 use Rattle.rules.specs.Inputs.{reports}
-use Rattle.rules.proofs.Bytes.{length-unbe}
-use Rattle.rules.proofs.Written.{writes-cons}
+use Rattle.laws.proofs.Bytes.{length-unbe}
+use Rattle.laws.proofs.Written.{writes-cons}
 
 pub length-field : (t : ℕ) (bs : List ℕ) → length (field t bs) ≡ 3 + length bs
 unfolding field unbe

@@ -5,8 +5,8 @@ use mathlib.Core.Bool.{Bool, true, false, _&&_, _||_, Bool·beq}
 use mathlib.Core.Logic.{_⊎_, inl, inr}
 use lib.Dec.{eqb}
 use borrow.Author.Tests.{eqb-true}
 use Rattle.rules.specs.Lists.{iff}
-use Rattle.rules.proofs.Tests.{by-bool, no-bool}
+use Rattle.laws.proofs.Tests.{by-bool, no-bool}
 
 pub eqb-sym : (a b : ℕ) → eqb a b ≡ eqb b a
 eqb-sym a b =

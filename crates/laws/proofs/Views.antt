@@ -6,18 +6,18 @@ use mathlib.Core.Bool.{true, false}
 use mathlib.Core.List.{List, [], _∷_, List·Memᴰ}
 use lib.Dec.{ltb, eqb}
 use borrow.Author.Tests.{eqb-true, ltb-true}
 use Rattle.rules.specs.Lists.{keep}
 use Rattle.rules.specs.Sizes.{leader}
 use Rattle.rules.specs.Messages.{Message, viewOf, Effect, toAll, toOne, committed}
 use Rattle.rules.specs.Words.{Statement, message, conflict, State}
 use Rattle.rules.specs.Inputs.{saying, _▸_, withPhase, withTables, withBlames, withLog, entering, isIn, belowLock, votedFor, ballot, stored, blamed, blameFull, report, current, inOrder, votingAll}
 use Rattle.rules.specs.Refusals.{ahead}
-use Rattle.rules.proofs.Tests.{by-bool}
-use Rattle.rules.proofs.Truths.{and-2}
-use Rattle.rules.proofs.Searches.{first-any, All, all-append, all-map, to-all, mem-keep}
-use Rattle.rules.proofs.Statements.{conflict-view, pair-some, mem-order}
-use Rattle.rules.proofs.Moves.{Outside, arrived, Move, joins, stores, passes, casts, clashes, accuses, fills, complains, entersFull, entersPair, enters, Moves, here, more, voting-low, voting-high}
-use Rattle.rules.proofs.Kept.{in-true, move-kept, votingAll-fixed}
+use Rattle.laws.proofs.Tests.{by-bool}
+use Rattle.laws.proofs.Truths.{and-2}
+use Rattle.laws.proofs.Searches.{first-any, All, all-append, all-map, to-all, mem-keep}
+use Rattle.laws.proofs.Statements.{conflict-view, pair-some, mem-order}
+use Rattle.laws.proofs.Moves.{Outside, arrived, Move, joins, stores, passes, casts, clashes, accuses, fills, complains, entersFull, entersPair, enters, Moves, here, more, voting-low, voting-high}
+use Rattle.laws.proofs.Kept.{in-true, move-kept, votingAll-fixed}
 
 -- a message to all or to one is of view v or earlier
 abbrev pub ViewSaid : ℕ → Effect → Type 0

@@ -9,11 +9,11 @@ use lib.ListN.{length, take, drop, getD, length-append, take-append-drop}
 use lib.Seq.{length-take-le}
 use lib.Dec.{leb, eqb}
 use borrow.Author.Tests.{eqb-true, leb-true}
 use Rattle.rules.specs.Lists.{be, unbe}
 use Rattle.rules.specs.Messages.{Message, newView, propose, vote, blame, blameSet, status, field, width, Row, rowOf, tagsOf, kind, values, writes, write, after, readField, reads, body, read}
-use Rattle.rules.proofs.Tests.{by-bool, by-option, no-some}
-use Rattle.rules.proofs.Bytes.{Bytes, bytes-split, length-unbe, unbe-be}
-use Rattle.rules.proofs.Written.{reads-cons, writes-cons, write-eq, read-eq}
+use Rattle.laws.proofs.Tests.{by-bool, by-option, no-some}
+use Rattle.laws.proofs.Bytes.{Bytes, bytes-split, length-unbe, unbe-be}
+use Rattle.laws.proofs.Written.{reads-cons, writes-cons, write-eq, read-eq}
 
 after-inv : (ps bs r : List ℕ) → after ps bs ≡ some r → bs ≡ ps ++ r
 unfolding after

@@ -12,20 +12,20 @@ use lib.Bits.{or-comm}
 use lib.ListN.{length, getD, set, length-set}
 use lib.Seq.{getD-set-same}
 use borrow.Author.Tests.{eqb-true, eq-eqb, lt-ltb, ltb-true}
 use Rattle.rules.specs.Limits.{lastView, lastClock}
 use Rattle.rules.specs.Lists.{first}
 use Rattle.rules.specs.Sizes.{Settings, only, bit, joined, quorum}
 use Rattle.rules.specs.Messages.{Effect}
 use Rattle.rules.specs.Words.{Statement, sameStatement, Certificate, Opener, Tally, certificateOf, ownBlock, certificate, join, joinCertificate, voters, Phase, inView, waiting, stopped, State, moment}
 use Rattle.rules.specs.Inputs.{Work, saying, _▸_, withPhase, withClock, withTables, withBlames, withLog, entering, isIn, quit, belowLock, votedFor, stored, blamesOf, blamed, blameFull, due, commits, logging, complain, lead, entersNow, entered, current, pair, inOrder, votingAll, arrive, enter, ticked}
 use Rattle.rules.specs.Refusals.{hasRoom, ifRoom, running, tick}
-use Rattle.rules.proofs.Tests.{by-bool, by-option, no-bool}
-use Rattle.rules.proofs.Truths.{and-2, both}
-use Rattle.rules.proofs.Searches.{first-kept, first-any}
-use Rattle.rules.proofs.Masks.{quorum-joined}
-use Rattle.rules.proofs.Statements.{in-cong, in-append, in-noted, first-other, In}
-use Rattle.rules.proofs.Tallies.{count-quorum, voters-join, voters-certificate}
-use Rattle.rules.proofs.Moves.{Outside, arrived, Move, joins, stores, passes, casts, clashes, accuses, fills, complains, entersFull, entersPair, enters, Moves, here, more, voting-low, voting-high, arrive-full, arrive-pair, arrive-clean}
+use Rattle.laws.proofs.Tests.{by-bool, by-option, no-bool}
+use Rattle.laws.proofs.Truths.{and-2, both}
+use Rattle.laws.proofs.Searches.{first-kept, first-any}
+use Rattle.laws.proofs.Masks.{quorum-joined}
+use Rattle.laws.proofs.Statements.{in-cong, in-append, in-noted, first-other, In}
+use Rattle.laws.proofs.Tallies.{count-quorum, voters-join, voters-certificate}
+use Rattle.laws.proofs.Moves.{Outside, arrived, Move, joins, stores, passes, casts, clashes, accuses, fills, complains, entersFull, entersPair, enters, Moves, here, more, voting-low, voting-high, arrive-full, arrive-pair, arrive-clean}
 
 -- ---- phases
 

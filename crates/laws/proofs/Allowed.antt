@@ -8,14 +8,14 @@ use mathlib.Core.Bool.{true}
 use lib.Dec.{leb, ltb, eqb, lit≤}
 use lib.Pow.{pow-lt}
 use borrow.Author.Tests.{ltb-true, leb-true, eqb-true, eqb-false, lt-ltb, le-leb, ne-eqb}
 use Rattle.rules.specs.Limits.{Size, leastStations, mostStations, leastDelay, mostDelay, firstView, lastView, lastHeight, lastViewLarge}
 use Rattle.rules.specs.Lists.{iff, within}
 use Rattle.rules.specs.Sizes.{Settings, goodSettings, leader, only, quorum}
 use Rattle.rules.specs.Messages.{Message, newView, propose, vote, blame, blameSet, status, viewAllowed, blockAllowed, maskAllowed, certificateAllowed, allowed}
 use Rattle.rules.specs.WellFormed.{isName, isMask}
-use Rattle.rules.proofs.Bounds.{views-most}
-use Rattle.rules.proofs.Tests.{by-bool}
-use Rattle.rules.proofs.Truths.{and-2, and-3, and-4, and-5, and-6, both}
+use Rattle.laws.proofs.Bounds.{views-most}
+use Rattle.laws.proofs.Tests.{by-bool}
+use Rattle.laws.proofs.Truths.{and-2, and-3, and-4, and-5, and-6, both}
 
 pub within-le : (a b x : ℕ) → within a b x ≡ true → (a ≤ x) × (x ≤ b)
 unfolding within

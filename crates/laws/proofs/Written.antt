@@ -9,10 +9,10 @@ use lib.ListN.{length, take, drop, getD, length-append}
 use lib.Seq.{take-at, drop-at}
 use lib.Dec.{leb}
 use borrow.Author.Tests.{le-leb}
 use Rattle.rules.specs.Lists.{be, unbe}
 use Rattle.rules.specs.Messages.{InWidth, Fitting, Message, newView, propose, vote, blame, blameSet, status, field, width, Row, table, rowOf, tagsOf, kind, values, writes, write, after, readField, reads, body, read}
-use Rattle.rules.proofs.Tests.{eqb-self}
-use Rattle.rules.proofs.Bytes.{Bytes, length-unbe, be-unbe}
+use Rattle.laws.proofs.Tests.{eqb-self}
+use Rattle.laws.proofs.Bytes.{Bytes, length-unbe, be-unbe}
 
 after-self : (ps r : List ℕ) → after ps (ps ++ r) ≡ some r
 unfolding after

@@ -10,16 +10,16 @@ use mathlib.Core.Option.{none, some, Option·some-injective}
 use lib.ListN.{getD}
 use lib.Dec.{eqb}
 use borrow.Author.Tests.{eqb-true, eq-eqb, leb-true}
 use Rattle.rules.specs.Lists.{first}
 use Rattle.rules.specs.Messages.{Message, newView, propose, kind, values}
 use Rattle.rules.specs.Words.{Statement, message, against, conflict, inView, State}
 use Rattle.rules.specs.Inputs.{isIn, leads, top, above, offered}
-use Rattle.rules.proofs.Tests.{by-bool, by-option, no-some, no-bool}
-use Rattle.rules.proofs.Truths.{and-2, and-3, or-2}
-use Rattle.rules.proofs.Searches.{first-any, first-mem}
-use Rattle.rules.proofs.Statements.{conflict-against, conflict-view, no-conflict-level, In, mem-in, Clean, no-conflict}
-use Rattle.rules.proofs.Offers.{top-mem, top-some, offer-made}
-use Rattle.rules.proofs.Kept.{in-true}
+use Rattle.laws.proofs.Tests.{by-bool, by-option, no-some, no-bool}
+use Rattle.laws.proofs.Truths.{and-2, and-3, or-2}
+use Rattle.laws.proofs.Searches.{first-any, first-mem}
+use Rattle.laws.proofs.Statements.{conflict-against, conflict-view, no-conflict-level, In, mem-in, Clean, no-conflict}
+use Rattle.laws.proofs.Offers.{top-mem, top-some, offer-made}
+use Rattle.laws.proofs.Kept.{in-true}
 
 -- a search for what no stored one is finds nothing
 none-first : {A : Type 0} (p : A → Bool) (xs : List A) → ((z : A) → List·Memᴰ z xs → p z ≡ false) → first p xs ≡ none

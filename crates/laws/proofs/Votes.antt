@@ -4,17 +4,17 @@ use mathlib.Core.Path.{_≡_, refl, sym, _∙_}
 use Prim.Native.Nat.{ℕ, _+_}
 use mathlib.Core.Bool.{Bool, true, false}
 use mathlib.Core.List.{List, [], _∷_, _++_}
 use Rattle.rules.specs.Messages.{Message, newView, propose, vote, blame, blameSet, status, Effect, toAll, toOne, committed}
 use Rattle.rules.specs.Words.{Statement, message, certificate, below, inView, State}
 use Rattle.rules.specs.Inputs.{saying, _▸_, withPhase, withTables, withBlames, withLog, entering, belowLock, votedFor, ballot, stored, blamed, report, current, inOrder, votingAll}
-use Rattle.rules.proofs.Tests.{by-bool}
-use Rattle.rules.proofs.Truths.{and-rest}
-use Rattle.rules.proofs.Searches.{All, all-append, all-split, all-map, to-all}
-use Rattle.rules.proofs.Statements.{In, mem-in, in-last, in-noted, mem-order}
-use Rattle.rules.proofs.Moves.{Outside, arrived, Move, joins, stores, passes, casts, clashes, accuses, fills, complains, entersFull, entersPair, enters, Moves, here, more, voting-low, voting-high}
-use Rattle.rules.proofs.Kept.{in-true, moves-fixed, votingAll-fixed, voted-kept, votingAll-kept}
-use Rattle.rules.proofs.Orderly.{Orderly, move-orderly, moves-orderly}
-use Rattle.rules.proofs.Held.{report-all}
+use Rattle.laws.proofs.Tests.{by-bool}
+use Rattle.laws.proofs.Truths.{and-rest}
+use Rattle.laws.proofs.Searches.{All, all-append, all-split, all-map, to-all}
+use Rattle.laws.proofs.Statements.{In, mem-in, in-last, in-noted, mem-order}
+use Rattle.laws.proofs.Moves.{Outside, arrived, Move, joins, stores, passes, casts, clashes, accuses, fills, complains, entersFull, entersPair, enters, Moves, here, more, voting-low, voting-high}
+use Rattle.laws.proofs.Kept.{in-true, moves-fixed, votingAll-fixed, voted-kept, votingAll-kept}
+use Rattle.laws.proofs.Orderly.{Orderly, move-orderly, moves-orderly}
+use Rattle.laws.proofs.Held.{report-all}
 
 module _ (S : ℕ → Effect → Type 0) where
   -- in t, a vote for (v, h, b) is as it should be

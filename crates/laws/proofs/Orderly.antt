@@ -11,20 +11,20 @@ use mathlib.Core.Option.{Option, none, some, Option·map, map-eq-some-iff}
 use lib.ListN.{getD-replicate}
 use lib.Dec.{eqb}
 use borrow.Author.Tests.{eqb-true}
 use Rattle.rules.specs.Limits.{firstView, lastView}
 use Rattle.rules.specs.Lists.{first, any, keep, alter}
 use Rattle.rules.specs.Sizes.{Settings, joined, quorum}
 use Rattle.rules.specs.Messages.{vote, blameSet, Effect, toAll}
 use Rattle.rules.specs.Words.{Statement, message, sameStatement, conflict, Certificate, Opener, Tally, certificateOf, certificate, below, inView, waiting, State, fresh}
 use Rattle.rules.specs.Inputs.{Work, saying, _▸_, withPhase, withClock, withTables, withBlames, withLog, entering, isIn, belowLock, noted, votedFor, ballot, voting, stored, blamesOf, blamed, blameFull, entersNow, report, current, pair, inOrder, votingAll}
-use Rattle.rules.proofs.Bounds.{views-some}
-use Rattle.rules.proofs.Tests.{by-bool, no-some, no-bool}
-use Rattle.rules.proofs.Truths.{and-2, and-rest}
-use Rattle.rules.proofs.Searches.{first-any, first-append, All, all-split, mem-keep}
-use Rattle.rules.proofs.Statements.{same-like, same-self, same-sym, same-cong, conflict-sym, conflict-view, In, in-keep, in-order, in-noted, first-noted, first-other, Clean, clean-append, clean-view, pair-some}
-use Rattle.rules.proofs.Tallies.{no-quorum}
-use Rattle.rules.proofs.Moves.{Outside, arrived, fillsNow, Move, joins, stores, passes, casts, clashes, accuses, fills, complains, entersFull, entersPair, enters, Moves, here, more, voting-low, voting-high}
-use Rattle.rules.proofs.Kept.{no-phase, waiting-clock, in-true, true-in, enters-at, blamed-cases, moves-fixed}
+use Rattle.laws.proofs.Bounds.{views-some}
+use Rattle.laws.proofs.Tests.{by-bool, no-some, no-bool}
+use Rattle.laws.proofs.Truths.{and-2, and-rest}
+use Rattle.laws.proofs.Searches.{first-any, first-append, All, all-split, mem-keep}
+use Rattle.laws.proofs.Statements.{same-like, same-self, same-sym, same-cong, conflict-sym, conflict-view, In, in-keep, in-order, in-noted, first-noted, first-other, Clean, clean-append, clean-view, pair-some}
+use Rattle.laws.proofs.Tallies.{no-quorum}
+use Rattle.laws.proofs.Moves.{Outside, arrived, fillsNow, Move, joins, stores, passes, casts, clashes, accuses, fills, complains, entersFull, entersPair, enters, Moves, here, more, voting-low, voting-high}
+use Rattle.laws.proofs.Kept.{no-phase, waiting-clock, in-true, true-in, enters-at, blamed-cases, moves-fixed}
 
 pair-view : (v : ℕ) (xs : List Statement) (p : Statement × Statement) → pair (keep (λ y. eqb (y .view) v) xs) ≡ some p → p .0 .view ≡ v
 pair-view v xs p f = eqb-true (p .0 .view) v (mem-keep (λ (y : Statement). eqb (y .view) v) xs (p .0) (pair-some _ p f .1) .1)

@@ -7,11 +7,11 @@ use mathlib.Core.List.{List, [], _∷_, List·Memᴰ, List·Memᴰ·head, List·
 use mathlib.Core.Option.{some, Option·some-injective}
 use lib.Dec.{ltb, eqb}
 use borrow.Author.Tests.{eqb-true, eq-eqb, ltb-true, ltb-false, not-true}
 use Rattle.rules.specs.Messages.{Message}
 use Rattle.rules.specs.Words.{Statement, State}
 use Rattle.rules.specs.Inputs.{leads, isOpened, isUsed, top, extendable, above, offered}
-use Rattle.rules.proofs.Tests.{by-bool, by-option, no-some}
-use Rattle.rules.proofs.Truths.{and-2}
+use Rattle.laws.proofs.Tests.{by-bool, by-option, no-some}
+use Rattle.laws.proofs.Truths.{and-2}
 
 -- the greatest-height statement of a view is stored and of that view
 pub top-mem : (v : ℕ) (xs : List Statement) (x : Statement) → top v xs ≡ some x → List·Memᴰ x xs × (x .view ≡ v)

@@ -6,8 +6,8 @@ use mathlib.Core.List.{List, [], _∷_, _++_, List·Memᴰ, List·Memᴰ·head, 
 use mathlib.Core.Logic.{_⊎_, inl, inr}
 use mathlib.Core.Option.{none, some, Option·some-injective}
 use lib.Dec.{leb}
 use Rattle.rules.specs.Lists.{first, any, keep, alter, insert, sorted}
-use Rattle.rules.proofs.Tests.{by-bool, no-some}
+use Rattle.laws.proofs.Tests.{by-bool, no-some}
 
 -- an element is the first or one of the rest
 pub by-mem {ℓ} : {A : Type 0} {P : Type ℓ} {x z : A} {xs : List A} → List·Memᴰ z (x ∷ xs) → (z ≡ x → P) → (List·Memᴰ z xs → P) → P

@@ -6,15 +6,15 @@ use mathlib.Core.Bool.{true}
 use mathlib.Core.List.{List}
 use mathlib.Core.Option.{Option, none}
 use lib.Dec.{eqb}
 use Rattle.rules.specs.Limits.{lastClock}
 use Rattle.rules.specs.Messages.{read, allowed, Effect}
 use Rattle.rules.specs.Words.{full, split, clock, stopped, State}
 use Rattle.rules.specs.Inputs.{Work, saying, _▸_, withPhase, withClock, withTables, withBlames, withLog, entering, votedFor, stored, blamed, handled, offered, due, commits, logging, complain, lead, enter, current, inOrder}
 use Rattle.rules.specs.Refusals.{done, refused, hasRoom, ifRoom, running, step, offer, tick}
-use Rattle.rules.proofs.Tests.{by-bool, by-option, no-bool}
-use Rattle.rules.proofs.Answers.{by-step, by-offer}
-use Rattle.rules.proofs.Moves.{Outside, handed, made, arrived, counted, Move, joins, stores, passes, casts, clashes, accuses, fills, complains, entersFull, entersPair, enters, Moves, here, more, ticked-some, handled-moves, then-moves, complain-moves, lead-moves, enter-moves}
-use Rattle.rules.proofs.Kept.{votingAll-fixed}
+use Rattle.laws.proofs.Tests.{by-bool, by-option, no-bool}
+use Rattle.laws.proofs.Answers.{by-step, by-offer}
+use Rattle.laws.proofs.Moves.{Outside, handed, made, arrived, counted, Move, joins, stores, passes, casts, clashes, accuses, fills, complains, entersFull, entersPair, enters, Moves, here, more, ticked-some, handled-moves, then-moves, complain-moves, lead-moves, enter-moves}
+use Rattle.laws.proofs.Kept.{votingAll-fixed}
 
 abbrev pub Split : State → Type 0
 Split s = s .phase ≡ stopped split

@@ -9,12 +9,12 @@ use mathlib.Core.Logic.{_⊎_, inl, inr}
 use mathlib.Core.Option.{Option, none, some, Option·map, Option·some-injective}
 use lib.Dec.{eqb, leb}
 use borrow.Author.Tests.{eqb-true, le-leb, eq-eqb, not-true}
 use Rattle.rules.specs.Lists.{iff, first, any, keep, alter, distinct}
 use Rattle.rules.specs.Words.{Statement, sameStatement, against, conflict, State}
 use Rattle.rules.specs.Inputs.{noted, pair, current, inOrder}
-use Rattle.rules.proofs.Tests.{by-bool, by-option, no-some, no-bool}
-use Rattle.rules.proofs.Truths.{eqb-sym, and-2, or-2, or-not, or-sym, iff-eq, iff-refl, iff-sym}
-use Rattle.rules.proofs.Searches.{by-mem, any-append, any-alter, any-sorted, any-mem, first-any, mem-keep, mem-sorted, first-mem}
+use Rattle.laws.proofs.Tests.{by-bool, by-option, no-some, no-bool}
+use Rattle.laws.proofs.Truths.{eqb-sym, and-2, or-2, or-not, or-sym, iff-eq, iff-refl, iff-sym}
+use Rattle.laws.proofs.Searches.{by-mem, any-append, any-alter, any-sorted, any-mem, first-any, mem-keep, mem-sorted, first-mem}
 
 -- ---- the same statement
 

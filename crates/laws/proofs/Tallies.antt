@@ -11,12 +11,12 @@ use mathlib.Core.Logic.{_⊎_, inl, inr}
 use lib.Dec.{eqb, ltb}
 use lib.Count.{onesIn}
 use borrow.Author.Tests.{eqb-true, eq-eqb, lt-ltb, ltb-true, not-true}
 use Rattle.rules.specs.Limits.{maskBits}
 use Rattle.rules.specs.Sizes.{Settings, faults, only, bit, joined, count, quorum}
 use Rattle.rules.specs.Words.{Certificate, Moment, Tally, certificateOf, sameBlock, grown, join, joinCertificate, voters, certified, below, higher, genesis, highest}
-use Rattle.rules.proofs.Tests.{by-bool, no-bool}
-use Rattle.rules.proofs.Truths.{and-2, both, or-2, or-right, or-not}
-use Rattle.rules.proofs.Masks.{joined-bit, joined-left, joined-right, count-joined, count-more, count-none, bit-below, quorum-count}
+use Rattle.laws.proofs.Tests.{by-bool, no-bool}
+use Rattle.laws.proofs.Truths.{and-2, both, or-2, or-right, or-not}
+use Rattle.laws.proofs.Masks.{joined-bit, joined-left, joined-right, count-joined, count-more, count-none, bit-below, quorum-count}
 
 -- ---- masks of one station, and of all sound ones
 

@@ -9,12 +9,12 @@ use mathlib.Core.Logic.{_⊎_, inl, inr}
 use mathlib.Core.Option.{none}
 use lib.Dec.{ltb, eqb}
 use borrow.Author.Tests.{eqb-true, eq-eqb, leb-true, ltb-true}
 use Rattle.rules.specs.Sizes.{Settings, holds}
 use Rattle.rules.specs.Words.{Statement, message, Certificate, Tally, certificate, below, highest, State}
 use Rattle.rules.specs.Inputs.{isIn, belowLock, leads, blamesOf, votes, overdue, leadsNow, ownNewView}
-use Rattle.rules.proofs.Tests.{by-bool}
-use Rattle.rules.proofs.Truths.{and-2, both, or-2}
-use Rattle.rules.proofs.Tallies.{Above}
+use Rattle.laws.proofs.Tests.{by-bool}
+use Rattle.laws.proofs.Truths.{and-2, both, or-2}
+use Rattle.laws.proofs.Tallies.{Above}
 
 -- "its leader at exactly entry+2D+1"
 pub leads-at : (s : State) → leadsNow s ≡ true → (leads s ≡ true) × (s .clock ≡ s .entry + 2 * s .settings .D + 1)

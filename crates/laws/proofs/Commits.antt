@@ -10,14 +10,14 @@ use mathlib.Core.Option.{none, some, Option·some-injective, map-eq-some-iff}
 use lib.Dec.{eqb}
 use lib.ListN.{length}
 use borrow.Author.Tests.{eqb-true, leb-true, le-leb, eq-eqb, not-true}
 use Rattle.rules.specs.Messages.{Message, Effect, toAll, toOne, committed}
 use Rattle.rules.specs.Words.{Statement, State}
 use Rattle.rules.specs.Inputs.{saying, _▸_, isIn, belowLock, votedFor, ballot, isDue, due, chain, merge, commit, commits, reports, report, current, inOrder, votingAll}
-use Rattle.rules.proofs.Tests.{by-bool, by-option, no-some, no-bool}
-use Rattle.rules.proofs.Truths.{and-2}
-use Rattle.rules.proofs.Searches.{All, all-append, by-mem, mem-keep, keep-mem, mem-sorted, sorted-mem}
-use Rattle.rules.proofs.Moves.{Outside, arrived, Move, joins, stores, passes, casts, clashes, accuses, fills, complains, entersFull, entersPair, enters, Moves, here, more, voting-low, voting-high}
-use Rattle.rules.proofs.Held.{report-all}
+use Rattle.laws.proofs.Tests.{by-bool, by-option, no-some, no-bool}
+use Rattle.laws.proofs.Truths.{and-2}
+use Rattle.laws.proofs.Searches.{All, all-append, by-mem, mem-keep, keep-mem, mem-sorted, sorted-mem}
+use Rattle.laws.proofs.Moves.{Outside, arrived, Move, joins, stores, passes, casts, clashes, accuses, fills, complains, entersFull, entersPair, enters, Moves, here, more, voting-low, voting-high}
+use Rattle.laws.proofs.Held.{report-all}
 
 -- ---- one log begins another
 

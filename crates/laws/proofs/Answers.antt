@@ -6,12 +6,12 @@ use mathlib.Core.Bool.{true, false}
 use mathlib.Core.List.{List}
 use mathlib.Core.Option.{none, some}
 use lib.Dec.{eqb}
 use Rattle.rules.specs.Limits.{lastClock}
 use Rattle.rules.specs.Messages.{Message, read, allowed}
 use Rattle.rules.specs.Words.{split, clock, State}
 use Rattle.rules.specs.Inputs.{Work, handled, offered, ticked}
 use Rattle.rules.specs.Refusals.{Outcome, refused, stopping, ifRoom, running, ahead, usedUp, heard, step, offer, tick}
-use Rattle.rules.proofs.Tests.{by-bool, by-option}
+use Rattle.laws.proofs.Tests.{by-bool, by-option}
 
 module _ {ℓ} (P : Outcome → Type ℓ) (s : State) (unchanged : (k : ℕ) → P (refused k s)) where
   pub by-step : (bs : List ℕ) → ((m : Message) → read bs ≡ some m → allowed (s .settings) m ≡ true → usedUp m s ≡ false → P (ifRoom s (handled m s))) → P (step bs s)

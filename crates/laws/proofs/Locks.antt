@@ -4,14 +4,14 @@ use Prim.Native.Nat.{ℕ, _+_, _/_, _%_, _≤_, _<_}
 use native.Mathlib.Omega.{arith}
 use mathlib.Core.List.{List}
 use mathlib.Core.Logic.{_⊎_, inl, inr}
 use Rattle.rules.specs.Limits.{maskBits}
 use Rattle.rules.specs.Sizes.{Settings, bit, count}
 use Rattle.rules.specs.Messages.{Effect}
 use Rattle.rules.specs.Words.{Certificate, Opener, Tally, certificateOf, voters, State}
 use Rattle.rules.specs.Inputs.{withPhase, withTables, withBlames, withLog, entering, votedFor, stored, blamed, nextLock, current, inOrder}
-use Rattle.rules.proofs.Tallies.{Above, sound-quorum, count-quorum, highest-above}
-use Rattle.rules.proofs.Moves.{Outside, arrived, Move, joins, stores, passes, casts, clashes, accuses, fills, complains, entersFull, entersPair, enters, Moves, here, more}
-use Rattle.rules.proofs.Kept.{move-fixed, move-kept, votingAll-fixed}
+use Rattle.laws.proofs.Tallies.{Above, sound-quorum, count-quorum, highest-above}
+use Rattle.laws.proofs.Moves.{Outside, arrived, Move, joins, stores, passes, casts, clashes, accuses, fills, complains, entersFull, entersPair, enters, Moves, here, more}
+use Rattle.laws.proofs.Kept.{move-fixed, move-kept, votingAll-fixed}
 
 -- the lock stays with the view, or it is the highest certificate as the next is entered
 abbrev Locking : State → State → Type 0

@@ -10,16 +10,16 @@ use mathlib.Core.List.{List, [], _∷_}
 use mathlib.Core.Logic.{inl, inr}
 use mathlib.Core.Option.{none, some, Option·some-injective}
 use lib.Dec.{eqb}
 use Rattle.rules.specs.Sizes.{Settings, only, bit, joined}
 use Rattle.rules.specs.Messages.{Message, newView, propose, vote, blame, blameSet, status, allowed, Effect, toAll, toOne, committed}
 use Rattle.rules.specs.Words.{Statement, message, sameStatement, Certificate, Moment, Tally, certificateOf, ownBlock, certificate, sameBlock, grown, join, joinCertificate, voters, highest, State, moment, fresh}
 use Rattle.rules.specs.Inputs.{saying, _▸_, withPhase, withTables, withBlames, entering, belowLock, noted, votedFor, ballot, stored, blamed, above, ownNewView, report, current, inOrder, votingAll}
-use Rattle.rules.proofs.Tests.{by-bool}
-use Rattle.rules.proofs.Searches.{All, all-append, all-split, all-map, all-of, all-alter}
-use Rattle.rules.proofs.Masks.{joined-bit}
-use Rattle.rules.proofs.Tallies.{bit-only, no-bit, block-eq, voters-tally, highest-tally}
-use Rattle.rules.proofs.Offers.{top-mem, offer-made}
-use Rattle.rules.proofs.Moves.{Outside, Origin, handed, led, made, carried, arrived, Move, joins, stores, passes, casts, clashes, accuses, fills, complains, entersFull, entersPair, enters, Moves, here, more, voting-low, voting-high, carried-certificate}
+use Rattle.laws.proofs.Tests.{by-bool}
+use Rattle.laws.proofs.Searches.{All, all-append, all-split, all-map, all-of, all-alter}
+use Rattle.laws.proofs.Masks.{joined-bit}
+use Rattle.laws.proofs.Tallies.{bit-only, no-bit, block-eq, voters-tally, highest-tally}
+use Rattle.laws.proofs.Offers.{top-mem, offer-made}
+use Rattle.laws.proofs.Moves.{Outside, Origin, handed, led, made, carried, arrived, Move, joins, stores, passes, casts, clashes, accuses, fills, complains, entersFull, entersPair, enters, Moves, here, more, voting-low, voting-high, carried-certificate}
 
 message-noted : (c : ℕ) (x : Statement) → message (noted c x) ≡ message x
 unfolding message noted
