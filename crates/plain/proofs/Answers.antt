@@ -8,7 +8,7 @@ use native.Mathlib.Omega.{arith}
 use lib.ListN.{length, take, drop}
 use lib.Seq.{length-take-le}
 use lib.Dec.{leb, eqb}
-use borrow.Author.Tests.{leb-true, eq-eqb, ne-eqb}
+use borrow.Author.Tests.{leb-true, eqb-true, eq-eqb, ne-eqb}
 use Rattle.rules.specs.Limits.{Size, small, leastOut, leastOutSmall}
 use Rattle.rules.specs.Lists.{be}
 use Rattle.rules.specs.Messages.{outgoing}
@@ -23,7 +23,7 @@ use Rattle.laws.proofs.Bytes as bytes
 use Rattle.fields.specs.Places.{number, Bytes}
 use Rattle.wire.proofs.Reading.{be-number}
 use Rattle.kept.proofs.Outs.{step-room, offer-room, tick-room}
-use Rattle.lent_list.specs.Lists.{Input, tick, offer, message, kindOf, bytesOf, hasLength, hasForm, settingsIn, inputsOf}
+use Rattle.lent_list.specs.Lists.{Input, tick, offer, message, kindOf, bytesOf, inputOf, hasLength, hasForm, settingsIn, inputsOf}
 use Rattle.settings.specs.Made.{sizeFrom}
 use Rattle.slots.specs.Slots.{isInput}
 use Rattle.lent_list.proofs.Kept.{Handed, kept-input, most-number}
@@ -157,17 +157,29 @@ module _ (l o : List ℕ) where
           part-length = ap length said-is ∙ length-take-le (t .count) o₁ count-fits
 
           -- what entering the answer asks for
-          pub may-enter : bytes.Bytes (bytesOf x) → Handed x
-              → ((hasLength l ≡ true) × (isKept (t .number) ≡ true → isInput (kindOf x) (bytesOf x) ≡ true))
+          pub may-enter : {k : ℕ} {bs : List ℕ} → k ≡ kindOf x → bs ≡ bytesOf x → bytes.Bytes bs → Handed x
+              → ((hasLength l ≡ true) × (isKept (t .number) ≡ true → isInput k bs ≡ true))
               × ((t .number < 256) × (length (take (t .count - 0) o₁) < 2 ^ 32) × (length (take (t .count - 0) o₁) ≤ length o))
-          may-enter b n = (
-            (open-list e z .0, λ k. kept-input (state (f .engine)) x b n (ap isKept (sym (y .turned .number)) ∙ k)),
+          may-enter {k} {bs} a d b n = (
+            (
+              open-list e z .0,
+              λ m. ap₂ isInput a d ∙ kept-input (state (f .engine)) x (subst bytes.Bytes d b) n (ap isKept (sym (y .turned .number)) ∙ m),
+            ),
             (
               omega (arith, most-number (state (f .engine)) x, y .turned .number),
               omega (arith, part-length, count-few),
               omega (arith, part-length, count-few, open-out e z),
             ),
           )
+
+-- ---- an input by its kind
+
+-- a name that comes is handed over whole
+pub handed : (k : ℕ) (bs : List ℕ) → (k ≡ 2 → length bs ≡ 32) → Handed (inputOf k bs)
+unfolding inputOf
+handed k bs h =
+    by-bool (eqb k 1) (λ e. rw (e, inputOf) tt)
+    (λ e. by-bool (eqb k 2) (λ f. rw (e, inputOf, f) (h (eqb-true k 2 f))) (λ f. rw (e, inputOf, f) tt))
 
 -- ---- an offered name
 
@@ -184,9 +196,3 @@ module _ (name l o : List ℕ) where
 
   pub name-good : {r : ℕ} {l′ o′ : List ℕ} → length name ≡ 32 → Gives (plainly (offer name) l o) r l′ o′ → Gives (plainOffer name l o) r l′ o′
   name-good n h = rw (named (eq-eqb (length name) 32 n)) h
-
-  -- the name as the code reads it
-  pub name-read : (s : State) {b : ℕ} {t : Turn} {o₁ : List ℕ} → length name ≡ 32 → b ≡ number name 0 32 → Answered (rules.offer b s) t o₁ → Answered (answerTo (offer name) s) t o₁
-  unfolding answerTo
-  name-read s {b} {t} {o₁} n e h =
-      subst (λ (v : ℕ). Answered (rules.offer v s) t o₁) (e ∙ ap (number name 0) (sym n) ∙ sym (be-number name)) h

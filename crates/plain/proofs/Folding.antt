@@ -103,10 +103,10 @@ module _ (k : ℕ) (bs : List ℕ) (s : State) {t : Turn} {o : List ℕ} where
   unfolding answerTo inputOf
   by-tick e h = rw (eq-eqb k 1 e, inputOf) h
 
-  pub by-offer : {b : ℕ} → (k ≡ 1 → ⊥) → k ≡ 2 → isInput k bs ≡ true → b ≡ number bs 0 32 → Answered (rules.offer b s) t o → Answered (answerTo (inputOf k bs) s) t o
+  pub by-offer : {b : ℕ} → (k ≡ 1 → ⊥) → k ≡ 2 → length bs ≡ 32 → b ≡ number bs 0 32 → Answered (rules.offer b s) t o → Answered (answerTo (inputOf k bs) s) t o
   unfolding answerTo inputOf
   by-offer {b} d e i n h =
-      let c : be bs ≡ b = be-number bs ∙ ap (number bs 0) (name-long k bs i e) ∙ sym n in
+      let c : be bs ≡ b = be-number bs ∙ ap (number bs 0) i ∙ sym n in
       rw (ne-eqb k 1 d, inputOf, eq-eqb k 2 e, c) h
 
   pub by-step : (k ≡ 1 → ⊥) → (k ≡ 2 → ⊥) → Answered (rules.step bs s) t o → Answered (answerTo (inputOf k bs) s) t o
