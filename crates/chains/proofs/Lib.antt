@@ -1,3 +1,4 @@
 pub mod Mixes
 pub mod Walks
 pub mod Apart
+pub mod Firsts

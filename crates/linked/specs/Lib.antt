@@ -1,2 +1,2 @@
-pub mod Links
 pub mod Told
+pub mod Links
