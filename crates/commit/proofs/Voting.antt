@@ -15,9 +15,11 @@ use Rattle.rules.specs.Inputs.{votes}
 use Rattle.laws.proofs.Tests.{by-bool, no-bool}
 use Rattle.wire.specs.Meaning.{statementOf}
 use Rattle.wire.specs.declared.Statement.{Statement}
-use Rattle.store.specs.Decode.{voteNumber, rows, statementAt, voteAt, statements, stateFrom, stateOf}
+use Rattle.tallies.specs.Values.{voteNumber}
+use Rattle.store.specs.Decode.{rows, statementAt, voteAt, statements, stateFrom, stateOf}
 use Rattle.store.specs.Layout.{statementTable, countOf}
-use Rattle.store.proofs.Values.{vote-number, voted-is}
+use Rattle.tallies.proofs.Values.{vote-number}
+use Rattle.store.proofs.Values.{voted-is}
 use Rattle.store.proofs.Rows.{rows-from}
 use Rattle.commit.specs.Chains.{voteIf, voteIn, isVoted, isRipe}
 

@@ -22,7 +22,7 @@ use Rattle.store.specs.Decode.{rows, statementAt, statements}
 use Rattle.store.specs.declared.Found.{Found}
 use Rattle.store.specs.declared.Found.the-variants.{At, Nothing}
 use Rattle.store.proofs.Rows.{rows-same}
-use Rattle.store.specs.Changes.{firstFrom}
+use Rattle.store.specs.Searches.{firstFrom}
 use Rattle.commit.specs.Chains.{statementIn, nameIn, Stored, lacking, Walked, WalkedFrom}
 use Rattle.store.proofs.Searches.{found-within, found-matches, found-first, missing-first}
 

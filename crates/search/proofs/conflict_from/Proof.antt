@@ -8,7 +8,7 @@ use Rattle.wire.specs.Meaning.{statementOf}
 use Rattle.store.specs.Layout.{statementTable, countOf}
 use Rattle.store.proofs.Searches.{find-none, find-here, find-next}
 use Rattle.store.specs.Decode.{rows, statementAt}
-use Rattle.store.specs.Changes.{firstFrom}
+use Rattle.store.specs.Searches.{firstFrom}
 use Rattle.search.proofs.Counts.{long}
 use Rattle.search.proofs.conflict_from.Statement.{statement}
 use Rattle.search.proofs.conflict_from.Tie as tie
