@@ -20,7 +20,7 @@ use Rattle.rules.specs.WellFormed.{talliesThere}
 use Rattle.laws.proofs.Tests.{by-bool, no-bool, eqb-self}
 use Rattle.laws.proofs.Truths.{and-2, and-6}
 use Rattle.laws.proofs.Allowed.{allowed-rights}
-use Rattle.store.specs.Changes.{pick, firstFrom, blockAt}
+use Rattle.store.specs.Searches.{pick, firstFrom, blockAt}
 use Rattle.store.specs.declared.Found.{Found}
 use Rattle.store.specs.declared.Found.the-variants.{At, Nothing}
 use Rattle.kept.specs.Parts.{Formed, WellFormed}

@@ -13,9 +13,11 @@ use Rattle.rules.specs.Lists.{keep}
 use Rattle.rules.specs.Words as words
 use Rattle.rules.specs.Inputs.{votes}
 use Rattle.laws.proofs.Tests.{by-bool, no-bool}
-use Rattle.store.specs.Decode.{voteNumber, rows, statementAt, kindAt, voteAt, statements, stateFrom, stateOf}
+use Rattle.tallies.specs.Values.{voteNumber}
+use Rattle.store.specs.Decode.{rows, statementAt, kindAt, voteAt, statements, stateFrom, stateOf}
 use Rattle.store.specs.Layout.{statementTable, countOf}
-use Rattle.store.proofs.Values.{vote-number, voted-is}
+use Rattle.tallies.proofs.Values.{vote-number}
+use Rattle.store.proofs.Values.{voted-is}
 use Rattle.store.proofs.Rows.{rows-from}
 use Rattle.commit.specs.Chains.{voteIf, voteIn, isVoted, isRipe}
 

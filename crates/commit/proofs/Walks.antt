@@ -19,7 +19,7 @@ use Rattle.store.specs.Decode.{nth, rows, statementAt, statements, nameAt}
 use Rattle.store.specs.declared.Found.{Found}
 use Rattle.store.specs.declared.Found.the-variants.{At, Nothing}
 use Rattle.store.proofs.Rows.{rows-same}
-use Rattle.store.specs.Changes.{firstFrom}
+use Rattle.store.specs.Searches.{firstFrom}
 use Rattle.store.proofs.Searches.{found-within, found-matches, found-first, missing-first}
 use Rattle.linked.specs.Told.{nameBelow, Told}
 use Rattle.commit.specs.Chains.{statementIn, nameIn, Stored, lacking, Walked, WalkedFrom, Known, WalkedDown, Meets, Lowered}

@@ -10,7 +10,8 @@ use Rattle.rules.specs.Limits.{mostStatements, mostStatementsLarge}
 use Rattle.rules.specs.Words.{Statement}
 use Rattle.rules.specs.Inputs.{chain}
 use Rattle.store.specs.Layout.{statementTable, logTable, countOf}
-use Rattle.store.specs.Decode.{voteNumber, rows, statementAt, nameAt, statements, Form}
+use Rattle.tallies.specs.Values.{voteNumber}
+use Rattle.store.specs.Decode.{rows, statementAt, nameAt, statements, Form}
 use Rattle.linked.specs.Told.{Told}
 
 -- the statement whose place stands in a table, and its name

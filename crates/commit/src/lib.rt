@@ -13,7 +13,7 @@ ghost use Rattle.fields.specs.Names.{nameOf};
 ghost use Rattle.store.specs.Layout.{sizeIn, headerFormat, statementTable, logTable, storeLength, countOf};
 ghost use Rattle.store.specs.Decode.{statements, statementAt, names, stateOf, Form};
 ghost use Rattle.store.specs.Meaning.{Loads, headerOf};
-ghost use Rattle.store.specs.Changes.{firstFrom};
+ghost use Rattle.store.specs.Searches.{firstFrom};
 ghost use Rattle.linked.specs.Told.{Told};
 ghost use Rattle.commit.specs.Chains.{nameIn, nameSoFar, Stored, voteIn, isRipe, Tells, Meets, Lowered, Known, WalkedDown, Settled, Copied, Begun, WholeChain, Agree};
 ghost use Rattle.commit.specs.Outcome.{Joined, JoinedWith, Committed};

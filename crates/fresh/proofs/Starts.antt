@@ -27,8 +27,8 @@ use Rattle.fresh.specs.Fresh.{answer, freshly}
 use Rattle.store.proofs.Kept.{zero-end}
 use Rattle.store.proofs.Tables.{Holds}
 use Rattle.store.proofs.Forms.{left, sized}
-use Rattle.store.proofs.OneForm.{left-bytes}
-use Rattle.store.proofs.Changes.{put-station}
+use Rattle.oneform.proofs.Held.{left-bytes}
+use Rattle.records.proofs.Changes.{put-station}
 
 -- ---- a cleared store
 

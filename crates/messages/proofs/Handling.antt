@@ -25,7 +25,7 @@ use Rattle.wire.specs.declared.Statement as code
 use Rattle.wire.specs.declared.Message.{Message}
 use Rattle.wire.specs.declared.Message.the-variants.{Stated, Vote, Blame, BlameSet, Status}
 use Rattle.words.specs.Meaning.{blockOf}
-use Rattle.store.specs.Changes.{withVoters}
+use Rattle.tallies.specs.Meaning.{withVoters}
 use Rattle.store.specs.Layout.{tallyTable, countOf}
 use Rattle.store.specs.Decode.{tallyAt, tallies, stateFrom, stateOf, Form}
 use Rattle.store.specs.declared.Found.{Found}

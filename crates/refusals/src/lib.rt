@@ -54,6 +54,6 @@ pub fn stop(store: &mut [u8], number: u64, cause: Cause) -> u64
     requires { ⌜ (Form (now store)) × (number < 2 ^ 32) ⌝ }
     ensures { λ r. ⌜ Mutely (stopping number (causeOf cause) (stateOf (now (store .entry)))) (now (store .exit)) r ⌝ }
 {
-    store::set_phase(store, Phase::Stopped(cause));
+    records::set_phase(store, Phase::Stopped(cause));
     refuse(number)
 }

@@ -13,7 +13,7 @@ use Rattle.rules.specs.Inputs.{pair}
 use Rattle.laws.proofs.Tests.{by-bool}
 use Rattle.words.proofs.Statements.{other-view}
 use Rattle.store.specs.Decode.{rows}
-use Rattle.store.specs.Changes.{firstFrom}
+use Rattle.store.specs.Searches.{firstFrom}
 use Rattle.store.specs.declared.Found.{Found}
 use Rattle.store.specs.declared.Found.the-variants.{At, Nothing}
 use Rattle.store.proofs.Rows.{rows-from}

@@ -11,7 +11,7 @@ use Rattle.store.specs.Decode.{rows}
 use Rattle.store.specs.declared.Found.{Found}
 use Rattle.store.specs.declared.Found.the-variants.{At, Nothing}
 use Rattle.store.proofs.Rows.{rows-from}
-use Rattle.store.specs.Changes.{firstFrom}
+use Rattle.store.specs.Searches.{firstFrom}
 use Rattle.search.specs.Finds.{Finds}
 
 module _ {A : Type 0} (f : ℕ → A) (n : ℕ) where

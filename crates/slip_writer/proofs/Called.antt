@@ -20,7 +20,7 @@ use Rattle.outgoing.specs.Wrote.{Says}
 use Rattle.outgoing.proofs.Writing.{wrote-prefix}
 use Rattle.store.specs.Layout.{storeLength, sizeIn, logTable, countOf}
 use Rattle.store.specs.Decode.{statements, names, stateFrom, stateOf, hasForm, Form}
-use Rattle.store.specs.Changes.{firstFrom}
+use Rattle.store.specs.Searches.{firstFrom}
 use Rattle.store.specs.declared.Found.{Found}
 use Rattle.store.specs.declared.Found.the-variants.{At, Nothing}
 use Rattle.formed.proofs.Whole.{formed-decoded, unformed-decoded}

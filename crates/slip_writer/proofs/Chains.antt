@@ -26,7 +26,7 @@ use Rattle.laws.proofs.Lengths.{length-field, length-write}
 use Rattle.outgoing.proofs.Writing.{says-none, says-both, says-length, put-says, field-says}
 use Rattle.store.specs.Layout.{statementTable, logTable, countOf}
 use Rattle.store.specs.Decode.{rows, statementAt, nameAt, statements, names}
-use Rattle.store.specs.Changes.{pick, firstFrom}
+use Rattle.store.specs.Searches.{pick, firstFrom}
 use Rattle.store.specs.declared.Found.{Found}
 use Rattle.store.specs.declared.Found.the-variants.{At, Nothing}
 use Rattle.store.proofs.Rows.{rows-at, rows-length}

@@ -19,10 +19,11 @@ use Rattle.wire.specs.Meaning.{statementOf}
 use Rattle.wire.specs.declared.Statement.{Statement}
 use Rattle.words.specs.Meaning.{Certifies}
 use Rattle.words.proofs.Statements.{certifies-allowed, certifies-read}
-use Rattle.store.specs.Decode.{voteOf, statementAt, voteAt, stateFrom}
+use Rattle.tallies.specs.Values.{voteOf}
+use Rattle.store.specs.Decode.{statementAt, voteAt, stateFrom}
 use Rattle.store.specs.Meaning.{headerOf}
 use Rattle.store.specs.declared.Station.{Station}
-use Rattle.store.specs.declared.Tally.{Tally}
+use Rattle.tallies.specs.declared.Tally.{Tally}
 use Rattle.heading.specs.Lent.{alone}
 use Rattle.stated.specs.Stated.{bare, voteInOrder}
 

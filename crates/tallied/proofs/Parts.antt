@@ -9,7 +9,8 @@ use Rattle.fields.specs.Places.{Bytes, number}
 use Rattle.fields.proofs.Laws.{number-lt}
 use mathlib.Core.List.{List}
 use Rattle.store.specs.Layout.{sizeIn, tallyTable, placeOf}
-use Rattle.store.specs.Decode.{openerOf, reachedFrom, tallyAt, tallyFor, openerAt, openerFor, sinceAt, sinceFor}
+use Rattle.tallies.specs.Values.{openerOf, reachedFrom}
+use Rattle.store.specs.Decode.{tallyAt, tallyFor, openerAt, openerFor, sinceAt, sinceFor}
 use native.Mathlib.Omega.{arith}
 use lib.Dec.{leb, ltb, eqb}
 use borrow.Author.Tests.{lt-ltb, le-ltb}

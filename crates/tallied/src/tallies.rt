@@ -6,7 +6,8 @@ ghost use Rattle.rules.specs.Limits.{mostStations, mostTallies};
 ghost use Rattle.rules.specs.WellFormed.{openerGood, reachedGood, tallyGood};
 ghost use Rattle.settings.specs.Made.{settingsOf};
 ghost use Rattle.store.specs.Layout.{sizeIn, storeLength};
-ghost use Rattle.store.specs.Decode.{openerOf, reachedFrom, tallyAt, tallies};
+ghost use Rattle.tallies.specs.Values.{openerOf, reachedFrom};
+ghost use Rattle.store.specs.Decode.{tallyAt, tallies};
 use allowed::clauses;
 use settings::Settings;
 

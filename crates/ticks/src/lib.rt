@@ -46,7 +46,7 @@ fn turning(store: &mut [u8], out: &mut [u8], clock: u32, gained: &[u16], len: us
     requires { ⌜ Clear (now store) (now gained) clock len (length (now out)) ⌝ }
     ensures { λ r. ⌜ Works (turning (grownLog (now (store .entry)) (now (gained .entry)) len) (stateOf (now (store .entry)))) (now (out .entry)) 0 (now (store .exit)) (now (out .exit)) r ⌝ }
 {
-    store::set_clock(store, clock);
+    records::set_clock(store, clock);
     let reported = turns::logging(store, out, 0, gained, len);
     moving(store, out, reported)
 }

@@ -18,7 +18,7 @@ use Rattle.wire.specs.declared.Statement as code
 use Rattle.outgoing.proofs.Writing.{says-none, says-one, says-outgoing}
 use Rattle.store.specs.Layout.{statementTable, logTable, sizeIn, countOf}
 use Rattle.store.specs.Decode.{rows, statementAt, nameAt, statements, names, stateFrom, stateOf, Form, Left}
-use Rattle.store.specs.Changes.{appending}
+use Rattle.records.specs.Changes.{appending}
 use Rattle.store.proofs.Rows.{rows-append, rows-length, rows-same, rows-at}
 use Rattle.commit.specs.Chains.{nameIn, statementIn}
 use Rattle.commit.specs.Outcome.{tickLog, Gained}

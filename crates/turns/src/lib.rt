@@ -162,7 +162,7 @@ fn entered(store: &mut [u8], out: &mut [u8], at: usize) -> usize
     let settings = station.settings;
     let view = station.view + 1;
     let lock = search::highest(store, view);
-    store::enter(store, view, lock);
+    records::enter(store, view, lock);
     let to = settings.leader(view as u64);
     if to == settings.own {
         return at;
@@ -188,7 +188,7 @@ pub fn logging(store: &mut [u8], out: &mut [u8], at: usize, gained: &[u16], len:
     while k < len {
         let x = store::statement_at(store, gained[k] as usize);
         let name = x.name;
-        store::append_name(store, name);
+        records::append_name(store, name);
         next = outgoing::committed(out, next, (k + 1) as u32, name);
         k += 1;
     }

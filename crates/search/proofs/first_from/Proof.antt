@@ -5,7 +5,7 @@ use native.Mathlib.Omega.{arith}
 use Rattle.store.specs.Layout.{statementTable, countOf}
 use Rattle.store.proofs.Searches.{find-none, find-here, find-next}
 use Rattle.store.specs.Decode.{rows, statementAt}
-use Rattle.store.specs.Changes.{firstFrom}
+use Rattle.store.specs.Searches.{firstFrom}
 use Rattle.search.specs.Lookups.{asked}
 use Rattle.search.proofs.Counts.{long}
 use Rattle.search.proofs.first_from.Statement.{statement}
