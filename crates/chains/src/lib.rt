@@ -6,7 +6,7 @@ ghost use lib.ListN.{length, set};
 ghost use Rattle.rules.specs.Limits.{mostTalliesLarge};
 ghost use Rattle.rules.specs.Lists.{any};
 ghost use Rattle.store.specs.Decode.{nth};
-ghost use Rattle.chains.specs.Chains.{chains, stir, stirName, chainOf, behind, Walk, isOf};
+ghost use Rattle.chains.specs.Chains.{chains, stir, stirWords, chainOf, behind, Walk, isOf};
 use settings::Settings;
 
 // How many chains there are.
@@ -29,15 +29,18 @@ pub fn stirred(mix: u64, word: u64) -> u64
     std::num::wrapping_add_u64(mix, product)
 }
 
-// A number stirred with the four words of the name at a place.
-pub fn with_name(store: &[u8], mix: u64, at: usize) -> u64
-    requires { ⌜ at + 32 ≤ length (now store) ⌝ }
-    ensures { λ r. ⌜ r ≡ stirName (now (store .entry)) mix at ⌝ }
+// A number stirred with so many words from a place on. How many is asked, so that the compiler makes the loop anew at each call.
+pub fn with_words(store: &[u8], mix: u64, at: usize, words: usize) -> u64
+    requires { ⌜ at + 8 * words ≤ length (now store) ⌝ }
+    ensures { λ r. ⌜ r ≡ stirWords (now (store .entry)) mix at words ⌝ }
 {
-    let first = stirred(mix, fields::get(store, at, 8));
-    let second = stirred(first, fields::get(store, at + 8, 8));
-    let third = stirred(second, fields::get(store, at + 16, 8));
-    stirred(third, fields::get(store, at + 24, 8))
+    let mut mixed = mix;
+    let mut k: usize = 0;
+    while k < words {
+        mixed = stirred(mixed, fields::get(store, at + 8 * k, 8));
+        k += 1;
+    }
+    mixed
 }
 
 // The chain of a number.
