@@ -20,20 +20,25 @@ fn method() -> String {
     let logged = views * blocks;
     format!(
         "\
+![ns per input against the statements held](speed.svg)
+
 Three programs take the same script in one run, each input through the call that a host makes: four views, {blocks} blocks in
 each, every statement handed on and voted for by every other station, {others} statuses of made-up names with each, until all
-{statements} statements and {tallies} tallies are in use and {logged} blocks are logged. All are compiled at the highest level for the oldest
-x86-64, without optimisation across crates. The times are the least of five runs for each 24 inputs, since others who use
-the machine can only make them longer; a round is five runs of each program in turn. Given are the middle of the rounds
-and, with ratios, the quarters around it.
+{statements} statements and {tallies} tallies are in use and {logged} blocks are logged. All are compiled at the highest level, for no
+processor in particular, and none together with what measures it.
 
 - `proved` is the proved station. Every call of it first looks at its whole store; that check is measured by a message
   which is refused right after it.
-- `lent` is a station over the same lent store in plain Rust (host/lent), which holds nothing between calls, checks the
-  store as fully, by the same method, on each call, and does what the rules say on its bytes. **With the check** is proved
-  over lent.
+- `lent` is a station over the same lent store in plain Rust (host/lent). It holds nothing between calls, checks the
+  store as fully on each call, by the same method, and does what the rules say on its bytes. **With the check** is the
+  ratio of proved to lent.
 - `second` is the second program (host/second), which keeps its state in memory and has no store to check. **Without the
-  check** is proved less its check, over second."
+  check** is the ratio of proved, less its check, to second.
+
+The times are the least of five runs for each 24 inputs, since others who use the machine can only make them longer; a
+round is five runs of each program in turn. Given are the middle of the rounds and, with ratios, the quarters around it.
+By kind of input, each input is timed by itself and its least time counts. Instructions are valgrind's count, without the
+time that a cache or a wrong guess of a branch takes; they don't depend on the day. `tools/speed` makes all of it."
     )
 }
 

@@ -118,3 +118,37 @@ fn style() -> String {
         colours("#14181d", "#e8edf2", "#aab4c0", "#2c343d", true)
     )
 }
+
+#[cfg(test)]
+mod tests {
+    use super::*;
+
+    /// Three lines of a point for each part, all of them in the field, with labels that stand apart.
+    #[test]
+    fn lines_are_in_the_field() {
+        let parts = std::array::from_fn(|part| {
+            let more = 2_000.0 * part as f64;
+            [1_900.0 + more, 1_700.0 + more, 1_700.0 + more, 90.0]
+        });
+        let svg = svg(3, 128, &parts);
+        let points = |line: &str| -> Vec<(f64, f64)> {
+            let points = line.split("points=\"").nth(1).and_then(|rest| rest.split('"').next());
+            let number = |word: &str| word.parse::<f64>().unwrap();
+            let pairs = points.unwrap().split(' ').map(|pair| pair.split_once(',').unwrap());
+            pairs.map(|(x, y)| (number(x), number(y))).collect()
+        };
+        let lines: Vec<_> = svg.lines().filter(|line| line.starts_with("<polyline")).collect();
+        assert_eq!(lines.len(), LINES.len());
+        let [left, top, right, bottom] = FIELD;
+        for line in lines {
+            let points = points(line);
+            assert_eq!(points.len(), PARTS);
+            assert!(points.iter().all(|(x, _)| (left..=right).contains(x)));
+            assert!(points.iter().all(|(_, y)| (top..=bottom).contains(y)));
+            assert!(points.is_sorted_by(|one, two| one.0 < two.0 && one.1 > two.1));
+        }
+        let mut labels = [100.0, 101.0, 99.0];
+        apart(&mut labels);
+        assert_eq!(labels, [115.0, 131.0, 99.0]);
+    }
+}

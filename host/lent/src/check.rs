@@ -9,8 +9,9 @@ use station::size::{BLAME, HEADER, NAME, OPENED, STATEMENT, TALLY};
 pub type Statement = [u8; STATEMENT];
 pub type Tally = [u8; TALLY];
 
-/// How many chains there are.
-const CHAINS: usize = 2_048;
+/// How many chains there are of tallies, and of statements.
+const TALLIED: usize = 2_048;
+const STATED: usize = 512;
 
 /// What a check begins to stir with.
 fn salt(clock: u32) -> u64 {
@@ -30,34 +31,34 @@ fn mix_name(mix: u64, name: &Name) -> u64 {
 
 #[inline(always)]
 fn chain_of(mix: u64) -> usize {
-    (mix >> 32) as usize % CHAINS
+    (mix >> 32) as usize
 }
 
-/// The chain of a block at a clock.
+/// The chain of a block's tally at a clock.
 pub fn chain(clock: u32, key: u64, name: &Name) -> usize {
-    chain_of(mix_name(stir(salt(clock), key), name))
+    chain_of(mix_name(stir(salt(clock), key), name)) % TALLIED
 }
 
 /// Chains of a table's records: heads by chain, nexts by place, one more than the place that follows, 0 for none. A record
 /// hangs in front of those that hang already.
-struct Chains<const ROOM: usize> {
-    heads: [u16; CHAINS],
+struct Chains<const HEADS: usize, const ROOM: usize> {
+    heads: [u16; HEADS],
     nexts: [u16; ROOM],
 }
 
-impl<const ROOM: usize> Chains<ROOM> {
-    const EMPTY: Chains<ROOM> = Chains { heads: [0; CHAINS], nexts: [0; ROOM] };
+impl<const HEADS: usize, const ROOM: usize> Chains<HEADS, ROOM> {
+    const EMPTY: Chains<HEADS, ROOM> = Chains { heads: [0; HEADS], nexts: [0; ROOM] };
 
     #[inline(always)]
     fn hang(&mut self, chain: usize, place: usize) {
-        self.nexts[place] = self.heads[chain];
-        self.heads[chain] = place as u16 + 1;
+        self.nexts[place] = self.heads[chain % HEADS];
+        self.heads[chain % HEADS] = place as u16 + 1;
     }
 
     /// The first on a chain that is sought.
     #[inline(always)]
     fn find(&self, chain: usize, sought: impl Fn(usize) -> bool) -> Option<usize> {
-        let mut next = self.heads[chain];
+        let mut next = self.heads[chain % HEADS];
         while next > 0 {
             let place = usize::from(next) - 1;
             if sought(place) {
@@ -72,11 +73,11 @@ impl<const ROOM: usize> Chains<ROOM> {
 /// Where the records of a checked store are.
 pub struct Index {
     salt: u64,
-    tallies: Chains<{ Size::Large.tallies() }>,
+    tallies: Chains<TALLIED, { Size::Large.tallies() }>,
     /// By block and link.
-    statements: Chains<{ Size::Large.statements() }>,
+    statements: Chains<STATED, { Size::Large.statements() }>,
     /// By height, the first stored first.
-    heights: Chains<{ Size::Large.statements() }>,
+    heights: Chains<STATED, { Size::Large.statements() }>,
     /// How many tallies each opened, one more than its number being its place.
     opened: [u16; 256],
     /// So many of the log's lowest names are each that of a first stored propose which links to the name below.
@@ -125,7 +126,7 @@ impl Index {
     /// The first stored propose of a name and height.
     #[inline(always)]
     pub fn propose(&self, statements: &[Statement], height: u32, block: &Name) -> Option<usize> {
-        self.heights.find(height as usize % CHAINS, |place| {
+        self.heights.find(height as usize, |place| {
             let statement = &statements[place];
             four(statement, 4) == height && statement[40] == 2 && name(statement, 8) == block
         })
@@ -280,7 +281,7 @@ impl Index {
                 return false;
             }
             self.statements.hang(chain_of(mix_name(mix, name(statement, 44))), place);
-            self.heights.hang(four(statement, 4) as usize % CHAINS, place);
+            self.heights.hang(four(statement, 4) as usize, place);
         }
         true
     }
@@ -301,7 +302,7 @@ impl Index {
                         && name(s, 8) == logged
                         && name(s, 44) == below
                 };
-                if self.heights.find(height as usize % CHAINS, linked).is_none() {
+                if self.heights.find(height as usize, linked).is_none() {
                     return false;
                 }
             }
