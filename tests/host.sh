@@ -1,5 +1,5 @@
 #!/bin/bash
-# The host side: the Rust crates' tests, both examples of docs/HOST.md, the store's check against a plain one, both programs
+# The host side: the Rust crates' tests, both examples of docs/HOST.md, the store's check against a plain one, the programs
 # in lockstep, and groups with faulty leaders; with small stores and large. Everything goes into target/.
 set -euo pipefail
 cd "$(dirname "$0")/.."

@@ -1,8 +1,7 @@
-//! What is measured: a script, in `bench` input by input and in `replays` as a journal, and in `check` stores, against a
-//! plain check of them.
+//! What is measured: a script, in `bench` input by input, in `instructions` by valgrind's count and in `replays` as a
+//! journal, and in `check` stores, against the check of the station over a lent store in plain Rust.
 
 #![forbid(unsafe_code)]
 
-pub mod plain;
 pub mod script;
 pub mod stores;

@@ -1,7 +1,7 @@
 //! Times of a script, by how full the tables were and by kind of input.
 
-use bench::script::{Call, Input, Kind};
-use programs::{Answer, Program, Proved, Second};
+use bench::script::{Input, Kind};
+use programs::{Lent, Program, Proved, Second};
 use station::Size;
 use std::hint::black_box;
 use std::time::Instant;
@@ -22,42 +22,49 @@ pub fn part(input: &Input) -> usize {
 const TOGETHER: usize = 24;
 const RUNS: usize = 5;
 
-/// ns per input of one round, for each part of the filling.
-#[derive(Clone, Copy, Debug, Default)]
-pub struct Round {
-    pub proved: [f64; PARTS],
-    /// The check of the store alone.
-    pub check: [f64; PARTS],
-    pub second: [f64; PARTS],
+/// What is measured: the proved station, the check of its store alone, the station over a lent store in plain Rust, the
+/// second program.
+pub const COLUMNS: usize = 4;
+pub const PROVED: usize = 0;
+pub const CHECK: usize = 1;
+pub const LENT: usize = 2;
+pub const SECOND: usize = 3;
+
+/// ns per input, by column.
+pub type Times = [f64; COLUMNS];
+
+/// With the check: the proved station's time over that of the station over a lent store in plain Rust.
+pub fn with_check(times: &Times) -> f64 {
+    times[PROVED] / times[LENT]
+}
+
+/// Without it: what is left of the proved station's time over the second program's.
+pub fn without_check(times: &Times) -> f64 {
+    (times[PROVED] - times[CHECK]) / times[SECOND]
 }
 
 /// A script's settings: n, D and the own number.
 pub type Settings = (u64, u64, u64);
 
-fn call<'a, P: Program>(program: &'a mut P, call: &Call) -> Answer<'a> {
-    match call {
-        Call::Tick => program.tick(),
-        Call::Step(message) => program.step(message),
-        Call::Offer(name) => program.offer(name),
-    }
-}
-
-/// One round: both programs, and the proved one with a message that is refused after the check in
+/// One round: all programs, and the proved one with a message that is refused after the check in
 /// front of each input. One after the other, so that what slows the machine slows all of them.
-pub fn round(script: &[Input], settings: Settings) -> Round {
+/// The times of each part of the filling.
+pub fn round(script: &[Input], settings: Settings) -> [Times; PARTS] {
     let stretches = script.len().div_ceil(TOGETHER);
-    let mut least = vec![[f64::MAX; 3]; stretches];
+    let mut least = vec![[f64::MAX; COLUMNS]; stretches];
     for _ in 0..RUNS {
         let proved = run::<Proved>(script, settings, false);
+        let lent = run::<Lent>(script, settings, false);
         let second = run::<Second>(script, settings, false);
         let twice = run::<Proved>(script, settings, true);
         for (place, least) in least.iter_mut().enumerate() {
-            lessen(least, [proved[place], second[place], twice[place]]);
+            lessen(least, [proved[place], twice[place], lent[place], second[place]]);
         }
     }
-    let [proved, second, twice] = by_part(script, &least);
-    let check = std::array::from_fn(|part| twice[part] - proved[part]);
-    Round { proved, check, second }
+    by_part(script, &least).map(|mut times| {
+        times[CHECK] -= times[PROVED];
+        times
+    })
 }
 
 /// The lesser of each two.
@@ -67,9 +74,13 @@ fn lessen<const N: usize>(least: &mut [f64; N], times: [f64; N]) {
     }
 }
 
+fn fresh<P: Program>(settings: Settings) -> P {
+    P::fresh(SIZE, settings.0, settings.1, settings.2).expect("good settings")
+}
+
 /// ns of each stretch of inputs.
 fn run<P: Program>(script: &[Input], settings: Settings, refused: bool) -> Vec<f64> {
-    let mut program = P::fresh(SIZE, settings.0, settings.1, settings.2).expect("good settings");
+    let mut program = fresh::<P>(settings);
     let mut times = Vec::with_capacity(script.len() / TOGETHER + 1);
     for stretch in script.chunks(TOGETHER) {
         times.push(timed(|| {
@@ -77,7 +88,7 @@ fn run<P: Program>(script: &[Input], settings: Settings, refused: bool) -> Vec<f
                 if refused {
                     black_box(program.step(&[]).number);
                 }
-                black_box(call(&mut program, &input.call).number);
+                black_box(input.call.give(&mut program).number);
             }
         }));
     }
@@ -85,24 +96,31 @@ fn run<P: Program>(script: &[Input], settings: Settings, refused: bool) -> Vec<f
 }
 
 /// ns per input of each part, from those of each stretch, which counts where it begins.
-fn by_part(script: &[Input], stretches: &[[f64; 3]]) -> [[f64; PARTS]; 3] {
-    let (mut times, mut inputs) = ([[0.0; PARTS]; 3], [0.0; PARTS]);
+fn by_part(script: &[Input], stretches: &[Times]) -> [Times; PARTS] {
+    let (mut times, mut inputs) = ([[0.0; COLUMNS]; PARTS], [0.0; PARTS]);
     for (stretch, ns) in script.chunks(TOGETHER).zip(stretches) {
         let part = part(&stretch[0]);
         inputs[part] += stretch.len() as f64;
-        for (times, ns) in times.iter_mut().zip(ns) {
-            times[part] += ns;
+        for (times, ns) in times[part].iter_mut().zip(ns) {
+            *times += ns;
         }
     }
-    times.map(|times| std::array::from_fn(|part| times[part] / inputs[part]))
+    std::array::from_fn(|part| times[part].map(|time| time / inputs[part]))
 }
 
-/// ns per input of each kind, over the whole script, without the time of looking at the clock: the
-/// proved station, the check of its store alone, the second program. Each input's least time counts.
-pub fn kinds(script: &[Input], settings: Settings, rounds: usize) -> [[f64; 3]; Kind::ALL.len()] {
-    let mut least = vec![[f64::MAX; 3]; script.len()];
+/// ns per input of each kind, over the whole script, without the time of looking at the clock. Each input's least time
+/// counts.
+pub fn kinds(script: &[Input], settings: Settings, rounds: usize) -> [Times; Kind::ALL.len()] {
+    let mut least = vec![[f64::MAX; COLUMNS]; script.len()];
     for _ in 0..rounds {
-        each(script, settings, &mut least);
+        let proved = each::<Proved>(script, settings);
+        let lent = each::<Lent>(script, settings);
+        let second = each::<Second>(script, settings);
+        for (place, least) in least.iter_mut().enumerate() {
+            let ([check, whole], [_, lent], [_, second]) =
+                (proved[place], lent[place], second[place]);
+            lessen(least, [whole, check, lent, second]);
+        }
     }
     let nothing = (0..1000).map(|_| timed(|| ())).fold(f64::MAX, f64::min);
     Kind::ALL.map(|(kind, _)| {
@@ -114,17 +132,14 @@ pub fn kinds(script: &[Input], settings: Settings, rounds: usize) -> [[f64; 3]; 
     })
 }
 
-/// The times of each input by itself.
-fn each(script: &[Input], settings: Settings, least: &mut [[f64; 3]]) {
-    let fresh = "good settings";
-    let mut proved = Proved::fresh(SIZE, settings.0, settings.1, settings.2).expect(fresh);
-    let mut second = Second::fresh(SIZE, settings.0, settings.1, settings.2).expect(fresh);
-    for (input, least) in script.iter().zip(least) {
-        let check = timed(|| proved.step(&[]).number);
-        let whole = timed(|| call(&mut proved, &input.call).number);
-        let other = timed(|| call(&mut second, &input.call).number);
-        lessen(least, [whole, check, other]);
-    }
+/// The times of a message that is refused after the check, and of each input, by itself.
+fn each<P: Program>(script: &[Input], settings: Settings) -> Vec<[f64; 2]> {
+    let mut program = fresh::<P>(settings);
+    let times = script.iter().map(|input| {
+        let check = timed(|| program.step(&[]).number);
+        [check, timed(|| input.call.give(&mut program).number)]
+    });
+    times.collect()
 }
 
 fn timed<T>(deed: impl FnOnce() -> T) -> f64 {

@@ -1,11 +1,14 @@
 //! The proved station and the second program in lockstep: after each input they must have answered
 //! alike, written the same bytes, and hold the same log and tables.
 //!
+//! `beside` does so to the byte with the station over a lent store in plain Rust.
+//!
 //! `pair` takes one input to both, `sources` has the inputs, `shrink` cuts a failing run down, `text`
 //! reads and writes runs as scripts, `tell` says what the script program must print of one.
 
 #![forbid(unsafe_code)]
 
+pub mod beside;
 pub mod journals;
 pub mod pair;
 pub mod recorded;

@@ -5,12 +5,12 @@
 //!
 //! The bench, and runs to the last record and the last view, are those of both sizes; of the random
 //! scripts one in eight is for the large one. With each goes a random journal, cut and damaged in many
-//! ways. It ends after N inputs (a million, if nothing is said),
+//! ways. One in four goes to the station over a lent store in plain Rust too, with damaged stores on the way. It ends after N inputs (a million, if nothing is said),
 //! or after S seconds, or at the first difference, which it prints as a short script. The exit is 0
 //! exactly when there was none.
 
 use compare::sources::{self, Scripted};
-use compare::{Difference, Met, journals, replay, run, shrink, text};
+use compare::{Difference, Met, beside, journals, replay, run, shrink, text};
 use programs::Proved;
 use second::random::Random;
 use second::replay::Input;
@@ -31,6 +31,17 @@ struct Asked {
 /// One in so many random scripts is for the large size: its stores take much longer to check.
 const LARGE: u64 = 8;
 
+/// One in so many random scripts goes to the station over a lent store in plain Rust too.
+const BESIDE: u64 = 4;
+
+/// What was met on the way.
+#[derive(Default)]
+struct All {
+    met: Met,
+    kept: journals::Met,
+    beside: beside::Met,
+}
+
 fn main() -> ExitCode {
     let asked = match asked() {
         Ok(asked) => asked,
@@ -41,17 +52,17 @@ fn main() -> ExitCode {
             return ExitCode::from(2);
         }
     };
-    let (mut met, mut kept) = (Met::default(), journals::Met::default());
+    let mut all = All::default();
     let start = Instant::now();
     let compared = match asked.scripts.is_empty() {
-        true => fixed(&mut met).and_then(|()| random(&asked, &mut met, &mut kept)),
-        false => asked.scripts.iter().try_for_each(|path| given(asked.size, path, &mut met)),
+        true => fixed(&mut all).and_then(|()| random(&asked, &mut all)),
+        false => asked.scripts.iter().try_for_each(|path| given(asked.size, path, &mut all)),
     };
     if let Err(report) = compared {
         print!("{report}");
         return ExitCode::FAILURE;
     }
-    summary(&met, &kept, start.elapsed());
+    summary(&all, start.elapsed());
     ExitCode::SUCCESS
 }
 
@@ -81,44 +92,59 @@ fn asked() -> Result<Asked, String> {
 }
 
 /// 01's examples, the limits and children with a wrong parent, of both sizes.
-fn fixed(met: &mut Met) -> Result<(), String> {
+fn fixed(all: &mut All) -> Result<(), String> {
     for size in Size::ALL {
         let runs = [sources::bench(size), sources::limits(size), sources::parents()];
         for (title, inputs) in runs.concat() {
-            let (inputs, found) = run::<Proved>(size, sources::Fixed::new(&inputs), met);
+            let (inputs, found) = run::<Proved>(size, sources::Fixed::new(&inputs), &mut all.met);
             if let Some(found) = found {
                 return Err(report(title, size, inputs, &found));
             }
+            lent(title, size, &inputs, 1, all)?;
         }
     }
     Ok(())
 }
 
 /// Random scripts, each with a random journal, until there were enough of them.
-fn random(asked: &Asked, met: &mut Met, kept: &mut journals::Met) -> Result<(), String> {
+fn random(asked: &Asked, all: &mut All) -> Result<(), String> {
     println!("seed {}", asked.seed);
     let mut seeds = Random::new(asked.seed);
     let start = Instant::now();
-    while met.inputs < asked.inputs && asked.time.is_none_or(|time| start.elapsed() < time) {
+    while all.met.inputs < asked.inputs && asked.time.is_none_or(|time| start.elapsed() < time) {
         let size = if seeds.one_in(LARGE) { Size::Large } else { Size::Small };
-        let (inputs, found) = run::<Proved>(size, Scripted::new(size, seeds.number()), met);
+        let script = Scripted::new(size, seeds.number());
+        let (inputs, found) = run::<Proved>(size, script, &mut all.met);
+        let title = format!("seed {}, run {}", asked.seed, all.met.runs);
         if let Some(found) = found {
-            let title = format!("seed {}, run {}", asked.seed, met.runs);
             return Err(report(&title, size, inputs, &found));
         }
+        if seeds.one_in(BESIDE) {
+            lent(&title, size, &inputs, seeds.number(), all)?;
+        }
         let seed = seeds.number();
-        journals::run::<Proved>(size, seed, kept)
+        journals::run::<Proved>(size, seed, &mut all.kept)
             .map_err(|how| format!("journal {seed}, {size:?}: {how}\n"))?;
     }
     Ok(())
 }
 
+/// The same inputs to the station over a lent store in plain Rust, with damaged stores of a seed.
+fn lent(title: &str, size: Size, inputs: &[Input], seed: u64, all: &mut All) -> Result<(), String> {
+    beside::run(size, inputs, seed, &mut all.beside).map_err(|how| {
+        format!(
+            "# {title}, {size:?}, damage {seed}: over a lent store {how}\n{}",
+            text::write(inputs)
+        )
+    })
+}
+
 /// A script in a file.
-fn given(size: Size, path: &str, met: &mut Met) -> Result<(), String> {
+fn given(size: Size, path: &str, all: &mut All) -> Result<(), String> {
     let script = std::fs::read(path).map_err(|error| format!("{path}: {error}\n"))?;
     let inputs = text::read(&script).map_err(|error| format!("{path}: {error}\n"))?;
-    match run::<Proved>(size, sources::Fixed::new(&inputs), met) {
-        (_, None) => Ok(()),
+    match run::<Proved>(size, sources::Fixed::new(&inputs), &mut all.met) {
+        (_, None) => lent(path, size, &inputs, 1, all),
         (inputs, Some(found)) => Err(report(path, size, inputs, &found)),
     }
 }
@@ -139,7 +165,8 @@ fn report(title: &str, size: Size, inputs: Vec<Input>, found: &Difference) -> St
     )
 }
 
-fn summary(met: &Met, kept: &journals::Met, time: Duration) {
+fn summary(all: &All, time: Duration) {
+    let All { met, kept, beside } = all;
     let numbers: Vec<String> = met
         .numbers
         .iter()
@@ -156,5 +183,9 @@ fn summary(met: &Met, kept: &journals::Met, time: Duration) {
             "{journals} journals: {done} replays done, {stopped} stopped; {records} records, {torn} torn slots"
         );
     }
+    let beside::Met { calls, damaged, formed } = beside;
+    println!(
+        "{calls} calls over a lent store in plain Rust too; {damaged} damaged stores, {formed} of them well formed"
+    );
     println!("{} inputs in {} runs, 0 differ, {:.1} s", met.inputs, met.runs, time.as_secs_f64());
 }
