@@ -71,6 +71,10 @@ good-certifies s x e =
 
 -- ---- its tallies
 
+pub there-own : (ts : List words.Tally) (x : words.Statement) → talliesThere ts x ≡ true → any (ofBlock (ownBlock x 0)) ts ≡ true
+unfolding talliesThere
+there-own ts x e = and-left (any (ofBlock (ownBlock x 0)) ts) _ e
+
 module _ (ts : List words.Tally) (x : words.Statement) (u : words.Certificate) (r : u ≡ ownBlock x 0) where
   pub there-missing : any (ofBlock u) ts ≡ false → talliesThere ts x ≡ false
   unfolding talliesThere

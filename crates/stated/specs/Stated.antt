@@ -8,14 +8,14 @@ use lib.Dec.{leb}
 use Rattle.rules.specs.Limits.{small}
 use Rattle.rules.specs.Lists.{any}
 use Rattle.rules.specs.Words as words
-use Rattle.rules.specs.Words.{sameStatement}
+use Rattle.rules.specs.Words.{sameStatement, ownBlock, ofBlock}
 use Rattle.fields.specs.Places.{number}
 use Rattle.wire.specs.Meaning.{statementOf}
 use Rattle.wire.specs.declared.Statement.{Statement}
 use Rattle.words.specs.Meaning.{Certifies}
 use Rattle.store.specs.Layout.{statementTable, placeOf}
-use Rattle.store.specs.Decode.{rows, statementAt}
-use Rattle.chains.specs.Chains.{stir, stirName, chainOf, Chained}
+use Rattle.store.specs.Decode.{rows, statementAt, tallies}
+use Rattle.chains.specs.Chains.{stirWords, chainOf, Chained}
 
 -- a statement as it was received
 abbrev pub bare : Statement → words.Statement
@@ -29,11 +29,20 @@ voteInOrder clock v = elim v [ none ↦ true | some c ↦ leb c clock ]
 abbrev pub AllCertify : List ℕ → ℕ → Type 0
 AllCertify b n = (i : ℕ) → i < n → Certifies (statementAt b i)
 
+-- the own block of the statement right before statement i, if there is one, has a tally
+abbrev pub OwnBefore : List ℕ → ℕ → Type 0
+OwnBefore b i = (k : ℕ) → i ≡ k + 1 → any (ofBlock (ownBlock (statementAt b k) 0)) (tallies b) ≡ true
+
+-- where the answer is yes, the block with this key, whose name is at a place, is that own block
+abbrev pub Follows : List ℕ → ℕ → ℕ → ℕ → Bool → Type 0
+Follows b i key at r =
+    r ≡ true → (0 < i) × (key ≡ number b (placeOf statementTable small (i - 1)) 8) × (number b at 32 ≡ number b (placeOf statementTable small (i - 1) + 8) 32)
+
 -- statements hang by their block and their link
 abbrev pub statementChain : List ℕ → ℕ → ℕ → ℕ
 statementChain b salt i =
     let to = placeOf statementTable small i in
-    chainOf (stirName b (stirName b (stir salt (number b to 8)) (to + 8)) (to + 44))
+    chainOf (stirWords b (stirWords b salt to 5) (to + 44) 4)
 
 -- whether statement k is the same
 abbrev pub isSame : List ℕ → words.Statement → ℕ → Bool
