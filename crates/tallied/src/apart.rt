@@ -7,7 +7,7 @@ ghost use Rattle.store.specs.Layout.{tallyTable};
 ghost use Rattle.heading.specs.Lent.{Counts};
 ghost use Rattle.chains.specs.Chains.{Bare, Chained};
 ghost use Rattle.tallied.specs.Tallies.{tallyChain, Met, Apart, Sought, Has};
-use super::tallies;
+use super::good;
 use chains::CHAINS;
 use settings::Settings;
 use store::TALLY_SIZE;
@@ -52,7 +52,7 @@ pub fn good_and_apart(
     requires { ⌜ Counts tallyTable (now store) count × (settings .n ≤ mostStations) × Bare (now heads) (now nexts) ⌝ }
     ensures { λ r. ⌜ Apart (settingsOf settings) clock (now (store .entry)) salt count r (now (heads .exit)) (now (nexts .exit)) ⌝ }
 {
-    if !tallies::all_good(store, settings, clock, count) {
+    if !good::all_good(store, settings, clock, count) {
         return false;
     }
     let mut i = count;

@@ -2,4 +2,4 @@
 pub mod apart;
 pub mod block;
 pub mod openers;
-pub mod tallies;
+pub mod good;

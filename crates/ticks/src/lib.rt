@@ -98,7 +98,7 @@ pub fn ticked(
     }
     let glance = commit::look(store, station, told);
     if is_quiet(store, station, glance) {
-        store::set_clock(store, station.clock + 1);
+        records::set_clock(store, station.clock + 1);
         return 0;
     }
     busy(store, out, station, told, glance.rest)

@@ -1,4 +1,4 @@
--- `tallied::tallies::all_good` meets its contract. Assumes nothing.
+-- `tallied::good::all_good` meets its contract. Assumes nothing.
 use Prim.Native.Nat.{_-_}
 use mathlib.Core.Path.{_≡_, sym, ap, _∙_}
 use borrow.Author.Tests.{not-true, not-false}
@@ -8,8 +8,8 @@ use Rattle.settings.specs.Made.{settingsOf}
 use Rattle.store.specs.Decode.{rows, tallyAt, tallies}
 use Rattle.heading.proofs.Walks.{rows-whole, all-end, all-here, all-next}
 use borrow.Author.Needs.{needs}
-use Rattle.tallied.proofs.tallies.all_good.Statement.{statement}
-use Rattle.tallied.proofs.tallies.all_good.Tie as tie
+use Rattle.tallied.proofs.good.all_good.Statement.{statement}
+use Rattle.tallied.proofs.good.all_good.Tie as tie
 
 abbrev Inv-loop : tie.InvT-loop
 Inv-loop store settings clock count i₀ i =
