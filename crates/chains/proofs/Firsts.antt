@@ -1,4 +1,4 @@
--- What a walk along a chain meets, for all that goes by the first that passes a test. Assumes nothing.
+-- What a walk along a chain meets, for whatever goes by the first that passes a test, and for the first itself. Assumes nothing.
 use Prim.Native.Nat.{ℕ, zero, suc, _+_, _-_, _<_, _≤_}
 use mathlib.Core.Path.{_≡_, refl, sym, ap, _∙_}
 use mathlib.Core.Bool.{Bool, true, false, false≢true}
@@ -15,7 +15,7 @@ use Rattle.store.proofs.Rows.{rows-from}
 use Rattle.chains.specs.Chains.{chains, firstOf, Chained, places, behind, Walk}
 
 -- a record that fails the test doesn't count
-abbrev Skips : {B : Type 0} → (ℕ → Bool) → (List ℕ → B) → Type 0
+abbrev pub Skips : {B : Type 0} → (ℕ → Bool) → (List ℕ → B) → Type 0
 Skips p g = (k : ℕ) (ks : List ℕ) → p k ≡ false → g (k ∷ ks) ≡ g ks
 
 -- all that pass are on one chain, so the rest counts from the chain's first on
@@ -36,7 +36,7 @@ module _ {B : Type 0} (p : ℕ → Bool) (g : List ℕ → B) (skips : Skips p g
           let t : p i ≡ false = by-bool (p i) (λ u. absurd (false≢true (sym q ∙ eq-eqb (f i) c (alike i u)))) (λ u. u) in
           skips i (places (suc i) n) t ∙ rw e h
 
-  whole-of : {i n : ℕ} {heads nexts : List ℕ} → Chained f i n heads nexts → i ≤ n → c < chains → g (places i (n - i)) ≡ g (behind n (nth heads c))
+  pub whole-of : {i n : ℕ} {heads nexts : List ℕ} → Chained f i n heads nexts → i ≤ n → c < chains → g (places i (n - i)) ≡ g (behind n (nth heads c))
   whole-of {i} {n} h l m = let total : i + (n - i) ≡ n = omega arith in from-first i (n - i) ∙ rw (total, ← h .head c m)
 
 -- a walk at a record that fails the test
@@ -44,7 +44,7 @@ module _ {B : Type 0} {p : ℕ → Bool} (g : List ℕ → B) (skips : Skips p g
   abbrev at : ℕ
   at = n - left
 
-  next-of : p at ≡ false → g (behind n left) ≡ g (behind n (nth nexts at))
+  pub next-of : p at ≡ false → g (behind n left) ≡ g (behind n (nth nexts at))
   next-of t =
       let lies : at < n = omega (arith, w .within) in
       let next = firstOf (w .of) (w .chain) (at + 1) (n - (at + 1)) in

@@ -1,4 +1,4 @@
 pub mod Mixes
+pub mod Firsts
 pub mod Walks
 pub mod Apart
-pub mod Firsts
