@@ -21,13 +21,13 @@ use Rattle.store.proofs.Forms.{form-log}
 use Rattle.linked.specs.Told.{Told}
 use Rattle.commit.specs.Chains.{statementIn, nameIn, nameSoFar, lacking, Walked, WalkedFrom, Tells, Settled, WholeChain, isRipe}
 use Rattle.commit.specs.Outcome.{Log, Has, Joined, JoinedWith}
-use Rattle.commit.specs.Looks.{Still}
+use Rattle.commit.specs.Looks.{ToldBelow}
 use Rattle.commit.specs.declared.Merged.{Merged}
 use Rattle.commit.specs.declared.Merged.the-variants.{Grown, Differs}
 use Rattle.commit.proofs.Order.{bind, first-last}
 use Rattle.commit.proofs.Pigeon.{too-high}
 use Rattle.commit.proofs.Places.{so-far-old}
-use Rattle.commit.proofs.Voting.{keep-not, keep-so}
+use Rattle.commit.proofs.Voting.{keep-not, keep-so, keep-end}
 use Rattle.commit.proofs.Joining.{merge-short, commit-none, commit-some}
 use Rattle.commit.proofs.Telling.{told-commits}
 
@@ -91,18 +91,18 @@ module _ (b : List ℕ) (p : Statement → Bool) (count : ℕ) (l : List ℕ) wh
 
 -- ---- the course's begin and end, and the turns that walk no chain
 
-pub course-start : {b : List ℕ} {view wait now count rest logged : ℕ} {gained table : List ℕ} → Form b → logged ≡ countOf logTable b → Still b view wait now count rest
-    → length gained ≡ mostStatementsLarge → length table ≡ mostStatementsLarge → Course b (isRipe view wait now) count rest logged gained table 0 0
-unfolding names
-course-start {b} {view} {wait} {now} {count} {rest} {logged} {gained} f old s long whole =
+pub course-start : {b : List ℕ} {logged : ℕ} {gained table : List ℕ} (p : Statement → Bool) (count : ℕ) → Form b → logged ≡ countOf logTable b
+    → length gained ≡ mostStatementsLarge → length table ≡ mostStatementsLarge → Course b p count count logged gained table 0 0
+unfolding commits names
+course-start {b} {logged} {gained} p count f old long whole =
     let same : rows (nameAt b) 0 (countOf logTable b) ≡ rows (nameSoFar b gained) 0 logged =
     rows-same (nameAt b) (nameSoFar b gained) 0 (countOf logTable b) (λ k l m. sym (so-far-old b gained k (omega arith)))
     ∙ ap (rows (nameSoFar b gained) 0) (sym old) in
     record {
-      up = s .up;
+      up = omega arith;
       log =
           record {
-            is = s .log ∙ ap some same;
+            is = ap (λ (ys : List Statement). commits (statements b) ys (names b)) (keep-end p (statementAt b) count) ∙ ap some same;
             more = omega (arith, old);
             fits = omega (arith, old, form-log b f);
             stored = λ k l m. absurd (omega (arith, old));
@@ -118,9 +118,9 @@ course-start {b} {view} {wait} {now} {count} {rest} {logged} {gained} f old s lo
     }
 
 module _ {b : List ℕ} {p : Statement → Bool} {count i len : ℕ} {gained table : List ℕ} {height left : ℕ} (c : Course b p count i len gained table height left) where
-  pub course-end : count ≡ countOf statementTable b → i ≡ 0 → Joined (commits (statements b) (keep p (statements b)) (names b)) b gained (Grown len)
+  at-end : count ≡ countOf statementTable b → i ≡ 0 → Joined (commits (statements b) (keep p (statements b)) (names b)) b gained (Grown len)
   unfolding statements
-  course-end e z =
+  at-end e z =
       let all : rows (statementAt b) i (count - i) ≡ statements b =
       ap (λ (k : ℕ). rows (statementAt b) k (count - k)) z ∙ ap (rows (statementAt b) 0) (sub-zero count ∙ e) in
       subst (λ (ys : List Statement). Log (commits (statements b) (keep p ys) (names b)) b gained len) all (c .log)
@@ -180,6 +180,22 @@ module _ {b : List ℕ} {p : Statement → Bool} {count i len : ℕ} {gained tab
               commit-some (statements b) x soFar _ k
               ∙ merge-short (nameIn b table) (nameSoFar b gained) 0 own len (omega (arith, has refl .up)) (λ j u v. has refl .same j (omega arith))
           go (suc n) k has l = commit-none (statements b) x soFar k
+
+-- the check told of all that is due below a place, so the course may end there
+module _ {b told : List ℕ} (tells : Told b told) (view wait now : ℕ) {count len height left : ℕ} {gained table : List ℕ} where
+  course-rest : (i : ℕ) → ToldBelow b told view wait now i → Course b (isRipe view wait now) count i len gained table height left
+      → Course b (isRipe view wait now) count 0 len gained table height left
+  course-rest zero f c = c
+  course-rest (suc i) f c =
+      let z : suc i - 1 ≡ i = omega arith in
+      course-rest i (λ j l m. f j l (omega arith))
+      (subst (λ (n : ℕ). Course b (isRipe view wait now) count n len gained table height left) z
+      (by-bool (isRipe view wait now (statementAt b (suc i - 1))) (λ r. course-told c (omega arith) r tells true (f (suc i - 1) (omega arith) (omega arith) r) refl)
+      (λ r. course-not c (omega arith) r)))
+
+  pub course-end : (i settled : ℕ) → ToldBelow b told view wait now settled → Course b (isRipe view wait now) count i len gained table height left → count ≡ countOf statementTable b → i ≤ settled
+      → Joined (commits (statements b) (keep (isRipe view wait now) (statements b)) (names b)) b gained (Grown len)
+  course-end i settled f c e l = at-end (course-rest i (λ j u v. f j u (omega arith)) c) e refl
 
 -- ---- a turn that walked a chain
 

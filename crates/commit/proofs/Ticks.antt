@@ -29,13 +29,14 @@ use Rattle.store.proofs.Rows.{rows-same, rows-append, rows-all}
 use Rattle.linked.specs.Told.{Told}
 use Rattle.commit.specs.Chains.{nameIn, nameSoFar, Begun, isRipe}
 use Rattle.commit.specs.Outcome.{tickLog, Joined, Committed}
-use Rattle.commit.specs.Looks.{StillIn, Seen}
+use Rattle.commit.specs.Looks.{ToldIn, Seen}
 use Rattle.commit.specs.declared.Glance.{Glance}
 use Rattle.commit.specs.declared.Merged.{Merged}
 use Rattle.commit.specs.declared.Merged.the-variants.{Grown, Differs}
 use Rattle.commit.proofs.Order.{any-order}
 use Rattle.commit.proofs.Places.{so-far-old, so-far-new}
 use Rattle.commit.proofs.Voting.{votes-are}
+use Rattle.commit.proofs.Looking.{quiet-log}
 
 -- ---- what is due
 
@@ -131,23 +132,24 @@ module _ (s : Station) (b : List ℕ) (e : Loads s b) where
   unfolding headerOf
   delay-short k = omega (arith, ap (λ (vs : List ℕ). nth vs 2) (e .header), number-lt b k (0 + 5) 2)
 
--- ---- where nothing that is due adds to the log
+-- ---- what was seen before the tick
 
-module _ (b : List ℕ) (s : Station) (e : Loads s b) where
-  pub still-log : StillIn b s 0 → tickLog b ≡ some (names b)
+module _ (b told : List ℕ) (s : Station) (e : Loads s b) where
+  -- the check told of all that is due, so the log stays
+  pub told-log : Told b told → ToldIn b told s (s .statements) → tickLog b ≡ some (names b)
   unfolding statements
-  still-log k = by-phase (stateOf b .phase) refl
+  told-log tells k = by-phase (stateOf b .phase) refl
     where
       by-phase : (p : Phase) → stateOf b .phase ≡ p → tickLog b ≡ some (names b)
       by-phase inView q =
           sym (tick-in b q _ _ _ (loaded-view s b e) (delay-is s b e) (ap (λ (c : ℕ). c + 1) (loaded-clock s b e)))
           ∙ ap (λ (n : ℕ). commits (statements b) (keep (isRipe (s .view) (2 * s .settings .delay) (s .clock + 1)) (rows (statementAt b) 0 n)) (names b)) (sym (sub-zero (s .statements) ∙ loaded-statements s b e))
-          ∙ k .log
+          ∙ quiet-log tells (s .view) (2 * s .settings .delay) (s .clock + 1) (s .statements) k
       by-phase (waiting c) q = tick-out b (λ r. let z : _≡_ {A = ℕ} 0 1 = cc in omega arith)
       by-phase (stopped c) q = tick-out b (λ r. let z : _≡_ {A = ℕ} 0 1 = cc in omega arith)
 
-  pub seen-votes : (r : Glance) → Seen b s r → r .rest ≡ 0 → r .votes ≡ votes (stateOf b)
-  seen-votes r k z = k .counted ∙ votes-are b (s .view) (s .statements) (r .rest) (loaded-view s b e) (loaded-statements s b e) z
+  pub seen-votes : (r : Glance) → Seen b told s r → r .votes ≡ votes (stateOf b)
+  seen-votes r k = k .counted ∙ votes-are b (s .view) (loaded-view s b e)
 
 -- ---- a propose has height at least 1
 

@@ -21,6 +21,9 @@ use Rattle.store.proofs.Values.{voted-is}
 use Rattle.store.proofs.Rows.{rows-from}
 use Rattle.commit.specs.Chains.{voteIf, voteIn, isVoted, isRipe}
 
+vote-read : (b : List ℕ) (i : ℕ) → voteAt b i ≡ voteNumber (statementAt b i .voted)
+vote-read b i = sym (ap voteNumber (voted-is b i) ∙ vote-number (voteAt b i))
+
 -- the vote's number, from what is read
 module _ (b : List ℕ) (i view : ℕ) where
   pub vote-other : (statementAt b i .view ≡ view → ⊥) → 0 ≡ voteIn view (statementAt b i)
@@ -31,12 +34,12 @@ module _ (b : List ℕ) (i view : ℕ) where
   unfolding voteIn statementAt kindAt
   vote-new-view e = rw (eq-eqb _ _ e)
 
-  pub vote-own : statementAt b i .view ≡ view → (kindAt b i ≡ 1 → ⊥) → voteNumber (statementAt b i .voted) ≡ voteIn view (statementAt b i)
+  own-vote : statementAt b i .view ≡ view → (kindAt b i ≡ 1 → ⊥) → voteNumber (statementAt b i .voted) ≡ voteIn view (statementAt b i)
   unfolding voteIn statementAt kindAt
-  vote-own e d = rw (ne-eqb _ _ d, eq-eqb _ _ e)
+  own-vote e d = rw (ne-eqb _ _ d, eq-eqb _ _ e)
 
-pub vote-read : (b : List ℕ) (i : ℕ) → voteAt b i ≡ voteNumber (statementAt b i .voted)
-vote-read b i = sym (ap voteNumber (voted-is b i) ∙ vote-number (voteAt b i))
+  pub vote-own : statementAt b i .view ≡ view → (kindAt b i ≡ 1 → ⊥) → voteAt b i ≡ voteIn view (statementAt b i)
+  vote-own e d = vote-read b i ∙ own-vote e d
 
 -- ---- what the number says
 
@@ -104,9 +107,6 @@ unfolding keep rows
 keep-end p f n = let e : n - n ≡ 0 = omega arith in rw e
 
 -- those that pass, all of them, are rules' votes
-pub votes-are : (b : List ℕ) (view count i : ℕ) → view ≡ stateOf b .view → count ≡ countOf statementTable b → i ≡ 0
-    → length (keep (isVoted view) (rows (statementAt b) i (count - i))) ≡ votes (stateOf b)
-unfolding votes isVoted stateOf stateFrom statements
-votes-are b view count i e q z =
-    ap (λ (k : ℕ). length (keep (isVoted view) (rows (statementAt b) k (count - k)))) z
-    ∙ ap₂ (λ (v n : ℕ). length (keep (isVoted v) (rows (statementAt b) 0 n))) e (sub-zero count ∙ q)
+pub votes-are : (b : List ℕ) (view : ℕ) → view ≡ stateOf b .view → length (keep (isVoted view) (statements b)) ≡ votes (stateOf b)
+unfolding votes isVoted stateOf stateFrom
+votes-are b view e = ap (λ (v : ℕ). length (keep (isVoted v) (statements b))) e

@@ -7,7 +7,7 @@ ghost use Rattle.rules.specs.Lists.{keep};
 ghost use Rattle.rules.specs.Limits.{mostStatements, mostStatementsLarge};
 ghost use mathlib.Core.Bool.{true};
 ghost use Rattle.rules.specs.WellFormed.{wellFormed};
-ghost use Rattle.rules.specs.Inputs.{isBlock, commits, votes};
+ghost use Rattle.rules.specs.Inputs.{isBlock, commits};
 ghost use Rattle.fields.specs.Records.{fields};
 ghost use Rattle.fields.specs.Names.{nameOf};
 ghost use Rattle.store.specs.Layout.{sizeIn, headerFormat, statementTable, logTable, storeLength, countOf};
@@ -17,7 +17,7 @@ ghost use Rattle.store.specs.Searches.{firstFrom};
 ghost use Rattle.linked.specs.Told.{Told};
 ghost use Rattle.commit.specs.Chains.{nameIn, nameSoFar, Stored, voteIn, isRipe, Tells, Meets, Lowered, Known, WalkedDown, Settled, Copied, Begun, WholeChain, Agree};
 ghost use Rattle.commit.specs.Outcome.{Joined, JoinedWith, Committed};
-ghost use Rattle.commit.specs.Looks.{Still, Looked, StillIn, Seen};
+ghost use Rattle.commit.specs.Looks.{ToldBelow, Looked, ToldIn, Seen};
 use fields::Name;
 use settings::Settings;
 use store::Found;
@@ -30,10 +30,10 @@ pub enum Merged {
     Differs,
 }
 
-// From a place on, nothing that is due adds to the log; so many proposes of the view were voted for there.
+// How many proposes of the view were voted for, and a place: the check told of each due statement below it.
 pub struct Glance {
     pub votes: usize,
-    pub rest: usize,
+    pub settled: usize,
 }
 
 // How many of the lowest blocks of a chain are not stored, and how many of its lowest names are known to be the log's.
@@ -154,26 +154,6 @@ pub fn vote_in(store: &[u8], i: usize, view: u32) -> u32
         return 0;
     }
     store::voted_at(store, i)
-}
-
-// How many proposes of the view were voted for.
-pub fn votes(store: &[u8], station: Station) -> usize
-    requires { ⌜ (Form (now store)) × (Loads station (now store)) ⌝ }
-    ensures { λ r. ⌜ r ≡ votes (stateOf (now (store .entry))) ⌝ }
-{
-    let view = station.view;
-    let mut i = station.statements;
-    let mut n: usize = 0;
-    loop {
-        if i == 0 {
-            break n;
-        }
-        i -= 1;
-        if vote_in(store, i, view) == 0 {
-            continue;
-        }
-        n += 1;
-    }
 }
 
 // Whether statement i is a propose of the view that was voted for more than `wait` ticks ago.
@@ -307,38 +287,42 @@ fn is_settled(chain: &[u16], height: usize, left: usize, own: usize, i: usize) -
     true
 }
 
-// From the last place down to a due statement that the check told nothing of.
+// What is seen of all statements, from the last place down, field by field.
 fn look_down(store: &[u8], told: &[u16], count: usize, view: u32, wait: u64, clock: u64) -> Glance
     requires { ⌜ Begun (now store) (now told) count wait ⌝ }
-    ensures { λ r. ⌜ Looked (now (store .entry)) view wait clock count (r .votes) (r .rest) ⌝ }
+    ensures { λ r. ⌜ Looked (now (store .entry)) (now (told .entry)) view wait clock count (r .votes) (r .settled) ⌝ }
 {
     let mut i = count;
     let mut votes: usize = 0;
-    loop {
-        if i == 0 {
-            break;
-        }
-        let vote = vote_in(store, i - 1, view);
-        if vote == 0 {
-            i -= 1;
+    let mut settled = count;
+    while 0 < i {
+        i -= 1;
+        if search::view_at(store, i) != view {
             continue;
         }
-        if (vote as u64 + wait <= clock) & !is_told(store, told, i - 1) {
-            break;
+        if store::kind_at(store, i) == 1 {
+            continue;
+        }
+        let vote = store::voted_at(store, i);
+        if vote == 0 {
+            continue;
         }
         votes += 1;
-        i -= 1;
+        if (clock < vote as u64 + wait) | is_told(store, told, i) {
+            continue;
+        }
+        settled = i;
     }
-    Glance { votes, rest: i }
+    Glance { votes, settled }
 }
 
-// The chains of the due statements below a place join the log, from the last place down: the walk from the highest mostly goes
-// through the others.
+// The chains of the due statements join the log, from the last place down to where the check told of the rest: the walk from the
+// highest mostly goes through the others.
 fn commit_due(
     store: &[u8],
     told: &[u16],
     count: usize,
-    rest: usize,
+    settled: usize,
     logged: usize,
     view: u32,
     wait: u64,
@@ -346,15 +330,15 @@ fn commit_due(
     gained: &mut [u16],
     chain: &mut [u16],
 ) -> Merged
-    requires { ⌜ (Begun (now store) (now told) count wait) × (logged ≡ countOf logTable (now store)) × (Still (now store) view wait clock count rest) × (length (now gained) ≡ mostStatementsLarge) × (length (now chain) ≡ mostStatementsLarge) ⌝ }
+    requires { ⌜ (Begun (now store) (now told) count wait) × (logged ≡ countOf logTable (now store)) × (ToldBelow (now store) (now told) view wait clock settled) × (length (now gained) ≡ mostStatementsLarge) × (length (now chain) ≡ mostStatementsLarge) ⌝ }
     ensures { λ r. ⌜ Joined (commits (statements (now (store .entry))) (keep (isRipe view wait clock) (statements (now (store .entry)))) (names (now (store .entry)))) (now (store .entry)) (now (gained .exit)) r ⌝ }
 {
-    let mut i = rest;
+    let mut i = count;
     let mut len = logged;
     let mut height: usize = 0;
     let mut left: usize = 0;
     loop {
-        if i == 0 {
+        if i <= settled {
             break Merged::Grown(len);
         }
         i -= 1;
@@ -384,10 +368,10 @@ fn commit_due(
     }
 }
 
-// From the last place of this store down to a due statement that the check told nothing of, as a tick has it.
+// What is seen of the statements before a tick to the next clock.
 pub fn look(store: &[u8], station: Station, told: &[u16]) -> Glance
     requires { ⌜ (Form (now store)) × (wellFormed (stateOf (now store)) ≡ true) × (Loads station (now store)) × (Told (now store) (now told)) ⌝ }
-    ensures { λ r. ⌜ Seen (now (store .entry)) station r ⌝ }
+    ensures { λ r. ⌜ Seen (now (store .entry)) (now (told .entry)) station r ⌝ }
 {
     let settings = station.settings;
     look_down(
@@ -400,16 +384,16 @@ pub fn look(store: &[u8], station: Station, told: &[u16]) -> Glance
     )
 }
 
-// The commit stage of a tick from this store, where nothing due from a place on adds to the log: the new log's length, its new names
+// The commit stage of a tick from this store, where the check told of what is due below a place: the new log's length, its new names
 // by place in the table, or refusal 7.
 pub fn commits(
     store: &[u8],
     station: Station,
     told: &[u16],
-    rest: usize,
+    settled: usize,
     gained: &mut [u16],
 ) -> Merged
-    requires { ⌜ (Form (now store)) × (wellFormed (stateOf (now store)) ≡ true) × (Loads station (now store)) × (Told (now store) (now told)) × (StillIn (now store) station rest) × (length (now gained) ≡ mostStatementsLarge) ⌝ }
+    requires { ⌜ (Form (now store)) × (wellFormed (stateOf (now store)) ≡ true) × (Loads station (now store)) × (Told (now store) (now told)) × (ToldIn (now store) (now told) station settled) × (length (now gained) ≡ mostStatementsLarge) ⌝ }
     ensures { λ r. ⌜ Committed (now (store .entry)) (now (gained .exit)) r ⌝ }
 {
     let logged = station.logged;
@@ -425,7 +409,7 @@ pub fn commits(
         store,
         told,
         station.statements,
-        rest,
+        settled,
         logged,
         station.view,
         wait,

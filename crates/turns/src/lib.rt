@@ -55,25 +55,15 @@ pub fn overdue_at(store: &[u8], station: Station, clock: u32, votes: usize) -> b
     !settings::holds(blames as u64, settings.own)
 }
 
-// Whether it is due.
-fn overdue(store: &[u8]) -> bool
-    requires { ⌜ Formed (now store) ⌝ }
-    ensures { λ r. ⌜ r ≡ inputs.overdue (stateOf (now (store .entry))) ⌝ }
-{
-    let station = Station::load(store);
-    let votes = commit::votes(store, station);
-    overdue_at(store, station, station.clock, votes)
-}
-
 // Where it is due, the station blames its view: to all, and into the mask, which may be full then.
-pub fn complain(store: &mut [u8], out: &mut [u8], at: usize) -> usize
-    requires { ⌜ (Formed (now store)) × (at + 37 ≤ length (now out)) ⌝ }
+pub fn complain(store: &mut [u8], out: &mut [u8], at: usize, votes: usize) -> usize
+    requires { ⌜ (Formed (now store)) × (at + 37 ≤ length (now out)) × (votes ≡ inputs.votes (stateOf (now store))) ⌝ }
     ensures { λ r. ⌜ Works (inputs.complain (stateOf (now (store .entry)))) (now (out .entry)) at (now (store .exit)) (now (out .exit)) r ⌝ }
 {
-    if !overdue(store) {
+    let station = Station::load(store);
+    if !overdue_at(store, station, station.clock, votes) {
         return at;
     }
-    let station = Station::load(store);
     let settings = station.settings;
     let own = settings.own;
     let blame = Message::Blame {

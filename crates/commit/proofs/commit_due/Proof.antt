@@ -14,11 +14,11 @@ use Rattle.commit.proofs.commit_due.Statement.{statement}
 use Rattle.commit.proofs.commit_due.Tie as tie
 
 abbrev Inv-loop : tie.InvT-loop
-Inv-loop store told count rest logged view wait clock gained₀ chain₀ i₀ len₀ height₀ left₀ gained chain i len height left =
+Inv-loop store told count settled logged view wait clock gained₀ chain₀ i₀ len₀ height₀ left₀ gained chain i len height left =
     Course store (isRipe view wait clock) count i len gained chain height left
 
 abbrev μ-loop : tie.MeasureT-loop
-μ-loop store told count rest logged view wait clock gained₀ chain₀ i₀ len₀ height₀ left₀ gained chain i len height left =
+μ-loop store told count settled logged view wait clock gained₀ chain₀ i₀ len₀ height₀ left₀ gained chain i len height left =
     i
 
 -- statement i - 1 is due
@@ -49,7 +49,7 @@ turn c =
 loop-holds : tie.Need-loop-holds Inv-loop μ-loop
 loop-holds c =
     let pre = c .before .before .before .before .pre in
-    course-start (pre .0 .form) (pre .1) (pre .2) (pre .3) (pre .4)
+    course-start _ _ (pre .0 .form) (pre .1) (pre .3) (pre .4)
 
 sub-i : tie.Need-sub-i Inv-loop μ-loop
 sub-i c =
@@ -163,7 +163,7 @@ same-length-2 c =
 
 returns : tie.Need-returns Inv-loop μ-loop
 returns c =
-    course-end (c .before .loop .inv) (c .before .before .before .before .before .before .pre .0 .all) (c .if1 .taken)
+    course-end (c .before .before .before .before .before .before .pre .0 .tells) _ _ _ (c .before .loop .i) (c .before .before .before .before .before .before .args .settled) (c .before .before .before .before .before .before .pre .2) (c .before .loop .inv) (c .before .before .before .before .before .before .pre .0 .all) (c .if1 .taken)
 
 same-length-3 : tie.Need-same-length-3 Inv-loop μ-loop
 same-length-3 c =

@@ -1,5 +1,5 @@
 -- `commit::vote_in` meets its contract. Assumes nothing.
-use Rattle.commit.proofs.Voting.{vote-new-view, vote-other, vote-own, vote-read}
+use Rattle.commit.proofs.Voting.{vote-new-view, vote-other, vote-own}
 use mathlib.Core.Path.{sym, _∙_}
 use borrow.Author.Needs.{needs}
 use Rattle.commit.proofs.vote_in.Statement.{statement}
@@ -24,7 +24,7 @@ voted-at-requires c κs = search needs
 
 returns-3 : tie.Need-returns-3
 returns-3 c =
-    c .voted-at .ensures ∙ vote-read _ _ ∙ vote-own _ _ _ (sym (c .before .before .before .before .view-at .ensures) ∙ c .before .before .before .if1 .left) (λ e. c .before .if2 .left (c .before .before .kind-at .ensures ∙ e))
+    c .voted-at .ensures ∙ vote-own _ _ _ (sym (c .before .before .before .before .view-at .ensures) ∙ c .before .before .before .if1 .left) (λ e. c .before .if2 .left (c .before .before .kind-at .ensures ∙ e))
 
 pub vote-in-spec : {M : Type 1} → statement M
 vote-in-spec =
