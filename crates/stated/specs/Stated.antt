@@ -1,12 +1,14 @@
 -- The tests of a statement that the code makes, and which chain it hangs on. Assumes nothing.
 use Prim.Native.Nat.{ℕ, _+_, _-_, _<_}
 use mathlib.Core.Path.{_≡_}
-use mathlib.Core.Bool.{Bool, true, false}
+use mathlib.Core.Bool.{Bool, true, false, _&&_}
 use mathlib.Core.List.{List}
 use mathlib.Core.Option.{Option, none, some}
-use lib.Dec.{leb}
+use lib.Dec.{leb, ltb}
 use Rattle.rules.specs.Limits.{small}
 use Rattle.rules.specs.Lists.{any}
+use Rattle.rules.specs.Sizes.{Settings}
+use Rattle.rules.specs.Messages.{blockAllowed, maskAllowed, certificateAllowed}
 use Rattle.rules.specs.Words as words
 use Rattle.rules.specs.Words.{sameStatement, ownBlock, ofBlock}
 use Rattle.fields.specs.Places.{number}
@@ -24,6 +26,17 @@ bare x = statementOf x none
 -- a vote, if any, was not after the clock
 unfoldable pub voteInOrder : ℕ → Option ℕ → Bool
 voteInOrder clock v = elim v [ none ↦ true | some c ↦ leb c clock ]
+
+-- what the statement at a place says of the block that it certifies: a new-view of its certificate, a propose of its parent
+unfoldable pub newViewSaid : Settings → List ℕ → ℕ → Bool
+unfolding certificateAllowed
+newViewSaid g b at =
+    ltb (number b (at + 44) 32) (number b at 4) && certificateAllowed g (number b (at + 4) 4) (number b (at + 44) 32) (number b (at + 42) 2)
+
+unfoldable pub proposeSaid : Settings → List ℕ → ℕ → Bool
+unfolding blockAllowed maskAllowed
+proposeSaid g b at =
+    leb 1 (number b (at + 4) 4) && blockAllowed (number b (at + 4) 4 - 1) (number b (at + 44) 32) && maskAllowed g (number b (at + 42) 2)
 
 -- each of the first n statements
 abbrev pub AllCertify : List ℕ → ℕ → Type 0

@@ -48,12 +48,12 @@ height-halves h high low bare e = go high e
 
 -- by the numbers of its record
 module _ (g : Settings) (now : ℕ) (b : List ℕ) (bytes : Bytes b) (i at : ℕ) (e : at ≡ placeOf tallyTable (sizeIn b) i) where
-  pub tally-is : (mask opener reached : ℕ) → mask ≡ number b (at + 40) 2 → opener ≡ openerAt b i → reached ≡ sinceAt b i
-      → (viewAllowed (settingsOf g) (number b at 4) && blockAllowed (number b (at + 4) 4) (number b (at + 8) 32) && ltb mask (2 ^ g .n) && openerGood (settingsOf g) mask (openerOf opener)
-      && reachedGood (settingsOf g) now mask (reachedFrom reached)) ≡ tallyGood (settingsOf g) now (tallyAt b i)
-  unfolding tallyGood isMask tallyFor openerFor sinceFor
-  tally-is mask opener reached m o r =
-      rw (m, o, r, e, add-zero (placeOf tallyTable (sizeIn b) i), stored-name b bytes (placeOf tallyTable (sizeIn b) i + 8), and-true)
+  pub tally-is : (mask opener reached : ℕ) (bare : Bool) → bare ≡ eqb (number b (at + 8) 32) 0 → mask ≡ number b (at + 40) 2 → opener ≡ openerAt b i → reached ≡ sinceAt b i
+      → (viewAllowed (settingsOf g) (number b at 4) && (leb (number b (at + 4) 4) lastHeight && iff (eqb (number b (at + 4) 4) 0) bare) && ltb mask (2 ^ g .n)
+      && openerGood (settingsOf g) mask (openerOf opener) && reachedGood (settingsOf g) now mask (reachedFrom reached)) ≡ tallyGood (settingsOf g) now (tallyAt b i)
+  unfolding tallyGood blockAllowed isMask tallyFor openerFor sinceFor
+  tally-is mask opener reached bare z m o r =
+      rw (z, m, o, r, e, add-zero (placeOf tallyTable (sizeIn b) i), stored-name b bytes (placeOf tallyTable (sizeIn b) i + 8), and-true)
 
 -- the clock of the first quorum, by the record's number
 module _ (g : Settings) (now m k : ℕ) where

@@ -13,7 +13,9 @@ ghost use Rattle.heading.specs.Lent.{Counts};
 use super::block;
 use settings::Settings;
 
-// Where a tally's mask is.
+// Where a tally's name and mask are.
+const NAME: usize = 8;
+
 const VOTERS: usize = 40;
 
 // Whether who opened a tally, if an author did, is one of these stations and among its voters.
@@ -49,10 +51,12 @@ fn tally_good(store: &[u8], settings: Settings, clock: u32, i: usize) -> bool
     ensures { λ r. ⌜ r ≡ tallyGood (settingsOf settings) clock (tallyAt (now (store .entry)) i) ⌝ }
 {
     let at = store::tally_place(store, i);
+    let zero = fields::all_zero(store, at + NAME, 32);
     let mask = fields::get(store, at + VOTERS, 2) as u16;
     let opener = store::opener_at(store, i);
     let reached = store::reached_at(store, i);
-    block::block_good(store, settings, at)
+    let block = block::view_good(store, settings, at) & block::height_good(store, at, zero);
+    block
         & ((mask as u64) < settings::only(settings.n))
         & opener_good(settings, mask, opener)
         & reached_good(settings, clock, mask, reached)
