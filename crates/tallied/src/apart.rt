@@ -7,7 +7,7 @@ ghost use Rattle.store.specs.Layout.{tallyTable};
 ghost use Rattle.heading.specs.Lent.{Counts};
 ghost use Rattle.chains.specs.Chains.{Bare, Chained};
 ghost use Rattle.tallied.specs.Tallies.{tallyChain, Met, Apart, Has};
-use super::tallies;
+use super::good;
 use chains::CHAINS;
 use settings::Settings;
 use store::TALLY_SIZE;
@@ -56,7 +56,7 @@ pub fn good_and_apart(
     let mut i = count;
     while 0 < i {
         i -= 1;
-        if !tallies::tally_good(store, settings, clock, i) {
+        if !good::tally_good(store, settings, clock, i) {
             return false;
         }
         if repeated(store, salt, count, heads, nexts, i) {

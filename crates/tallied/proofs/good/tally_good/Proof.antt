@@ -1,9 +1,9 @@
--- `tallied::tallies::tally_good` meets its contract. Assumes nothing.
+-- `tallied::good::tally_good` meets its contract. Assumes nothing.
 use Rattle.laws.proofs.Truths.{beq-iff}
 use Rattle.tallied.proofs.Parts.{tally-is}
 use borrow.Author.Needs.{needs}
-use Rattle.tallied.proofs.tallies.tally_good.Statement.{statement}
-use Rattle.tallied.proofs.tallies.tally_good.Tie as tie
+use Rattle.tallied.proofs.good.tally_good.Statement.{statement}
+use Rattle.tallied.proofs.good.tally_good.Tie as tie
 
 tally-place-requires : tie.Need-tally-place-requires
 tally-place-requires c κs = search needs

@@ -1,8 +1,8 @@
--- `tallied::tallies::reached_good` meets its contract. Assumes nothing.
+-- `tallied::good::reached_good` meets its contract. Assumes nothing.
 use borrow.Author.Needs.{needs}
 use Rattle.tallied.proofs.Parts.{reached-none, reached-some}
-use Rattle.tallied.proofs.tallies.reached_good.Statement.{statement}
-use Rattle.tallied.proofs.tallies.reached_good.Tie as tie
+use Rattle.tallied.proofs.good.reached_good.Statement.{statement}
+use Rattle.tallied.proofs.good.reached_good.Tie as tie
 
 quorum-requires : tie.Need-quorum-requires
 quorum-requires c κs = search needs

@@ -1,9 +1,9 @@
--- `tallied::tallies::opener_good` meets its contract. Assumes nothing.
+-- `tallied::good::opener_good` meets its contract. Assumes nothing.
 use native.Mathlib.Omega.{arith}
 use borrow.Author.Needs.{needs}
 use Rattle.tallied.proofs.Parts.{opener-none, opener-other, opener-some}
-use Rattle.tallied.proofs.tallies.opener_good.Statement.{statement}
-use Rattle.tallied.proofs.tallies.opener_good.Tie as tie
+use Rattle.tallied.proofs.good.opener_good.Statement.{statement}
+use Rattle.tallied.proofs.good.opener_good.Tie as tie
 
 returns : tie.Need-returns
 returns c =
