@@ -25,7 +25,8 @@ fn method() -> String {
 Three programs take the same script in one run, each input through the call that a host makes: four views, {blocks} blocks in
 each, every statement handed on and voted for by every other station, {others} statuses of made-up names with each, until all
 {statements} statements and {tallies} tallies are in use and {logged} blocks are logged. All are compiled at the highest level, for no
-processor in particular, and none together with what measures it.
+processor in particular, and none together with what measures it; in Rust loops begin at multiples of 64, without which
+the linker's order moves the second program's times by a third.
 
 - `proved` is the proved station. Every call of it first looks at its whole store; that check is measured by a message
   which is refused right after it.

@@ -3,7 +3,7 @@
 use crate::measure::{CHECK, LENT, PARTS, PROVED, Times};
 use std::fmt::Write;
 
-const WIDTH: f64 = 640.0;
+const WIDTH: f64 = 660.0;
 const HEIGHT: f64 = 330.0;
 /// The field in which the lines are: left, top, right, bottom.
 const FIELD: [f64; 4] = [64.0, 44.0, 470.0, 282.0];
@@ -74,7 +74,7 @@ pub fn svg(n: u8, statements: usize, parts: &[Times; PARTS]) -> String {
         }
         put(format!(
             r#"<text class="{class}" x="{}" y="{:.1}">{words}</text>"#,
-            right - 12.0,
+            right + 8.0,
             label + 4.0
         ));
     }

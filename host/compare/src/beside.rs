@@ -1,11 +1,11 @@
 //! The station over a lent store in plain Rust beside the proved one: both are lent the same bytes, and must answer the
-//! same and leave the same, in the whole store and the whole out buffer. Now and then the store is damaged first, some
-//! of the times so that it is still well formed.
+//! same and leave the same, in the whole store and the whole out buffer. One in eight inputs goes to a damaged store
+//! too, which may still be well formed.
 
 use programs::shown;
 use second::random::Random;
 use second::replay::Input;
-use station::size::{HEADER, NAME, STATEMENT, TALLY};
+use station::size::{HEADER, NAME, OPENED, STATEMENT, TALLY};
 use station::{Size, ffi};
 
 /// One in so many inputs goes to a damaged store too.
@@ -166,7 +166,7 @@ fn damage(size: Size, store: &mut [u8], random: &mut Random) {
         record(random, size.tallies_at(), TALLY, tallies),
     );
     let byte = random.below(256);
-    match random.below(18) {
+    match random.below(21) {
         0 => put(store, random.below(HEADER as u64) as usize, 1, byte),
         1 => put(store, one + random.below(STATEMENT as u64) as usize, 1, byte),
         2 => put(store, first + random.below(TALLY as u64) as usize, 1, byte),
@@ -179,7 +179,7 @@ fn damage(size: Size, store: &mut [u8], random: &mut Random) {
         8 => store.copy_within(two + 8..two + 40, one + 44),
         9 => store.copy_within(two + 44..two + 76, one + 44),
         10 => store.copy_within(two + 8..two + 40, one + 8),
-        11 => put(store, one + 76, 4, random.below(clock + 2)),
+        11 => put(store, one + 76, 4, random.below(clock + 4)),
         12 => put(store, one + 76, 4, 1),
         13 => put(store, 16, 4, clock + random.below(30)),
         14 => {
@@ -194,11 +194,55 @@ fn damage(size: Size, store: &mut [u8], random: &mut Random) {
         }
         16 => put(store, 12, 4, random.below(clock + 1)),
         17 => put(store, 16, 4, random.pick(&[4_000_000_000, 3_999_999_999, 4_000_000_001])),
+        18 => opened(size, store, tallies, random),
+        19 | 20 => drop(twin(size, store, logged, random)),
         _ => {
             let view = number(store, 8, 4);
             put(store, 8, 4, random.pick(&[view + 1, view.max(1) - 1, 1]));
         }
     }
+}
+
+/// Has one author open so many of the tallies that it voted for as may just be, or one more.
+fn opened(size: Size, store: &mut [u8], tallies: u64, random: &mut Random) {
+    let (author, most) = (random.below(15), u64::from(OPENED) - 1 + random.below(3));
+    let all = (0..tallies as usize).map(|i| size.tallies_at() + TALLY * i);
+    let voted: Vec<usize> =
+        all.filter(|at| number(store, *at + 40, 2) >> author & 1 == 1).collect();
+    for at in voted.into_iter().take(most as usize) {
+        put(store, at + 42, 1, author + 1);
+    }
+}
+
+/// Stores another block beside a logged one, and in front of the logged propose above it the same propose with that block as
+/// its parent: of the log's names one is then no longer that of the first stored propose with the right parent.
+fn twin(size: Size, store: &mut [u8], logged: u64, random: &mut Random) -> Option<()> {
+    let (statements, tallies) = (number(store, 62, 2) as usize, number(store, 64, 2) as usize);
+    if logged < 2 || statements + 2 > size.statements() || tallies + 1 > size.tallies() {
+        return None;
+    }
+    let height = 1 + random.below(logged - 1) as usize;
+    let propose = |store: &[u8], height: usize| {
+        let name = size.log_at() + NAME * (height - 1);
+        (0..statements).map(|i| HEADER + STATEMENT * i).find(|at| {
+            number(store, at + 4, 4) == height as u64
+                && store[at + 40] == 2
+                && store[at + 8..at + 40] == store[name..name + NAME]
+        })
+    };
+    let (lower, upper) = (propose(store, height)?, propose(store, height + 1)?);
+    let (beside, above) = (HEADER + STATEMENT * statements, HEADER + STATEMENT * (statements + 1));
+    let tally = size.tallies_at() + TALLY * tallies;
+    let other: Vec<u8> = (0..NAME).map(|_| random.below(256) as u8).collect();
+    store.copy_within(lower..lower + STATEMENT, beside);
+    store[beside + 8..beside + 40].copy_from_slice(&other);
+    put(store, beside + 76, 4, 0);
+    store.copy_within(beside..beside + 40, tally);
+    store.copy_within(upper..upper + STATEMENT, above);
+    store[upper + 44..upper + 76].copy_from_slice(&other);
+    put(store, 62, 2, statements as u64 + 2);
+    put(store, 64, 2, tallies as u64 + 1);
+    Some(())
 }
 
 fn swap(store: &mut [u8], one: usize, two: usize, bytes: usize) {

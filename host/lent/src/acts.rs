@@ -10,7 +10,7 @@ use station::size::{BLAME, HEADER, NAME, OPENED, STATEMENT, TALLY};
 
 /// The phases' numbers in the header: in a view, stopped; from `WAITING` on the quit clock.
 pub const IN_VIEW: u32 = 0;
-pub const FULL: u32 = 1;
+const FULL: u32 = 1;
 pub const SPLIT: u32 = 2;
 pub const LAST_CLOCK: u32 = 3;
 pub const WAITING: u32 = 4;

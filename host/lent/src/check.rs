@@ -71,7 +71,7 @@ impl<const HEADS: usize, const ROOM: usize> Chains<HEADS, ROOM> {
 }
 
 /// Where the records of a checked store are.
-pub struct Index {
+pub(crate) struct Index {
     salt: u64,
     tallies: Chains<TALLIED, { Size::Large.tallies() }>,
     /// By block and link.
@@ -309,12 +309,6 @@ impl Index {
             below = logged;
         }
         true
-    }
-}
-
-impl Default for Index {
-    fn default() -> Index {
-        Index::new()
     }
 }
 

@@ -1,6 +1,6 @@
 //! What a tick does, "in order": clock, commit, blame, the leader's new-view; or the entry into the next view.
 
-use crate::acts::{FULL, IN_VIEW, LAST_CLOCK, Plan, SPLIT, Station, WAITING, conflict};
+use crate::acts::{IN_VIEW, LAST_CLOCK, Plan, SPLIT, Station, WAITING, conflict};
 use crate::bytes::{eight, four, name, put_four, two};
 use crate::check::Statement;
 use crate::settings::CLOCK;
@@ -258,5 +258,3 @@ impl Station<'_> {
         }
     }
 }
-
-const _: () = assert!(FULL < SPLIT && SPLIT < LAST_CLOCK && LAST_CLOCK < WAITING);
