@@ -1,15 +1,17 @@
 //! The proved station and the second program behind one trait, so that one test, one simulation and
-//! one benchmark runs either.
+//! one benchmark runs either; and the plain engine, which has no store to show.
 
 #![forbid(unsafe_code)]
 
 mod journals;
+mod plain_engine;
 mod proved;
 mod second_program;
 pub mod shown;
 pub mod words;
 
 pub use journals::Journals;
+pub use plain_engine::PlainEngine;
 pub use proved::Proved;
 pub use second_program::{Second, limits};
 use station::{Lock, Name, Phase, Shown, Size};
