@@ -1,6 +1,7 @@
 //! The station over a lent store in plain Rust: recorded runs, and beside the proved one.
 
 use compare::beside;
+use compare::pair::Pair;
 use compare::sources::{self, Scripted};
 use compare::{Met, run};
 use programs::{Answer, Lent, Program, Proved};
@@ -54,7 +55,8 @@ fn is_the_proved_station_to_the_byte() {
             beside::run(size, &inputs, 1, &mut beside).expect(title);
         }
         for seed in 0..if size == Size::Large { 4 } else { 20 } {
-            let (inputs, found) = run::<Proved>(size, Scripted::new(size, seed), &mut met);
+            let (inputs, found) =
+                run(Pair::<Proved>::new(size), Scripted::new(size, seed), &mut met);
             assert_eq!(found, None);
             beside::run(size, &inputs, seed, &mut beside).expect("the same");
         }

@@ -8,7 +8,7 @@ pub struct Proved {
     station: Station,
 }
 
-fn answered(answer: Result<Effects<'_>, Refusal>) -> Answer<'_> {
+pub(crate) fn answered(answer: Result<Effects<'_>, Refusal>) -> Answer<'_> {
     match answer {
         Ok(effects) => Answer { number: 0, out: effects.bytes() },
         Err(refusal) => Answer { number: refusal.number(), out: &[] },
