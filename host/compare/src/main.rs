@@ -136,7 +136,13 @@ fn given(asked: &Asked, path: &str, met: &mut Met) -> Result<(), String> {
 }
 
 /// The failing run, shrunk, as a script with remarks.
-fn report(title: &str, asked: &Asked, size: Size, inputs: Vec<Input>, found: &Difference) -> String {
+fn report(
+    title: &str,
+    asked: &Asked,
+    size: Size,
+    inputs: Vec<Input>,
+    found: &Difference,
+) -> String {
     let count = inputs.len();
     let fails = |inputs: &[Input]| replay(asked.pair(size), inputs).map(|found| found.at);
     let shrunk = shrink::shrink(inputs, fails);

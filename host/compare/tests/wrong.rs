@@ -91,7 +91,8 @@ impl<const HOW: u32> Program for Wrong<HOW> {
 fn found<P: Program>() -> String {
     for seed in 0..1000 {
         let size = Size::Small;
-        let (inputs, difference) = run(Pair::<P>::new(size), Scripted::new(size, seed), &mut Met::default());
+        let (inputs, difference) =
+            run(Pair::<P>::new(size), Scripted::new(size, seed), &mut Met::default());
         if difference.is_some() {
             let fails = |inputs: &[_]| replay(Pair::<P>::new(size), inputs).map(|found| found.at);
             let shrunk = shrink::shrink(inputs, fails);
