@@ -1,7 +1,7 @@
 #!/bin/bash
 # The script program against the second program, which says to the byte what must be printed: of the test scripts, of random
-# runs as compare prints them, and of a journal's records. Then printed messages are handed over again, in words and in hex;
-# and README's run.
+# runs as compare prints them, and of a journal's records; the plain engine must print the same as the station. Then printed
+# messages are handed over again, in words and in hex; and README's run.
 set -euo pipefail
 cd "$(dirname "$0")/.."
 export CARGO_NET_OFFLINE=true
@@ -28,6 +28,12 @@ for seed in $(seq 1 20); do
     cat "$place/played.txt" >>"$place/all.txt"
 done
 echo "20 random runs print what the second program says"
+
+# the plain engine, whose calls work through all inputs before them: short scripts
+for script in examples/first.txt crates/play/stdin crates/script_bench/stdin crates/script_views/stdin crates/script_damaged/stdin; do
+    tools/play --plain "$script" | cmp - <(tools/play "$script")
+done
+echo "the plain engine prints five scripts alike"
 
 # the journals of the example host, as scripts
 target/host/release/examples/host "$place" >/dev/null

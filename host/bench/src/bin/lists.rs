@@ -1,13 +1,14 @@
 //! Prints how long a call of the plain engine takes, as docs/SPEED.md has it: `lists [ROUNDS]`. Its list holds
-//! so many inputs, and one tick more is handed over; the list is then put back. The least time of the
-//! rounds counts, since others who use the machine can only make it longer.
+//! so many inputs, and one tick more is handed over, each round to the same list. The least time of the rounds
+//! counts, without what others had of the processor, since they can only make it longer.
 
 use bench::script::{self, Call};
+use bench::waited;
 use station::{Plain, Size};
 use std::hint::black_box;
 use std::time::Instant;
 
-const LENGTHS: [usize; 4] = [100, 500, 1_000, 1_500];
+const LENGTHS: [usize; 3] = [100, 500, 1_000];
 const N: u8 = 3;
 const D: u32 = 2;
 const OWN: u8 = 1;
@@ -36,7 +37,7 @@ fn main() {
 fn held(inputs: &[Call]) -> (Plain, f64) {
     let room = inputs.len() + 1;
     let mut plain = Plain::fresh(room, N.into(), D.into(), OWN.into()).expect("good settings");
-    let start = Instant::now();
+    let (start, before) = (Instant::now(), waited());
     for input in inputs {
         let answer = match input {
             Call::Tick => plain.tick(),
@@ -45,7 +46,8 @@ fn held(inputs: &[Call]) -> (Plain, f64) {
         };
         answer.expect("an input that is kept");
     }
-    (plain, start.elapsed().as_secs_f64())
+    let waited = waited() - before;
+    (plain, start.elapsed().as_secs_f64() - waited)
 }
 
 /// The least seconds of a tick behind these inputs.
@@ -53,9 +55,10 @@ fn least(plain: &Plain, rounds: usize) -> f64 {
     let mut least = f64::MAX;
     for _ in 0..rounds {
         let mut plain = plain.clone();
-        let start = Instant::now();
+        let (start, before) = (Instant::now(), waited());
         black_box(plain.tick().expect("room for one more").bytes());
-        least = least.min(start.elapsed().as_secs_f64());
+        let waited = waited() - before;
+        least = least.min(start.elapsed().as_secs_f64() - waited);
     }
     least
 }

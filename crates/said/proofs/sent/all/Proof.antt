@@ -1,9 +1,9 @@
--- `script::sent::all` is safe and ends: each field takes at least one byte. Assumes nothing.
+-- `said::sent::all` is safe and ends: each field takes at least one byte. Assumes nothing.
 use Prim.Native.Nat.{_-_}
 use lib.ListN.{length}
 use borrow.Author.Needs.{needs}
-use Rattle.script.proofs.sent.all.Statement.{statement}
-use Rattle.script.proofs.sent.all.Tie as tie
+use Rattle.said.proofs.sent.all.Statement.{statement}
+use Rattle.said.proofs.sent.all.Tie as tie
 
 abbrev Inv-loop : tie.InvT-loop
 Inv-loop page₀ at out end₀ place₀ page end place = Unit {0}

@@ -59,6 +59,7 @@ pub fn reason(page: &mut Page, at: usize, refusal: u64) -> usize {
             at,
             b" the vote's author has opened as many tallies as one may\n",
         ),
+        13 => page::say(page, at, b" no slot left in the plain engine's list\n"),
         14 => page::say(page, at, b" no good envelope\n"),
         15 => page::say(page, at, b" no slip: the name is not logged\n"),
         _ => page::say(page, at, b"\n"),

@@ -1,8 +1,8 @@
--- `script::spell::mask` is safe and ends: sixteen stations are looked at. Assumes nothing.
+-- `said::spell::mask` is safe and ends: sixteen stations are looked at. Assumes nothing.
 use Prim.Native.Nat.{_-_}
 use borrow.Author.Needs.{needs}
-use Rattle.script.proofs.spell.mask.Statement.{statement}
-use Rattle.script.proofs.spell.mask.Tie as tie
+use Rattle.said.proofs.spell.mask.Statement.{statement}
+use Rattle.said.proofs.spell.mask.Tie as tie
 
 abbrev Inv-loop : tie.InvT-loop
 Inv-loop page₀ at word mask end₀ rest₀ station₀ page end rest station = Unit {0}
