@@ -1,14 +1,15 @@
 -- A tick that does no more than move the clock on. Assumes nothing.
-use Prim.Native.Nat.{ℕ, suc, _+_, _*_}
+use Prim.Native.Nat.{ℕ, suc, _+_, _<_, _≤_}
 use mathlib.Core.Path.{_≡_, refl, sym, ap, _∙_, subst}
 use mathlib.Core.Bool.{Bool, true, false, not, _&&_}
 use mathlib.Core.List.{List, []}
 use mathlib.Core.Option.{some, Option·some-injective}
+use native.Mathlib.Omega.{arith}
 use lib.ListN.{length}
 use lib.Seq.{drop-length}
 use Rattle.rules.specs.Limits.{lastClock}
 use Rattle.rules.specs.Words.{State}
-use Rattle.rules.specs.Inputs.{Work, saying, _▸_, withClock, withLog, reports, logging, overdue, complain, leadsNow, lead, entersNow, enter, votes}
+use Rattle.rules.specs.Inputs.{Work, saying, _▸_, withClock, withLog, reports, logging, overdue, complain, leadsNow, lead, entersNow, enter}
 use Rattle.rules.specs.Refusals.{running, tick}
 use Rattle.store.specs.Layout.{logTable, countOf}
 use Rattle.store.specs.Decode.{names, stateFrom, stateOf, Left}
@@ -16,9 +17,10 @@ use Rattle.store.specs.Meaning.{Loads}
 use Rattle.store.specs.declared.Station.{Station}
 use Rattle.store.proofs.Forms.{form-log}
 use Rattle.store.proofs.Loaded.{loaded-clock}
-use Rattle.commit.specs.Looks.{Still, Seen}
+use Rattle.linked.specs.Told.{Told}
+use Rattle.commit.specs.Looks.{Seen}
 use Rattle.commit.specs.declared.Glance.{Glance}
-use Rattle.commit.proofs.Ticks.{gained-none, still-log, seen-votes}
+use Rattle.commit.proofs.Ticks.{gained-none, told-log}
 use Rattle.acts.specs.Works.{Formed, Works}
 use Rattle.acts.proofs.Works.{works-is, works-none}
 use Rattle.turns.specs.Gains.{grownLog}
@@ -60,20 +62,16 @@ module _ {b : List ℕ} (k : Formed b) (s : Station) (e : Loads s b) where
   unfolding later
   next-state = ap (λ (c : ℕ). withClock (c + 1) S) (loaded-clock s b e)
 
-  module _ (g : Glance) (seen : Seen b s g) (rest : g .rest ≡ 0) where
-    pub glance-votes : g .votes ≡ votes S
-    glance-votes = seen-votes b s e g seen rest
-
-    pub quiet-by : (o l n : Bool) → o ≡ overdue (withClock (s .clock + 1) S) → o ≡ false → l ≡ leadsNow (withClock (s .clock + 1) S) → n ≡ entersNow (withClock (s .clock + 1) S)
-        → Quiet b (not l && not n)
-    quiet-by o true n p f q r = tt
-    quiet-by o false true p f q r = tt
-    quiet-by o false false p f q r = record {
-      log = still-log b s e (subst (Still b (s .view) (2 * s .settings .delay) (s .clock + 1) (s .statements)) rest (seen .still));
-      calm = ap overdue (sym next-state) ∙ sym p ∙ f;
-      led = ap leadsNow (sym next-state) ∙ sym q;
-      stays = ap entersNow (sym next-state) ∙ sym r;
-    }
+  pub quiet-by : {told : List ℕ} → Told b told → (g : Glance) → Seen b told s g → s .statements ≤ g .settled → (o l n : Bool) → o ≡ overdue (withClock (s .clock + 1) S) → o ≡ false
+      → l ≡ leadsNow (withClock (s .clock + 1) S) → n ≡ entersNow (withClock (s .clock + 1) S) → Quiet b (not l && not n)
+  quiet-by tells g seen h o true n p f q r = tt
+  quiet-by tells g seen h o false true p f q r = tt
+  quiet-by {told} tells g seen h o false false p f q r = record {
+    log = told-log b told s e tells (λ j u v. seen .below j u (omega arith));
+    calm = ap overdue (sym next-state) ∙ sym p ∙ f;
+    led = ap leadsNow (sym next-state) ∙ sym q;
+    stays = ap entersNow (sym next-state) ∙ sym r;
+  }
 
   module _ (y : running S ≡ true) (n : s .clock ≡ lastClock → ⊥) where
     pub quiet-tick : (r : Bool) → Quiet b r → r ≡ true → {b′ : List ℕ} → Left b′ (withClock (s .clock + 1) S) → (o : List ℕ) → Answers (tick S) o b′ o 0

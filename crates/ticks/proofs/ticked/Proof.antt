@@ -34,19 +34,19 @@ is-quiet-requires c κs = search needs
 
 add-set-clock : tie.Need-add-set-clock
 add-set-clock c =
-    omega (arith, clock-small (c .before .before .before .before .before .before .before .before .before .before .before .before .before .before .pre .0) (c .before .before .before .before .before .before .before .before .before .before .load .result) (c .before .before .before .before .before .before .before .before .before .before .load .ensures))
+    omega (arith, clock-small (c .before .before .before .before .before .before .before .before .before .before .before .before .before .before .before .pre .0) (c .before .before .before .before .before .before .before .before .before .before .before .load .result) (c .before .before .before .before .before .before .before .before .before .before .before .load .ensures))
 
 set-clock-requires : tie.Need-set-clock-requires
 set-clock-requires c κs =
-    c .before .before .before .before .before .before .before .before .before .before .before .before .before .before .pre .0 .form
+    c .before .before .before .before .before .before .before .before .before .before .before .before .before .before .before .pre .0 .form
 
 same-length-2 : tie.Need-same-length-2
 same-length-2 c = search needs
 
 returns-2 : tie.Need-returns-2
 returns-2 c =
-    let p = c .before .before .before .before .before .before .before .before .before .before .before .before .before .before .before .before .before .pre in
-    quiet-tick (p .0) (c .before .before .before .before .before .before .before .before .before .before .before .before .before .load .result) (c .before .before .before .before .before .before .before .before .before .before .before .before .before .load .ensures) (p .1) (c .before .before .before .before .before .before .before .before .before .before .before .if1 .left) (c .before .before .before .before .before .before .is-quiet .result) (c .before .before .before .before .before .before .is-quiet .ensures) (c .before .before .before .before .before .if2 .taken) (c .before .before .set-clock .ensures) (c .before .before .before .before .before .before .before .before .before .before .before .before .before .before .before .before .before .args .out .now)
+    let p = c .before .before .before .before .before .before .before .before .before .before .before .before .before .before .before .before .before .before .pre in
+    quiet-tick (p .0) (c .before .before .before .before .before .before .before .before .before .before .before .before .before .before .load .result) (c .before .before .before .before .before .before .before .before .before .before .before .before .before .before .load .ensures) (p .1) (c .before .before .before .before .before .before .before .before .before .before .before .before .if1 .left) (c .before .before .before .before .before .before .is-quiet .result) (c .before .before .before .before .before .before .is-quiet .ensures) (c .before .before .before .before .before .if2 .taken) (c .before .before .set-clock .ensures) (c .before .before .before .before .before .before .before .before .before .before .before .before .before .before .before .before .before .before .args .out .now)
 
 busy-requires : tie.Need-busy-requires
 busy-requires c κs = search needs
