@@ -15,7 +15,7 @@ mkdir -p "$place"
 # the second program doesn't say what is wrong with a bad line, nor the mask of a lock
 comparable() { sed -E 's/(not taken: ).*/\1/; s/^(  lock: .* mask) .*/\1/' "$1"; }
 scripts=0
-for crate in crates/play crates/script_*; do
+for crate in crates/play crates/play_plain crates/script_*; do
     "$tell" "$crate/stdin" | diff - <(comparable "$crate/stdout")
     scripts=$((scripts + 1))
 done
@@ -30,10 +30,10 @@ done
 echo "20 random runs print what the second program says"
 
 # the plain engine, whose calls work through all inputs before them: short scripts
-for script in examples/first.txt crates/play/stdin crates/script_bench/stdin crates/script_views/stdin crates/script_damaged/stdin; do
+for script in examples/first.txt crates/play*/stdin crates/script_*/stdin; do
     tools/play --plain "$script" | cmp - <(tools/play "$script")
 done
-echo "the plain engine prints five scripts alike"
+echo "the plain engine prints the test scripts alike"
 
 # the journals of the example host, as scripts
 target/host/release/examples/host "$place" >/dev/null
