@@ -36,9 +36,10 @@ the linker's order moves the second program's times by a third.
 - `second` is the second program (host/second), which keeps its state in memory and has no store to check. **Without the
   check** is the ratio of proved, less its check, to second.
 
-The times are the least of five runs for each 24 inputs, since others who use the machine can only make them longer; a
-round is five runs of each program in turn. Given are the middle of the rounds and, with ratios, the quarters around it.
-By kind of input, each input is timed by itself and its least time counts. Instructions are valgrind's count, without the
+Each input is timed by itself, and its least time counts, since others who use the machine can only make it longer. A
+message that is refused after the check goes before what is timed, so that code and store are as near to the processor
+for one program as for another, and for the check as for the whole call. A round is five runs of each program in turn;
+given are the middle of the rounds and, with ratios, the quarters around it. Instructions are valgrind's count, without the
 time that a cache or a wrong guess of a branch takes; they don't depend on the day. `tools/speed` makes all of it."
     )
 }

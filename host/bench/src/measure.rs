@@ -17,9 +17,8 @@ pub fn part(input: &Input) -> usize {
     (input.statements * PARTS / SIZE.statements()).min(PARTS - 1)
 }
 
-/// How many inputs are timed together, and how often in a round. The least time counts: others who
-/// use the machine can only make it longer.
-const TOGETHER: usize = 24;
+/// How often the script is run in a round. The least time of an input counts: others who use the machine can only make it
+/// longer.
 const RUNS: usize = 5;
 
 /// What is measured: the proved station, the check of its store alone, the station over a lent store in plain Rust, the
@@ -46,25 +45,46 @@ pub fn without_check(times: &Times) -> f64 {
 /// A script's settings: n, D and the own number.
 pub type Settings = (u64, u64, u64);
 
-/// One round: all programs, and the proved one with a message that is refused after the check in
-/// front of each input. One after the other, so that what slows the machine slows all of them.
-/// The times of each part of the filling.
+/// One round: the programs one after the other, so that what slows the machine slows all of them. The times of each part
+/// of the filling.
 pub fn round(script: &[Input], settings: Settings) -> [Times; PARTS] {
-    let stretches = script.len().div_ceil(TOGETHER);
-    let mut least = vec![[f64::MAX; COLUMNS]; stretches];
-    for _ in 0..RUNS {
-        let proved = run::<Proved>(script, settings, false);
-        let lent = run::<Lent>(script, settings, false);
-        let second = run::<Second>(script, settings, false);
-        let twice = run::<Proved>(script, settings, true);
+    let least = least(script, settings, RUNS);
+    std::array::from_fn(|filling| middle(script, &least, |input| part(input) == filling))
+}
+
+/// ns per input of each kind, over the whole script.
+pub fn kinds(script: &[Input], settings: Settings, runs: usize) -> [Times; Kind::ALL.len()] {
+    let least = least(script, settings, runs);
+    Kind::ALL.map(|(kind, _)| middle(script, &least, |input| input.kind == kind))
+}
+
+/// The least time of each input over some runs, without the time of looking at the clock.
+fn least(script: &[Input], settings: Settings, runs: usize) -> Vec<Times> {
+    let mut least = vec![[f64::MAX; COLUMNS]; script.len()];
+    for _ in 0..runs {
+        let proved = each::<Proved>(script, settings);
+        let lent = each::<Lent>(script, settings);
+        let second = each::<Second>(script, settings);
         for (place, least) in least.iter_mut().enumerate() {
-            lessen(least, [proved[place], twice[place], lent[place], second[place]]);
+            let ([check, whole], [_, lent], [_, second]) =
+                (proved[place], lent[place], second[place]);
+            lessen(least, [whole, check, lent, second]);
         }
     }
-    by_part(script, &least).map(|mut times| {
-        times[CHECK] -= times[PROVED];
-        times
-    })
+    let nothing = (0..1000).map(|_| timed(|| ())).fold(f64::MAX, f64::min);
+    least.into_iter().map(|times| times.map(|time| time - nothing)).collect()
+}
+
+/// The times per input of some of the inputs.
+fn middle(script: &[Input], least: &[Times], counts: impl Fn(&Input) -> bool) -> Times {
+    let (mut times, mut inputs) = ([0.0; COLUMNS], 0.0);
+    for (_, least) in script.iter().zip(least).filter(|(input, _)| counts(input)) {
+        inputs += 1.0;
+        for (times, ns) in times.iter_mut().zip(least) {
+            *times += ns;
+        }
+    }
+    times.map(|time| time / inputs)
 }
 
 /// The lesser of each two.
@@ -78,64 +98,12 @@ fn fresh<P: Program>(settings: Settings) -> P {
     P::fresh(SIZE, settings.0, settings.1, settings.2).expect("good settings")
 }
 
-/// ns of each stretch of inputs.
-fn run<P: Program>(script: &[Input], settings: Settings, refused: bool) -> Vec<f64> {
-    let mut program = fresh::<P>(settings);
-    let mut times = Vec::with_capacity(script.len() / TOGETHER + 1);
-    for stretch in script.chunks(TOGETHER) {
-        times.push(timed(|| {
-            for input in stretch {
-                if refused {
-                    black_box(program.step(&[]).number);
-                }
-                black_box(input.call.give(&mut program).number);
-            }
-        }));
-    }
-    times
-}
-
-/// ns per input of each part, from those of each stretch, which counts where it begins.
-fn by_part(script: &[Input], stretches: &[Times]) -> [Times; PARTS] {
-    let (mut times, mut inputs) = ([[0.0; COLUMNS]; PARTS], [0.0; PARTS]);
-    for (stretch, ns) in script.chunks(TOGETHER).zip(stretches) {
-        let part = part(&stretch[0]);
-        inputs[part] += stretch.len() as f64;
-        for (times, ns) in times[part].iter_mut().zip(ns) {
-            *times += ns;
-        }
-    }
-    std::array::from_fn(|part| times[part].map(|time| time / inputs[part]))
-}
-
-/// ns per input of each kind, over the whole script, without the time of looking at the clock. Each input's least time
-/// counts.
-pub fn kinds(script: &[Input], settings: Settings, rounds: usize) -> [Times; Kind::ALL.len()] {
-    let mut least = vec![[f64::MAX; COLUMNS]; script.len()];
-    for _ in 0..rounds {
-        let proved = each::<Proved>(script, settings);
-        let lent = each::<Lent>(script, settings);
-        let second = each::<Second>(script, settings);
-        for (place, least) in least.iter_mut().enumerate() {
-            let ([check, whole], [_, lent], [_, second]) =
-                (proved[place], lent[place], second[place]);
-            lessen(least, [whole, check, lent, second]);
-        }
-    }
-    let nothing = (0..1000).map(|_| timed(|| ())).fold(f64::MAX, f64::min);
-    Kind::ALL.map(|(kind, _)| {
-        let of_kind = || script.iter().zip(&least).filter(|(input, _)| input.kind == kind);
-        let count = of_kind().count() as f64;
-        std::array::from_fn(|column| {
-            of_kind().map(|(_, times)| times[column] - nothing).sum::<f64>() / count
-        })
-    })
-}
-
-/// The times of a message that is refused after the check, and of each input, by itself.
+/// The times of a message that is refused after the check, and of each input, by itself. Another such message comes before
+/// both, so that code and store are as near to the processor for the one as for the other.
 fn each<P: Program>(script: &[Input], settings: Settings) -> Vec<[f64; 2]> {
     let mut program = fresh::<P>(settings);
     let times = script.iter().map(|input| {
+        black_box(program.step(&[]).number);
         let check = timed(|| program.step(&[]).number);
         [check, timed(|| input.call.give(&mut program).number)]
     });
