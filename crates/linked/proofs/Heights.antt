@@ -3,7 +3,7 @@ use Prim.Native.Nat.{ℕ, suc, _+_, _-_, _%_, _<_}
 use mathlib.Core.Path.{_≡_, refl, sym, ap, _∙_}
 use mathlib.Core.Bool.{Bool, true, false, not, _&&_, _||_, and-comm}
 use mathlib.Core.List.{List}
-use mathlib.Core.Option.{some}
+use mathlib.Core.Option.{Option, some}
 use native.Mathlib.Omega.{arith}
 use native.Mathlib.Nat.{sub-zero}
 use lib.Dec.{eqb}
@@ -17,9 +17,9 @@ use Rattle.laws.proofs.Searches.{first-any, first-none}
 use Rattle.store.specs.Layout.{statementTable, countOf}
 use Rattle.store.specs.Decode.{nth, rows, statementAt, statements, nameAt}
 use Rattle.chains.specs.Chains.{chains, Chained, places, behind, Walk}
-use Rattle.chains.proofs.Walks.{walk-start}
+use Rattle.chains.proofs.Walks.{walk-start, walk-on}
 use Rattle.chains.proofs.Apart.{any-same}
-use Rattle.chains.proofs.Firsts.{first-whole, first-record}
+use Rattle.chains.proofs.Firsts.{first-whole, first-next, first-record}
 use Rattle.linked.specs.Told.{nameBelow}
 use Rattle.linked.specs.Links.{isLink, soughtAt, heightChain, placeLeft, Foremost}
 use Rattle.linked.proofs.Parts.{hasLink}
@@ -34,6 +34,11 @@ block-height height name x e =
 -- where some are left there is a place
 pub place-left : (n r : ℕ) → 0 < r → some (n - r) ≡ placeLeft n r
 place-left n r g = let e : r ≡ suc (r - 1) = omega arith in ap (λ (s : ℕ). some (n - s)) e ∙ ap (placeLeft n) (sym e)
+
+-- a walk goes on from a record that fails the test
+pub first-on : {p : ℕ → Bool} {n left : ℕ} {nexts : List ℕ} {whole : Option ℕ} → Walk p n left nexts × (whole ≡ first p (behind n left)) → 0 < left → p (n - left) ≡ false
+    → Walk p n (nth nexts (n - left)) nexts × (whole ≡ first p (behind n (nth nexts (n - left))))
+first-on w h t = (walk-on (w .0) h, w .1 ∙ first-next (w .0) h t)
 
 -- all proposes that are sought for a logged name are on the chain of its height
 module _ (b : List ℕ) (k : ℕ) (free : Bool) where

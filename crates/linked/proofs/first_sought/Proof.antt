@@ -4,10 +4,10 @@ use native.Mathlib.Omega.{arith}
 use Rattle.rules.specs.Lists.{first}
 use Rattle.heading.proofs.Forms.{few-statements}
 use Rattle.chains.specs.Chains.{places, behind, Walk}
-use Rattle.chains.proofs.Walks.{walk-less, walk-on}
-use Rattle.chains.proofs.Firsts.{first-here, first-next, first-end}
+use Rattle.chains.proofs.Walks.{walk-less}
+use Rattle.chains.proofs.Firsts.{first-here, first-end}
 use Rattle.linked.specs.Links.{soughtAt}
-use Rattle.linked.proofs.Heights.{place-left, sought-start, sought-whole}
+use Rattle.linked.proofs.Heights.{place-left, first-on, sought-start, sought-whole}
 use borrow.Author.Needs.{needs}
 use Rattle.linked.proofs.first_sought.Statement.{statement}
 use Rattle.linked.proofs.first_sought.Tie as tie
@@ -80,9 +80,7 @@ loop-less c =
 
 loop-again : tie.Need-loop-again Inv-loop μ-loop
 loop-again c =
-    let walk = c .before .before .before .before .loop .inv in
-    let more = c .before .before .before .loop-test .taken in
-    (walk-on (walk .0) more, walk .1 ∙ first-next (walk .0) more (sym (c .before .before .is-sought .ensures) ∙ c .before .if1 .left))
+    first-on (c .before .before .before .before .loop .inv) (c .before .before .before .loop-test .taken) (sym (c .before .before .is-sought .ensures) ∙ c .before .if1 .left)
 
 returns-2 : tie.Need-returns-2 Inv-loop μ-loop
 returns-2 c =
