@@ -91,20 +91,22 @@ fn walked(
     false
 }
 
-// The same without a walk where the chain is empty, as most are.
+// The same of a chain, without a walk where it is empty, as most are.
 pub fn has_block(
     store: &[u8],
     base: usize,
     size: usize,
     count: usize,
+    heads: &[u16; CHAINS],
     nexts: &[u16; Settings::MOST_TALLIES_LARGE],
-    left: usize,
+    chain: usize,
     key: u64,
     at: usize,
 ) -> bool
-    requires { ⌜ (40 ≤ size) × (base + size * count ≤ length (now store)) × (count ≤ mostTalliesLarge) × (at + 32 ≤ length (now store)) × Walk (isOf (now store) base size key at) count left (now nexts) ⌝ }
-    ensures { λ r. ⌜ r ≡ any (isOf (now (store .entry)) base size key at) (behind count left) ⌝ }
+    requires { ⌜ (chain < chains) × (40 ≤ size) × (base + size * count ≤ length (now store)) × (count ≤ mostTalliesLarge) × (at + 32 ≤ length (now store)) × Walk (isOf (now store) base size key at) count (nth (now heads) chain) (now nexts) ⌝ }
+    ensures { λ r. ⌜ r ≡ any (isOf (now (store .entry)) base size key at) (behind count (nth (now (heads .entry)) chain)) ⌝ }
 {
+    let left = heads[chain] as usize;
     if left == 0 {
         return false;
     }

@@ -1,12 +1,12 @@
 -- A logged name's propose as the code tests it, and the log entry by entry. Assumes nothing.
 use Prim.Native.Nat.{ℕ, suc, _+_, _-_, _<_, _≤_}
-use mathlib.Core.Path.{_≡_, ap, _∙_}
+use mathlib.Core.Path.{_≡_, sym, ap, _∙_}
 use mathlib.Core.Bool.{Bool, true, false, not, _&&_, and-true, and-false}
 use mathlib.Core.List.{List}
 use native.Mathlib.Omega.{arith}
 use native.Mathlib.Numerals.{add-one}
 use lib.Dec.{eqb}
-use borrow.Author.Tests.{ne-eqb, eq-eqb}
+use borrow.Author.Tests.{ne-eqb, eq-eqb, not-true, not-false}
 use Rattle.rules.specs.Limits.{small}
 use Rattle.rules.specs.Lists.{any}
 use Rattle.rules.specs.Words as words
@@ -21,7 +21,7 @@ use Rattle.store.specs.Decode.{rows, statementAt, kindAt, nameAt, nameFor, stat
 use Rattle.store.proofs.Rows.{rows-from}
 use Rattle.heading.proofs.Walks.{rows-end, rows-whole}
 use Rattle.linked.specs.Told.{nameBelow}
-use Rattle.linked.specs.Links.{isLink}
+use Rattle.linked.specs.Links.{isLink, soughtAt}
 
 -- ---- the log
 
@@ -42,12 +42,27 @@ pub block-agrees : (b : List ℕ) (i h at kind height : ℕ) (same : Bool) → k
 unfolding isBlock statementAt kindAt
 block-agrees b i h at kind height same p q r = rw (p, q, r)
 
+-- the same of what is sought for the name logged at place k
+module _ (b : List ℕ) (k j at : ℕ) (q : at ≡ placeOf logTable (sizeIn b) k) {r : Bool} (is : r ≡ isBlock (k + 1) (number b at 32) (statementAt b j)) (free : Bool) where
+  named : isBlock (k + 1) (nameAt b k) (statementAt b j) ≡ r
+  unfolding nameFor
+  named = rw (← q) (sym is)
+
+  pub sought-not : not r ≡ true → false ≡ soughtAt b k free j
+  sought-not t = rw (named, not-true r t, and-false)
+
+  pub sought-any : not r ≡ false → free ≡ true → true ≡ soughtAt b k free j
+  sought-any t e = rw (e, named) (sym (not-false r t))
+
+  pub sought-above : not r ≡ false → free ≡ false → {s : Bool} → s ≡ eqb (statementAt b j .link) (nameBelow b k) → s ≡ soughtAt b k free j
+  sought-above t e h = rw (e, named, not-false r t, and-true) h
+
 -- the name below
 module _ (b : List ℕ) (k : ℕ) where
-  pub below-genesis : k ≡ 0 → nameBelow b k ≡ 0
+  below-genesis : k ≡ 0 → nameBelow b k ≡ 0
   below-genesis e = rw e
 
-  pub below-name : (k ≡ 0 → ⊥) → nameBelow b k ≡ nameAt b (k - 1)
+  below-name : (k ≡ 0 → ⊥) → nameBelow b k ≡ nameAt b (k - 1)
   below-name d = let e : k ≡ suc (k - 1) = omega arith in ap (nameBelow b) e
 
   -- as a statement's parent is compared with it

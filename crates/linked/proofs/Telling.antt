@@ -3,7 +3,6 @@ use Prim.Native.Nat.{ℕ, zero, suc, _+_, _-_, _<_, _≤_}
 use mathlib.Core.Path.{_≡_, refl, sym, ap, _∙_}
 use mathlib.Core.Bool.{Bool, true, false, not}
 use mathlib.Core.List.{List}
-use mathlib.Core.Option.{some}
 use native.Mathlib.Omega.{arith}
 use native.Mathlib.Numerals.{add-one}
 use native.Mathlib.Decide.{ℕ-discrete, decLt}
@@ -12,17 +11,16 @@ use lib.ListN.{length, set, replicate, length-set, length-replicate}
 use lib.Seq.{getD-set-same, getD-set-other}
 use borrow.Author.Tests.{eqb-true, eq-eqb, not-false}
 use Rattle.rules.specs.Limits.{mostStatementsLarge}
-use Rattle.rules.specs.Lists.{first}
 use Rattle.rules.specs.Inputs.{isBlock}
 use Rattle.rules.specs.WellFormed.{linked}
 use Rattle.laws.proofs.Searches.{first-any, first-mem, any-mem}
 use Rattle.laws.proofs.Truths.{both}
-use Rattle.fields.specs.Places.{number}
-use Rattle.store.specs.Layout.{sizeIn, statementTable, logTable, countOf, placeOf}
-use Rattle.store.specs.Decode.{nth, statementAt, statements, nameAt, nameFor, names}
+use Rattle.store.specs.Layout.{statementTable, logTable, countOf}
+use Rattle.store.specs.Decode.{nth, statementAt, statements, nameAt, names}
 use Rattle.linked.specs.Told.{nameBelow, Settles, Told}
-use Rattle.linked.specs.Links.{isLink, Settling, Lowest}
+use Rattle.linked.specs.Links.{isLink, soughtAt, Foremost, Settling, Lowest}
 use Rattle.linked.proofs.Parts.{hasLink, linkedFrom, linked-start, linked-next}
+use Rattle.linked.proofs.Heights.{block-is}
 
 -- a settled name is linked
 settles-links : (b : List ℕ) (k p : ℕ) → Settles b k p → hasLink b k ≡ true
@@ -90,16 +88,15 @@ module _ {b t : List ℕ} where
 
 -- the first stored propose of a logged name settles it, where its parent is the name below
 module _ (b : List ℕ) (n k : ℕ) where
-  pub settles-by : k < countOf logTable b → n ≡ countOf statementTable b → (at : ℕ) → at ≡ placeOf logTable (sizeIn b) k → (rest : ℕ) → 0 < rest → rest ≤ n
-      → first (isBlock (k + 1) (number b at 32)) (statements b) ≡ some (statementAt b (n - rest)) → {r : Bool} → r ≡ eqb (statementAt b (n - rest) .link) (nameBelow b k) → not r ≡ false
-      → Settling b k (n - rest + 1)
-  unfolding nameFor
-  settles-by logged e at q rest g within found {r} above t p w =
+  pub settles-by : k < countOf logTable b → n ≡ countOf statementTable b → (rest : ℕ) → 0 < rest → Foremost (soughtAt b k true) n rest
+      → {r : Bool} → r ≡ eqb (statementAt b (n - rest) .link) (nameBelow b k) → not r ≡ false → Settling b k (n - rest + 1)
+  settles-by logged e rest g found {r} above t p w =
       let is : n - rest ≡ p = omega arith in
+      let within = found .within in
       rw (← is)
       record {
         logged = logged;
         stored = omega (arith, e);
-        is-first = rw (← q) found;
+        is-first = block-is b n k rest e found g;
         parent = eqb-true _ _ (sym above ∙ not-false r t);
       }

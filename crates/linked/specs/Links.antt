@@ -1,7 +1,7 @@
 -- The propose of a logged name, the chain of its height, and how far the lowest names are told. Assumes nothing.
-use Prim.Native.Nat.{ℕ, zero, suc, _-_, _%_, _<_, _≤_}
+use Prim.Native.Nat.{ℕ, zero, suc, _+_, _-_, _%_, _<_, _≤_}
 use mathlib.Core.Path.{_≡_}
-use mathlib.Core.Bool.{Bool, _&&_}
+use mathlib.Core.Bool.{Bool, _&&_, _||_}
 use mathlib.Core.List.{List}
 use mathlib.Core.Option.{Option, none, some}
 use lib.Dec.{eqb}
@@ -11,34 +11,31 @@ use Rattle.rules.specs.Lists.{first}
 use Rattle.rules.specs.Words as words
 use Rattle.rules.specs.Inputs.{isBlock}
 use Rattle.rules.specs.WellFormed.{linked}
-use Rattle.store.specs.Decode.{nth, statementAt, statements, names}
-use Rattle.chains.specs.Chains.{chains, behind}
-use Rattle.linked.specs.Told.{Settles, Told}
+use Rattle.store.specs.Decode.{nth, statementAt, statements, nameAt, names}
+use Rattle.chains.specs.Chains.{chains, places}
+use Rattle.linked.specs.Told.{nameBelow, Settles, Told}
 
 -- a stored propose of this height, name and parent
 unfoldable pub isLink : ℕ → ℕ → ℕ → words.Statement → Bool
 unfolding isBlock
 isLink height name parent x = isBlock height name x && eqb parent (x .link)
 
--- whether statement k is that, and whether it is one with any parent
-abbrev pub linksAt : List ℕ → ℕ → ℕ → ℕ → ℕ → Bool
-linksAt b height name parent k = isLink height name parent (statementAt b k)
-
-abbrev pub blockAt : List ℕ → ℕ → ℕ → ℕ → Bool
-blockAt b height name k = isBlock height name (statementAt b k)
+-- whether statement j is a propose of the name logged at place k, with any parent or with the name below
+abbrev pub soughtAt : List ℕ → ℕ → Bool → ℕ → Bool
+soughtAt b k any j = (any || eqb (statementAt b j .link) (nameBelow b k)) && isBlock (k + 1) (nameAt b k) (statementAt b j)
 
 -- statements hang by their height
 abbrev pub heightChain : List ℕ → ℕ → ℕ
 heightChain b k = statementAt b k .height % chains
 
--- the first of the last so many of n that passes a test, by how many are left from it on; 0 where none passes
+-- the first of n that passes a test, by how many are left from it on; 0 where none passes
 abbrev pub placeLeft : ℕ → ℕ → Option ℕ
 placeLeft n zero = none
 placeLeft n (suc r) = some (n - suc r)
 
-pub record Foremost (p : ℕ → Bool) (n left r : ℕ) : Type 0 where
+pub record Foremost (p : ℕ → Bool) (n r : ℕ) : Type 0 where
   pub within : r ≤ n
-  pub is : first p (behind n left) ≡ placeLeft n r
+  pub is : first p (places 0 n) ≡ placeLeft n r
 
 -- one more than the place of the propose that settles a logged name; 0 tells nothing
 abbrev pub Settling : List ℕ → ℕ → ℕ → Type 0

@@ -4,15 +4,14 @@ ghost use Prim.Native.Nat.{_+_, _≤_, _<_};
 ghost use lib.ListN.{length, replicate};
 ghost use lib.Dec.{eqb};
 ghost use Rattle.rules.specs.Limits.{mostStatements, mostStatementsLarge};
-ghost use Rattle.rules.specs.Lists.{any};
 ghost use Rattle.rules.specs.Inputs.{isBlock};
 ghost use Rattle.fields.specs.Places.{number};
 ghost use Rattle.fields.specs.Names.{nameOf};
-ghost use Rattle.store.specs.Layout.{sizeIn, storeLength, statementTable, logTable};
-ghost use Rattle.store.specs.Decode.{statementAt, statements, nameAt};
+ghost use Rattle.store.specs.Layout.{sizeIn, storeLength, statementTable, logTable, placeOf};
+ghost use Rattle.store.specs.Decode.{statementAt};
 ghost use Rattle.heading.specs.Lent.{Counts};
-ghost use Rattle.chains.specs.Chains.{behind, Bare, Chained, Walk};
-ghost use Rattle.linked.specs.Links.{isLink, linksAt, blockAt, heightChain, Foremost, Settling, Lowest, Checked};
+ghost use Rattle.chains.specs.Chains.{Bare, Chained};
+ghost use Rattle.linked.specs.Links.{isLink, soughtAt, heightChain, Foremost, Lowest, Checked};
 ghost use Rattle.linked.specs.Told.{nameBelow};
 use chains::CHAINS;
 use fields::Name;
@@ -55,59 +54,6 @@ fn hang_all(
     }
 }
 
-// Whether one of the last so many statements, on their chain, is the propose of this height, name and parent.
-fn has_link(
-    store: &[u8],
-    count: usize,
-    nexts: &[u16; Settings::MOST_TALLIES_LARGE],
-    left: usize,
-    height: u32,
-    name: Name,
-    parent: Name,
-) -> bool
-    requires { ⌜ Counts statementTable (now store) count × Walk (linksAt (now store) height (nameOf name) (nameOf parent)) count left (now nexts) ⌝ }
-    ensures { λ r. ⌜ r ≡ any (linksAt (now (store .entry)) height (nameOf name) (nameOf parent)) (behind count left) ⌝ }
-{
-    let mut rest = left;
-    while 0 < rest {
-        let i = count - rest;
-        if links(store, i, height, name, parent) {
-            return true;
-        }
-        rest = nexts[i] as usize;
-    }
-    false
-}
-
-// The logged name below the one at place k; genesis below the first.
-fn name_below(store: &[u8], k: usize) -> Name
-    requires { ⌜ (length (now store) ≡ storeLength (sizeIn (now store))) × (k < mostStatements (sizeIn (now store))) ⌝ }
-    ensures { λ r. ⌜ nameOf r ≡ nameBelow (now (store .entry)) k ⌝ }
-{
-    if k == 0 {
-        return Name::zero();
-    }
-    store::name_at(store, k - 1)
-}
-
-// Whether a statement, once all hang, is the propose of the logged name at place k, above the name below.
-fn is_link(
-    store: &[u8],
-    count: usize,
-    heads: &[u16; CHAINS],
-    nexts: &[u16; Settings::MOST_TALLIES_LARGE],
-    k: usize,
-) -> bool
-    requires { ⌜ (k < mostStatements (sizeIn (now store))) × Counts statementTable (now store) count × Chained (heightChain (now store)) 0 count (now heads) (now nexts) ⌝ }
-    ensures { λ r. ⌜ r ≡ any (isLink (k + 1) (nameAt (now (store .entry)) k) (nameBelow (now (store .entry)) k)) (statements (now (store .entry))) ⌝ }
-{
-    let height = k as u32 + 1;
-    let name = store::name_at(store, k);
-    let parent = name_below(store, k);
-    let left = heads[(k + 1) % CHAINS] as usize;
-    has_link(store, count, nexts, left, height, name, parent)
-}
-
 // Whether statement i is a propose of this height with the name at a place, where they lie.
 fn is_block(store: &[u8], i: usize, height: u32, at: usize) -> bool
     requires { ⌜ (length (now store) ≡ storeLength (sizeIn (now store))) × (i < mostStatements (sizeIn (now store))) × (at + 32 ≤ length (now store)) ⌝ }
@@ -130,22 +76,37 @@ fn is_above(store: &[u8], i: usize, k: usize) -> bool
     fields::same(store, link, store, store::name_place(store, k - 1), 32)
 }
 
-// How many statements are left from the first propose of this height on whose name is that at a place, along their chain; 0 where there is none.
-fn first_block(
+// Whether statement i is a propose of the name logged at place k, which lies at a place; and above the name below, unless it is free to have any parent.
+fn is_sought(store: &[u8], i: usize, k: usize, at: usize, free: bool) -> bool
+    requires { ⌜ (length (now store) ≡ storeLength (sizeIn (now store))) × (i < mostStatements (sizeIn (now store))) × (k < mostStatements (sizeIn (now store))) × (at ≡ placeOf logTable (sizeIn (now store)) k) × (at + 32 ≤ length (now store)) ⌝ }
+    ensures { λ r. ⌜ r ≡ soughtAt (now (store .entry)) k free i ⌝ }
+{
+    if !is_block(store, i, k as u32 + 1, at) {
+        return false;
+    }
+    if free {
+        return true;
+    }
+    is_above(store, i, k)
+}
+
+// How many statements are left from the first such propose on, along the chain of its height; 0 where there is none.
+fn first_sought(
     store: &[u8],
     count: usize,
+    heads: &[u16; CHAINS],
     nexts: &[u16; Settings::MOST_TALLIES_LARGE],
-    left: usize,
-    height: u32,
-    at: usize,
+    k: usize,
+    free: bool,
 ) -> usize
-    requires { ⌜ Counts statementTable (now store) count × (at + 32 ≤ length (now store)) × Walk (blockAt (now store) height (number (now store) at 32)) count left (now nexts) ⌝ }
-    ensures { λ r. ⌜ Foremost (blockAt (now (store .entry)) height (number (now (store .entry)) at 32)) count left r ⌝ }
+    requires { ⌜ (k < mostStatements (sizeIn (now store))) × Counts statementTable (now store) count × Chained (heightChain (now store)) 0 count (now heads) (now nexts) ⌝ }
+    ensures { λ r. ⌜ Foremost (soughtAt (now (store .entry)) k free) count r ⌝ }
 {
-    let mut rest = left;
+    let at = store::name_place(store, k);
+    let mut rest = heads[(k + 1) % CHAINS] as usize;
     while 0 < rest {
         let i = count - rest;
-        if is_block(store, i, height, at) {
+        if is_sought(store, i, k, at, free) {
             return rest;
         }
         rest = nexts[i] as usize;
@@ -153,32 +114,8 @@ fn first_block(
     0
 }
 
-// One more than the place of the first stored propose of the logged name at place k, where its parent is the name below; else 0.
-fn settled(
-    store: &[u8],
-    logged: usize,
-    count: usize,
-    heads: &[u16; CHAINS],
-    nexts: &[u16; Settings::MOST_TALLIES_LARGE],
-    k: usize,
-) -> u16
-    requires { ⌜ Counts logTable (now store) logged × (k < logged) × Counts statementTable (now store) count × Chained (heightChain (now store)) 0 count (now heads) (now nexts) ⌝ }
-    ensures { λ r. ⌜ Settling (now (store .entry)) k r ⌝ }
-{
-    let at = store::name_place(store, k);
-    let left = heads[(k + 1) % CHAINS] as usize;
-    let rest = first_block(store, count, nexts, left, k as u32 + 1, at);
-    if rest == 0 {
-        return 0;
-    }
-    let i = count - rest;
-    if !is_above(store, i, k) {
-        return 0;
-    }
-    i as u16 + 1
-}
-
-// Tells of the lowest logged names which stored proposes settle them; gives back how many are told.
+// Tells of the lowest logged names which stored proposes settle them: of each the first, where its parent is the name below.
+// Gives back how many are told.
 fn tell(
     store: &[u8],
     logged: usize,
@@ -192,11 +129,15 @@ fn tell(
 {
     let mut k: usize = 0;
     while k < logged {
-        let place = settled(store, logged, count, heads, nexts, k);
-        if place == 0 {
+        let rest = first_sought(store, count, heads, nexts, k, true);
+        if rest == 0 {
             return k;
         }
-        told[k] = place;
+        let i = count - rest;
+        if !is_above(store, i, k) {
+            return k;
+        }
+        told[k] = i as u16 + 1;
         k += 1;
     }
     k
@@ -217,7 +158,7 @@ pub fn is_linked(
     hang_all(store, stored, &mut heads, &mut nexts);
     let mut i = tell(store, count, stored, &heads, &nexts, told);
     while i < count {
-        if !is_link(store, stored, &heads, &nexts, i) {
+        if first_sought(store, stored, &heads, &nexts, i, false) == 0 {
             return false;
         }
         i += 1;

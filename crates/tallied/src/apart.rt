@@ -31,8 +31,17 @@ fn repeated(
     let at = base + TALLY_SIZE * i;
     let key = fields::get(store, at, 8);
     let chain = chains::chain_of(chains::with_words(store, salt, at, 5));
-    let left = heads[chain] as usize;
-    if chains::has_block(store, base, TALLY_SIZE, count, nexts, left, key, at + NAME) {
+    if chains::has_block(
+        store,
+        base,
+        TALLY_SIZE,
+        count,
+        heads,
+        nexts,
+        chain,
+        key,
+        at + NAME,
+    ) {
         return true;
     }
     chains::hang(heads, nexts, chain, i, count - i);
@@ -81,6 +90,5 @@ pub fn has_tally(
 {
     let base = store::tallies_in(store);
     let chain = chains::chain_of(mixed);
-    let left = heads[chain] as usize;
-    chains::has_block(store, base, TALLY_SIZE, count, nexts, left, key, at)
+    chains::has_block(store, base, TALLY_SIZE, count, heads, nexts, chain, key, at)
 }

@@ -2,11 +2,11 @@
 use Prim.Native.Nat.{_-_}
 use mathlib.Core.Path.{_≡_, refl, sym, _∙_}
 use native.Mathlib.Omega.{arith}
-use borrow.Author.Tests.{not-true, not-false}
 use Rattle.rules.specs.WellFormed.{linked}
 use Rattle.store.specs.Decode.{statements, names}
 use Rattle.heading.proofs.Forms.{few-names}
 use Rattle.linked.proofs.Parts.{linkedFrom, linked-end, linked-here, linked-next}
+use Rattle.linked.proofs.Heights.{link-none, link-some}
 use Rattle.linked.proofs.Telling.{lowest-told, lowest-linked}
 use borrow.Author.Needs.{needs}
 use Rattle.linked.proofs.is_linked.Statement.{statement}
@@ -33,15 +33,15 @@ loop-holds : tie.Need-loop-holds Inv-loop μ-loop
 loop-holds c =
     lowest-linked _ (c .tell .ensures .1) (c .before .before .before .before .before .before .before .before .pre .0 .is) (c .tell .ensures .0)
 
-is-link-requires : tie.Need-is-link-requires Inv-loop μ-loop
-is-link-requires c κs =
+first-sought-requires : tie.Need-first-sought-requires Inv-loop μ-loop
+first-sought-requires c κs =
     let p = c .before .before .before .before .before .before .before .before .before .before .before .before .pre in
     (omega (arith, c .before .before .loop-test .taken, p .0 .room), p .1, c .before .before .before .before .before .before .before .before .hang-all .ensures)
 
 returns : tie.Need-returns Inv-loop μ-loop
 returns c =
     record {
-      is = sym (c .before .before .before .before .before .loop .inv ∙ linked-here _ _ _ (c .before .before .before .before .loop-test .taken) (sym (c .before .is-link .ensures) ∙ not-true _ (c .if1 .taken)));
+      is = sym (c .before .before .before .before .before .loop .inv ∙ linked-here _ _ _ (c .before .before .before .before .loop-test .taken) (link-none _ _ _ _ (c .before .before .before .before .before .before .before .before .before .before .before .before .before .before .pre .1 .is) (c .before .first-sought .ensures) (c .if1 .taken)));
       told = lowest-told (c .before .before .before .before .before .before .tell .ensures .1);
     }
 
@@ -55,7 +55,7 @@ loop-less c =
 
 loop-again : tie.Need-loop-again Inv-loop μ-loop
 loop-again c =
-    c .before .before .before .before .before .loop .inv ∙ linked-next _ _ _ (c .before .before .before .before .loop-test .taken) (sym (c .before .is-link .ensures) ∙ not-false _ (c .if1 .left))
+    c .before .before .before .before .before .loop .inv ∙ linked-next _ _ _ (c .before .before .before .before .loop-test .taken) (link-some _ _ _ _ (c .before .before .before .before .before .before .before .before .before .before .before .before .before .before .pre .1 .is) (c .before .first-sought .ensures) (c .if1 .left))
 
 returns-2 : tie.Need-returns-2 Inv-loop μ-loop
 returns-2 c =
@@ -70,7 +70,7 @@ is-linked-spec =
     hang-all-requires
     tell-requires
     loop-holds
-    is-link-requires
+    first-sought-requires
     returns
     add-i
     loop-less

@@ -15,32 +15,19 @@ tallies-in-requires c κs = search needs
 chain-of-requires : tie.Need-chain-of-requires
 chain-of-requires c κs = search needs
 
-mul-left : tie.Need-mul-left
-mul-left c = search needs
-
-element-copy-out-left : tie.Need-element-copy-out-left
-element-copy-out-left c = search needs
-
-cast-left : tie.Need-cast-left
-cast-left c =
-    let start = c .before .before .before .before in
-    let q = c .before .chain-of .ensures .0 ∙ ap chainOf (start .pre .1 .mixes) in
-    let walk = has-start (start .args .store .now) (c .before .before .before .shared-slice-known .given) _ (c .before .before .tallies-in .ensures) (start .pre .1 .salt) (start .args .count) (start .pre .0 .is) (start .args .key) (start .args .at) (start .pre .1 .hang) _ q (c .before .chain-of .ensures .1) in
-    record { fits = omega (arith, walk .within, few-tallies (start .pre .0)) }
-
 has-block-requires : tie.Need-has-block-requires
 has-block-requires c κs =
-    let start = c .before .before .before .before in
-    let q = c .before .chain-of .ensures .0 ∙ ap chainOf (start .pre .1 .mixes) in
-    let walk = has-start (start .args .store .now) (c .before .before .before .shared-slice-known .given) _ (c .before .before .tallies-in .ensures) (start .pre .1 .salt) (start .args .count) (start .pre .0 .is) (start .args .key) (start .args .at) (start .pre .1 .hang) _ q (c .before .chain-of .ensures .1) in
+    let start = c .before .before .before in
+    let q = c .chain-of .ensures .0 ∙ ap chainOf (start .pre .1 .mixes) in
+    let walk = has-start (start .args .store .now) (c .before .before .shared-slice-known .given) _ (c .before .tallies-in .ensures) (start .pre .1 .salt) (start .args .count) (start .pre .0 .is) (start .args .key) (start .args .at) (start .pre .1 .hang) _ q (c .chain-of .ensures .1) in
     let k = start .pre .0 in
-    (lit≤ tt, omega (arith, k .long, k .room, c .before .before .tallies-in .ensures), few-tallies k, start .pre .2, walk)
+    (c .chain-of .ensures .1, lit≤ tt, omega (arith, k .long, k .room, c .before .tallies-in .ensures), few-tallies k, start .pre .2, walk)
 
 returns : tie.Need-returns
 returns c =
-    let start = c .before .before .before .before .before in
-    let q = c .before .before .chain-of .ensures .0 ∙ ap chainOf (start .pre .1 .mixes) in
-    let has = has-is (start .args .store .now) (c .before .before .before .before .shared-slice-known .given) _ (c .before .before .before .tallies-in .ensures) (start .pre .1 .salt) (start .args .count) (start .pre .0 .is) (start .args .key) (start .args .at) (start .pre .1 .hang) _ q (c .before .before .chain-of .ensures .1) in
+    let start = c .before .before .before .before in
+    let q = c .before .chain-of .ensures .0 ∙ ap chainOf (start .pre .1 .mixes) in
+    let has = has-is (start .args .store .now) (c .before .before .before .shared-slice-known .given) _ (c .before .before .tallies-in .ensures) (start .pre .1 .salt) (start .args .count) (start .pre .0 .is) (start .args .key) (start .args .at) (start .pre .1 .hang) _ q (c .before .chain-of .ensures .1) in
     has _ (c .has-block .ensures)
 
 pub has-tally-spec : {M : Type 1} → statement M
@@ -49,8 +36,5 @@ has-tally-spec =
     (tie.spec
     tallies-in-requires
     chain-of-requires
-    mul-left
-    element-copy-out-left
-    cast-left
     has-block-requires
     returns)

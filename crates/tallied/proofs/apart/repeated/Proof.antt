@@ -28,19 +28,6 @@ with-words-requires c κs = search needs
 chain-of-requires : tie.Need-chain-of-requires
 chain-of-requires c κs = search needs
 
-mul-left : tie.Need-mul-left
-mul-left c = search needs
-
-element-copy-out-left : tie.Need-element-copy-out-left
-element-copy-out-left c = search needs
-
-cast-left : tie.Need-cast-left
-cast-left c =
-    let start = c .before .before .before .before .before .before in
-    let q = c .before .chain-of .ensures .0 ∙ ap chainOf (c .before .before .with-words .ensures) in
-    let walk = met-start (start .args .store .now) (c .before .before .before .before .before .shared-slice-known .given) _ (c .before .before .before .before .tallies-in .ensures) (start .args .salt) (start .args .count) (start .args .i) _ (c .before .before .before .get .ensures .0) (start .pre .2) (start .pre .1) _ q (c .before .chain-of .ensures .1) in
-    record { fits = omega (arith, walk .within, few-tallies (start .pre .0)) }
-
 add-has-block : tie.Need-add-has-block
 add-has-block c = search needs
 
@@ -50,7 +37,7 @@ has-block-requires c κs =
     let q = c .before .before .chain-of .ensures .0 ∙ ap chainOf (c .before .before .before .with-words .ensures) in
     let walk = met-start (start .args .store .now) (c .before .before .before .before .before .before .shared-slice-known .given) _ (c .before .before .before .before .before .tallies-in .ensures) (start .args .salt) (start .args .count) (start .args .i) _ (c .before .before .before .before .get .ensures .0) (start .pre .2) (start .pre .1) _ q (c .before .before .chain-of .ensures .1) in
     let k = start .pre .0 in
-    (lit≤ tt, omega (arith, k .long, k .room, c .before .before .before .before .before .tallies-in .ensures), few-tallies k, omega (arith, k .long, k .room, start .pre .1, c .before .before .before .before .before .tallies-in .ensures), walk)
+    (c .before .before .chain-of .ensures .1, lit≤ tt, omega (arith, k .long, k .room, c .before .before .before .before .before .tallies-in .ensures), few-tallies k, omega (arith, k .long, k .room, start .pre .1, c .before .before .before .before .before .tallies-in .ensures), walk)
 
 returns : tie.Need-returns
 returns c =
@@ -85,9 +72,6 @@ repeated-spec =
     get-requires
     with-words-requires
     chain-of-requires
-    mul-left
-    element-copy-out-left
-    cast-left
     add-has-block
     has-block-requires
     returns
