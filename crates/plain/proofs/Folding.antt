@@ -2,19 +2,18 @@
 use Prim.Native.Nat.{ℕ, _+_, _-_, _<_, _≤_}
 use mathlib.Core.Path.{_≡_, refl, sym, ap, ap₂, _∙_, subst}
 use mathlib.Core.Bool.{Bool, true, false, _&&_, and-false}
-use mathlib.Core.List.{List, [], _∷_, _++_}
+use mathlib.Core.List.{List, _∷_, _++_}
 use mathlib.Core.Option.{Option, none, some}
 use native.Mathlib.Omega.{arith}
 use lib.ListN.{length}
 use lib.Dec.{leb, eqb}
 use borrow.Author.Tests.{eqb-true, eq-eqb, ne-eqb, le-leb, lt-leb}
-use Rattle.rules.specs.Limits.{small, leastOut, leastOutSmall}
+use Rattle.rules.specs.Limits.{leastOut, leastOutSmall}
 use Rattle.rules.specs.Lists.{be}
 use Rattle.rules.specs.Sizes.{goodSettings}
 use Rattle.rules.specs.Words as words
 use Rattle.rules.specs.Words.{State}
 use Rattle.rules.specs.Refusals as rules
-use Rattle.rules.specs.Refusals.{Outcome}
 use Rattle.rules.specs.WellFormed.{wellFormed}
 use Rattle.laws.proofs.Truths.{and-3}
 use Rattle.kept.proofs.WellFormed.{fresh-whole}
@@ -37,9 +36,19 @@ use Rattle.plain_messages.specs.Whole.{Whole}
 use Rattle.plain_turns.specs.Turns.{Answered}
 use Rattle.plain.specs.Meaning.{foldOf, FoldedTo, bar}
 use Rattle.plain_tables.specs.declared.Engine.{Engine}
+use Rattle.plain.specs.declared.Folded.{Folded}
 use Rattle.plain_turns.specs.declared.Turn.{Turn}
 
 -- ---- the fold
+
+module _ {s : Option State} {f : Folded} (g : FoldedTo s f) where
+  abbrev fold-to : Bool → Option State
+  fold-to w = elim w [ true ↦ some (state (f .engine)) | false ↦ none ]
+
+  -- what a fold came to, by whether it is good
+  pub came : {w : Bool} → f .good ≡ w → fold-to w ≡ s
+  unfolding foldOf
+  came u = sym (ap fold-to u) ∙ g .is
 
 module _ (l : List ℕ) where
   pub good-head : (g : Settings) → hasForm l ≡ true → settingsOf g ≡ settingsIn l → goodSettings (settingsOf g) ≡ true
@@ -51,6 +60,10 @@ module _ (l : List ℕ) where
 
   abbrev gives : Bool → Option State
   gives z = elim z [ false ↦ none | true ↦ folded (words.fresh (settingsIn l)) (inputsOf l) ]
+
+  pub formless : hasForm l ≡ false → held l ≡ none
+  unfolding held
+  formless f = ap gives f
 
   pub fold-starts : (g : Settings) (e : Engine) → hasForm l ≡ true → settingsOf g ≡ settingsIn l → Gives e (words.fresh (settingsOf g)) → folded (state e) (inputsAfter l 0) ≡ held l
   unfolding held

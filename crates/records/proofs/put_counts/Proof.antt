@@ -16,11 +16,7 @@ same-length : tie.Need-same-length
 same-length c = search needs
 
 returns : tie.Need-returns
-returns c =
-    let after-put3 = c .before .before in
-    let after-put2 = after-put3 .before .before .before .before in
-    let after-put = after-put2 .before .before .before .before in
-    rw (after-put3 .put3 .ensures, after-put2 .put2 .ensures, after-put .put .ensures)
+returns c = cc
 
 pub put-counts-spec : {M : Type 1} → statement M
 put-counts-spec =
