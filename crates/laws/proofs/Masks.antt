@@ -51,10 +51,6 @@ joined-left a b i h = let t = bit-two b i in rw joined-bit (omega arith)
 pub joined-right : (a b i : ℕ) → bit b i ≡ 1 → bit (joined a b) i ≡ 1
 joined-right a b i h = let t = bit-two a i in rw joined-bit (omega arith)
 
-pub joined-self : (a : ℕ) → joined a a ≡ a
-unfolding joined
-joined-self a = or-self a
-
 -- masks below 2^n stay so
 pub joined-lt : (n a b : ℕ) → a < 2 ^ n → b < 2 ^ n → joined a b < 2 ^ n
 unfolding joined

@@ -29,10 +29,6 @@ use Rattle.turns.proofs.Leading.{lead-never}
 
 -- ---- what adds no record
 
-pub logging-room : (l : List ℕ) (s : State) → hasRoom (logging l s .now) ≡ hasRoom s
-unfolding logging saying withLog hasRoom
-logging-room l s = refl
-
 blaming-room : (v m : ℕ) (s : State) → hasRoom (blaming v m s .now) ≡ hasRoom s
 unfolding blaming quit saying withPhase blamed withBlames hasRoom
 blaming-room v m s =
@@ -133,10 +129,6 @@ module _ (l : List ℕ) (x : Statement) (s : State) where
   voting-logged = by-bool (belowLock x s) (λ q. rw (q, voting)) (λ q. rw (q, voting))
 
 module _ (l : List ℕ) (x : Statement) (s : State) where
-  stored-logged : stored x (withLog l s) ≡ withLog l (stored x s)
-  unfolding stored withTables withLog
-  stored-logged = refl
-
   statement-logged : statement x (withLog l s) .now ≡ withLog l (statement x s .now)
   unfolding statement saying isIn certificateJoined stored withTables withLog quit withPhase
   statement-logged =
