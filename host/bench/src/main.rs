@@ -28,8 +28,8 @@ each, every statement handed on and voted for by every other station, {others} s
 processor in particular, and none together with what measures it; in Rust loops begin at multiples of 64, without which
 the linker's order moves the second program's times by a third.
 
-- `proved` is the proved station. Every call of it first looks at its whole store; that check is measured by a message
-  which is refused right after it.
+- `proved` is the proved station. Every call of it first looks at its whole store; that check is measured by a call
+  which is refused right after it: a message of no bytes, or for a tick a tick of the same station, stopped.
 - `lent` is a station over the same lent store in plain Rust (host/lent). It holds nothing between calls, checks the
   store as fully on each call, by the same method, and does what the rules say on its bytes. **With the check** is the
   ratio of proved to lent.
@@ -37,7 +37,7 @@ the linker's order moves the second program's times by a third.
   check** is the ratio of proved, less its check, to second.
 
 Each input is timed by itself, and its least time counts, since others who use the machine can only make it longer. A
-message that is refused after the check goes before what is timed, so that code and store are as near to the processor
+call that is refused after the check goes before what is timed, so that code and store are as near to the processor
 for one program as for another, and for the check as for the whole call. A round is five runs of each program in turn;
 given are the middle of the rounds and, with ratios, the quarters around it. Instructions are valgrind's count, without the
 time that a cache or a wrong guess of a branch takes; they don't depend on the day. `tools/speed` makes all of it."

@@ -62,17 +62,28 @@ pub fn kinds(script: &[Input], settings: Settings, runs: usize) -> [Times; Kind:
 fn least(script: &[Input], settings: Settings, runs: usize) -> Vec<Times> {
     let mut least = vec![[f64::MAX; COLUMNS]; script.len()];
     for _ in 0..runs {
-        let proved = each::<Proved>(script, settings);
-        let lent = each::<Lent>(script, settings);
-        let second = each::<Second>(script, settings);
+        let mut checks = Vec::with_capacity(script.len());
+        let proved = each(script, settings, |program, input| checks.push(check(program, input)));
+        let lent = each(script, settings, |_: &mut Lent, _| ());
+        let second = each(script, settings, |_: &mut Second, _| ());
         for (place, least) in least.iter_mut().enumerate() {
-            let ([check, whole], [_, lent], [_, second]) =
-                (proved[place], lent[place], second[place]);
-            lessen(least, [whole, check, lent, second]);
+            lessen(least, [proved[place], checks[place], lent[place], second[place]]);
         }
     }
     let nothing = (0..1000).map(|_| timed(|| ())).fold(f64::MAX, f64::min);
     least.into_iter().map(|times| times.map(|time| time - nothing)).collect()
+}
+
+/// The time of the check alone: of a call that is refused right after it, a message of no bytes, or for a tick a tick of the
+/// same station, stopped. Another such call comes before.
+fn check(program: &mut Proved, input: &Input) -> f64 {
+    if input.kind == Kind::Tick {
+        let mut stopped = program.stopped();
+        black_box(stopped.tick().number);
+        return timed(|| stopped.tick().number);
+    }
+    black_box(program.step(&[]).number);
+    timed(|| program.step(&[]).number)
 }
 
 /// The times per input of some of the inputs.
@@ -98,14 +109,18 @@ fn fresh<P: Program>(settings: Settings) -> P {
     P::fresh(SIZE, settings.0, settings.1, settings.2).expect("good settings")
 }
 
-/// The times of a message that is refused after the check, and of each input, by itself. Another such message comes before
-/// both, so that code and store are as near to the processor for the one as for the other.
-fn each<P: Program>(script: &[Input], settings: Settings) -> Vec<[f64; 2]> {
+/// The time of each input by itself. What is asked for comes before, then a message that is refused after the check, so that
+/// code and store are near to the processor.
+fn each<P: Program>(
+    script: &[Input],
+    settings: Settings,
+    mut before: impl FnMut(&mut P, &Input),
+) -> Vec<f64> {
     let mut program = fresh::<P>(settings);
     let times = script.iter().map(|input| {
+        before(&mut program, input);
         black_box(program.step(&[]).number);
-        let check = timed(|| program.step(&[]).number);
-        [check, timed(|| input.call.give(&mut program).number)]
+        timed(|| input.call.give(&mut program).number)
     });
     times.collect()
 }

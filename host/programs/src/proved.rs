@@ -79,6 +79,13 @@ impl Proved {
         self.station = station;
     }
 
+    /// The same station, stopped: each call of it is refused right after the check of its store.
+    pub fn stopped(&self) -> Proved {
+        let mut store = self.station.store().to_vec();
+        store[..4].copy_from_slice(&1_u32.to_be_bytes());
+        Proved { station: Station::from_store(&store).expect("well formed, whatever the phase") }
+    }
+
     /// An offer of a name of another length, which `Station` has no type for.
     fn offer_misfit(&mut self, name: &[u8]) -> Answer<'_> {
         let mut store = self.station.store().to_vec();

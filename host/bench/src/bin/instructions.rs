@@ -55,22 +55,31 @@ fn main() {
 }
 
 fn run(n: u8) {
-    give::<Proved>(n, 0, Some(1));
-    give::<Lent>(n, 2, None);
-    give::<Second>(n, 3, None);
-    COUNTED[4 * KINDS].1(&mut || ());
-}
-
-/// The script to one program, counted in a column; in another a message that is refused after the check of the store.
-fn give<P: Program>(n: u8, column: usize, check: Option<usize>) {
-    let mut program = P::fresh(SIZE, n.into(), D.into(), own(n).into()).expect("good settings");
-    for input in script::script(SIZE, n, D, own(n)) {
-        let kind = Kind::ALL.iter().position(|(kind, _)| *kind == input.kind).expect("a kind");
-        if let Some(column) = check {
-            COUNTED[KINDS * column + kind].1(&mut || {
+    give(n, 0, |program: &mut Proved, kind| {
+        let counted = COUNTED[KINDS + kind].1;
+        if Kind::ALL[kind].0 == Kind::Tick {
+            let mut stopped = program.stopped();
+            counted(&mut || {
+                black_box(stopped.tick().number);
+            });
+        } else {
+            counted(&mut || {
                 black_box(program.step(&[]).number);
             });
         }
+    });
+    give(n, 2, |_: &mut Lent, _| ());
+    give(n, 3, |_: &mut Second, _| ());
+    COUNTED[4 * KINDS].1(&mut || ());
+}
+
+/// The script to one program, counted in a column; before each input what is asked for. Of the proved one that is the check
+/// alone: a message of no bytes, or for a tick a tick of the same station, stopped, refused right after it.
+fn give<P: Program>(n: u8, column: usize, mut before: impl FnMut(&mut P, usize)) {
+    let mut program = P::fresh(SIZE, n.into(), D.into(), own(n).into()).expect("good settings");
+    for input in script::script(SIZE, n, D, own(n)) {
+        let kind = Kind::ALL.iter().position(|(kind, _)| *kind == input.kind).expect("a kind");
+        before(&mut program, kind);
         COUNTED[KINDS * column + kind].1(&mut || {
             black_box(input.call.give(&mut program).number);
         });
