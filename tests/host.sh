@@ -1,6 +1,7 @@
 #!/bin/bash
-# The host side: the Rust crates' tests, both examples of docs/HOST.md, the store's check against a plain one, both programs
-# in lockstep, and groups with faulty leaders; with small stores and large. Everything goes into target/.
+# The host side: the Rust crates' tests, both examples of docs/HOST.md, the store's check against a plain one, the programs
+# in lockstep with the plain engine beside them, and groups with faulty leaders; with small stores and large. Everything goes
+# into target/.
 set -euo pipefail
 cd "$(dirname "$0")/.."
 tools/archive >/dev/null
@@ -25,6 +26,8 @@ echo "both examples do as docs/HOST.md says"
 
 "$built/check"
 "$built/compare"
+# the plain engine beside both on 01's bench, at the limits and with wrong parents, up to 250 inputs each
+"$built/compare" --plain 250 --inputs 1
 "$built/simulate" --many 300
 "$built/simulate" --large --many 20
 "$built/simulate" --envelopes --many 20

@@ -1,7 +1,7 @@
 #!/bin/bash
 # The script program against the second program, which says to the byte what must be printed: of the test scripts, of random
-# runs as compare prints them, and of a journal's records. Then printed messages are handed over again, in words and in hex;
-# and README's run.
+# runs as compare prints them, and of a journal's records; the plain engine must print the same as the station. Then printed
+# messages are handed over again, in words and in hex; and README's run.
 set -euo pipefail
 cd "$(dirname "$0")/.."
 export CARGO_NET_OFFLINE=true
@@ -15,11 +15,16 @@ mkdir -p "$place"
 # the second program doesn't say what is wrong with a bad line, nor the mask of a lock
 comparable() { sed -E 's/(not taken: ).*/\1/; s/^(  lock: .* mask) .*/\1/' "$1"; }
 scripts=0
-for crate in crates/play crates/script_*; do
+for script in tests/scripts/*.txt; do
+    tools/play "$script" | diff "${script%.txt}.out" -
+    "$tell" "$script" | diff - <(comparable "${script%.txt}.out")
+    scripts=$((scripts + 1))
+done
+for crate in crates/play crates/play_plain; do
     "$tell" "$crate/stdin" | diff - <(comparable "$crate/stdout")
     scripts=$((scripts + 1))
 done
-echo "$scripts test scripts print what the second program says"
+echo "$scripts test scripts print what they must, and what the second program says"
 
 for seed in $(seq 1 20); do
     "$tell" --run "$seed" >"$place/run.txt"
@@ -28,6 +33,12 @@ for seed in $(seq 1 20); do
     cat "$place/played.txt" >>"$place/all.txt"
 done
 echo "20 random runs print what the second program says"
+
+# the plain engine, whose calls work through all inputs before them: short scripts
+for script in examples/first.txt crates/play*/stdin tests/scripts/*.txt; do
+    tools/play --plain "$script" | cmp - <(tools/play "$script")
+done
+echo "the plain engine prints the test scripts alike"
 
 # the journals of the example host, as scripts
 target/host/release/examples/host "$place" >/dev/null

@@ -8,7 +8,7 @@ use Rattle.rules.specs.Messages.{toAll}
 use Rattle.rules.specs.Words.{Statement, message, sameStatement, conflict, ownBlock, certificate, sameBlock, ofBlock, joinCertificate, State, moment}
 use Rattle.rules.specs.Inputs.{Work, saying, withPhase, withTables, isIn, quit, voting, stored, statement, handled}
 use Rattle.rules.specs.Refusals.{hasRoom}
-use Rattle.rules.proofs.Tests.{by-bool, by-option, eqb-self}
+use Rattle.laws.proofs.Tests.{by-bool, by-option, eqb-self}
 use Rattle.kept.proofs.Tallies.{block-self, join-there}
 use Rattle.acts.specs.Answers.{answered}
 use Rattle.acts.proofs.Rooms.{voting-room}

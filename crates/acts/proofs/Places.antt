@@ -14,17 +14,20 @@ use Rattle.rules.specs.Sizes.{Settings, only}
 use Rattle.rules.specs.Words.{Statement, message, sameStatement, Certificate, Opener, Tally, Moment, ownBlock, sameBlock, ofBlock, join, State, moment}
 use Rattle.rules.specs.Inputs.{withTables, noted, votedFor}
 use Rattle.rules.specs.WellFormed.{statementGood, talliesThere}
-use Rattle.rules.proofs.Tests.{by-bool, no-bool}
-use Rattle.rules.proofs.Truths.{and-2}
+use Rattle.laws.proofs.Tests.{by-bool, no-bool}
+use Rattle.laws.proofs.Truths.{and-2}
 use Rattle.wire.specs.Meaning.{statementOf, Linked}
 use Rattle.wire.specs.declared.Statement as code
 use Rattle.store.specs.Layout.{statementTable, sizeIn, countOf}
 use Rattle.store.specs.Decode.{rows, statementAt, statements, tallies, stateFrom, stateOf, Left}
-use Rattle.store.specs.Changes.{pick, firstFrom, blockAt, withVoters, joining, noting}
+use Rattle.store.specs.Searches.{pick, firstFrom, blockAt}
+use Rattle.tallies.specs.Meaning.{withVoters}
+use Rattle.joining.specs.Changes.{joining}
+use Rattle.records.specs.Changes.{noting}
 use Rattle.store.specs.declared.Found.{Found}
 use Rattle.store.specs.declared.Found.the-variants.{At}
 use Rattle.store.proofs.Rows.{rows-all}
-use Rattle.store.proofs.Searches.{alter-found}
+use Rattle.records.proofs.Places.{alter-found}
 use Rattle.kept.specs.Said.{Sendable}
 use Rattle.kept.proofs.Statements.{stored-sendable}
 use Rattle.kept.proofs.Facts.{sizes-of, clocks-of}

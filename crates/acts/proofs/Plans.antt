@@ -12,13 +12,15 @@ use Rattle.rules.specs.Lists.{any}
 use Rattle.rules.specs.Words.{Statement, sameStatement, Certificate, Opener, Tally, Moment, ownBlock, certificate, sameBlock, join, joinCertificate, State, moment}
 use Rattle.rules.specs.Inputs.{saying, stored, statement, tallied}
 use Rattle.rules.specs.Refusals.{hasRoom}
-use Rattle.rules.proofs.Tests.{by-bool}
+use Rattle.laws.proofs.Tests.{by-bool}
 use Rattle.store.specs.Layout.{tallyTable, sizeIn, countOf}
 use Rattle.store.specs.Decode.{tallies, stateFrom, stateOf, Form, Left}
-use Rattle.store.specs.Changes.{blockAt, withVoters, certifying}
+use Rattle.store.specs.Searches.{blockAt}
+use Rattle.tallies.specs.Meaning.{withVoters}
+use Rattle.joining.specs.Changes.{certifying}
 use Rattle.store.specs.declared.Found.{Found}
 use Rattle.store.specs.declared.Found.the-variants.{At, Nothing}
-use Rattle.store.proofs.Joining.{certificate-joins}
+use Rattle.joining.proofs.Joining.{certificate-joins}
 use Rattle.store.proofs.Forms.{form-statements}
 use Rattle.kept.specs.Parts.{WellFormed}
 use Rattle.acts.specs.Works.{fitting, Tried}

@@ -17,10 +17,10 @@ use Rattle.rules.specs.Words.{Statement, message, sameStatement, Certificate, O
 use Rattle.rules.specs.Inputs.{saying, withPhase, withTables, withBlames, isIn, quit, belowLock, noted, votedFor, voting, certificateJoined, stored, statement, tallied, blamed, blameFull, blaming}
 use Rattle.rules.specs.Refusals.{hasRoom}
 use Rattle.rules.specs.WellFormed.{talliesThere}
-use Rattle.rules.proofs.Tests.{by-bool, no-bool, eqb-self}
-use Rattle.rules.proofs.Truths.{and-2, and-6}
-use Rattle.rules.proofs.Allowed.{allowed-rights}
-use Rattle.store.specs.Changes.{pick, firstFrom, blockAt}
+use Rattle.laws.proofs.Tests.{by-bool, no-bool, eqb-self}
+use Rattle.laws.proofs.Truths.{and-2, and-6}
+use Rattle.laws.proofs.Allowed.{allowed-rights}
+use Rattle.store.specs.Searches.{pick, firstFrom, blockAt}
 use Rattle.store.specs.declared.Found.{Found}
 use Rattle.store.specs.declared.Found.the-variants.{At, Nothing}
 use Rattle.kept.specs.Parts.{Formed, WellFormed}

@@ -18,7 +18,9 @@ use Rattle.wire.specs.declared.Statement as code
 use Rattle.wire.specs.declared.Message.the-variants.{Stated}
 use Rattle.store.specs.Layout.{statementTable, tallyTable, sizeIn, countOf}
 use Rattle.store.specs.Decode.{statementAt, statements, tallies, stateFrom, stateOf, Left}
-use Rattle.store.specs.Changes.{firstFrom, blockAt, joining, Joined, certifying, storing}
+use Rattle.store.specs.Searches.{firstFrom, blockAt}
+use Rattle.joining.specs.Changes.{joining, Joined, certifying}
+use Rattle.records.specs.Changes.{storing}
 use Rattle.store.specs.declared.Found.{Found}
 use Rattle.store.specs.declared.Found.the-variants.{At, Nothing}
 use Rattle.store.proofs.Rows.{rows-at}
@@ -26,7 +28,7 @@ use Rattle.store.proofs.Searches.{found-any, missing-any}
 use Rattle.search.specs.Finds.{foundIn, Inside, Finds}
 use Rattle.search.proofs.Searches.{found-first}
 use Rattle.kept.specs.Said.{Sendable}
-use Rattle.rules.proofs.Allowed.{view-within}
+use Rattle.laws.proofs.Allowed.{view-within}
 use Rattle.kept.proofs.Statements.{stated}
 use Rattle.acts.specs.Answers.{Stands}
 use Rattle.acts.specs.Plans.{certifiedAt, needed, newPlan, planned, Newly, Stored}

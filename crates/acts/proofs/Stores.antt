@@ -13,7 +13,7 @@ use Rattle.rules.specs.Sizes.{quorum}
 use Rattle.rules.specs.Words as words
 use Rattle.rules.specs.Words.{State, inView, waiting, stopped}
 use Rattle.rules.specs.Inputs.{saying, withPhase, withBlames, isIn, quit, blamesOf, blamed, blameFull}
-use Rattle.rules.proofs.Allowed.{view-within}
+use Rattle.laws.proofs.Allowed.{view-within}
 use Rattle.settings.specs.Made.{settingsOf}
 use Rattle.store.specs.Layout.{sizeIn}
 use Rattle.store.specs.Decode.{phaseNumber, rows, blameAt, blamesFor, blames, stateFrom, stateOf, Left}

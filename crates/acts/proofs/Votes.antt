@@ -11,7 +11,7 @@ use Rattle.rules.specs.Sizes.{only}
 use Rattle.rules.specs.Messages.{Effect, toAll}
 use Rattle.rules.specs.Words.{Statement, State}
 use Rattle.rules.specs.Inputs.{saying, belowLock, votedFor, ballot, voting}
-use Rattle.rules.proofs.Allowed.{only-lt, mask-small}
+use Rattle.laws.proofs.Allowed.{only-lt, mask-small}
 use Rattle.wire.specs.Meaning.{statementOf, messageOf}
 use Rattle.wire.specs.declared.Statement as code
 use Rattle.wire.specs.declared.Message.the-variants.{Stated, Vote}

@@ -17,7 +17,7 @@ use Rattle.store.proofs.Forms.{form-statements, form-tallies}
 use Rattle.kept.specs.Parts as kept
 use Rattle.kept.proofs.WellFormed.{parts, whole}
 use Rattle.kept.proofs.Keeps.{Keeps}
-use Rattle.rules.proofs.Lengths.{weight, bytes, bytes-cons, bytes-none, length-effect, size-most}
+use Rattle.laws.proofs.Lengths.{weight, bytes, bytes-cons, bytes-none, length-effect, size-most}
 use Rattle.acts.specs.Works.{Formed, Works}
 
 -- ---- stores

@@ -11,7 +11,7 @@ use Rattle.rules.specs.Words.{Statement, sameStatement, Certificate, Tally, own
 use Rattle.rules.specs.Inputs.{stored}
 use Rattle.rules.specs.Refusals.{hasRoom}
 use Rattle.store.specs.Decode.{tallies, Left}
-use Rattle.store.specs.Changes.{firstFrom, blockAt}
+use Rattle.store.specs.Searches.{firstFrom, blockAt}
 use Rattle.store.specs.declared.Found.{Found}
 use Rattle.store.specs.declared.Found.the-variants.{At, Nothing}
 use Rattle.acts.specs.declared.Plan.{Plan}

@@ -14,8 +14,9 @@ ghost use Rattle.wire.specs.Meaning.{statementOf, messageOf, Writable, Linked};
 ghost use Rattle.outgoing.specs.Wrote.{Says};
 ghost use Rattle.store.specs.Layout.{sizeIn};
 ghost use Rattle.store.specs.Decode.{stateOf, tallies, Form, Left};
-ghost use Rattle.store.specs.Changes.{blockAt, withVoters, certifying};
-ghost use Rattle.store.specs.Meaning.{votersOf, authorOf, Numbered};
+ghost use Rattle.store.specs.Searches.{blockAt};
+ghost use Rattle.tallies.specs.Meaning.{withVoters, votersOf, authorOf, Numbered};
+ghost use Rattle.joining.specs.Changes.{certifying};
 ghost use Rattle.kept.specs.Said.{Sendable};
 ghost use Rattle.words.specs.Meaning.{blockOf};
 ghost use Rattle.acts.specs.Works.{Formed, Works, Tried};
@@ -25,7 +26,7 @@ use settings::Settings;
 use store::Found;
 use store::Phase;
 use store::Station;
-use store::Voters;
+use tallies::Voters;
 use wire::Message;
 use wire::Statement;
 use words::Certificate;
@@ -57,7 +58,7 @@ pub fn quit(store: &mut [u8])
     ensures { λ _. ⌜ Left (now (store .exit)) (inputs.quit [] (stateOf (now (store .entry))) .now) ⌝ }
 {
     let station = Station::load(store);
-    store::set_phase(store, Phase::Waiting(station.clock));
+    records::set_phase(store, Phase::Waiting(station.clock));
 }
 
 // Sends two messages to all, one after the other.
@@ -95,7 +96,7 @@ pub fn blaming(store: &mut [u8], out: &mut [u8], at: usize, view: u32, mask: u16
     requires { ⌜ (Formed (now store)) × (viewAllowed (stateOf (now store) .settings) view ≡ true) × (mask < 2 ^ (stateOf (now store) .settings .n)) × (at + 19 ≤ length (now out)) ⌝ }
     ensures { λ r. ⌜ Works (inputs.blaming view mask (stateOf (now (store .entry)))) (now (out .entry)) at (now (store .exit)) (now (out .exit)) r ⌝ }
 {
-    store::join_blame(store, view, mask);
+    records::join_blame(store, view, mask);
     if !is_in(store, view) {
         return at;
     }
@@ -135,7 +136,7 @@ fn join_certified(store: &mut [u8], block: Certificate, place: Found, voters: Vo
     ensures { λ _. ⌜ Left (now (store .exit)) (certifying (authorOf voters) (withVoters (votersOf voters) (blockOf block)) (stateOf (now (store .entry)))) ⌝ }
 {
     if block.view != 0 {
-        store::join_found(store, block, place, voters);
+        joining::join_found(store, block, place, voters);
     }
 }
 
@@ -198,8 +199,8 @@ pub fn voting(
     }
     let settings = station.settings;
     let own = settings.own;
-    store::note_vote(store, place, station.clock);
-    store::join_found(store, words::own_block(x, 0), tally, Voters::One(own));
+    records::note_vote(store, place, station.clock);
+    joining::join_found(store, words::own_block(x, 0), tally, Voters::One(own));
     let name = x.name;
     let vote = Message::Vote {
         view: x.view,
@@ -262,8 +263,8 @@ fn store_new(store: &mut [u8], x: Statement, certified: Found, own: Found) -> us
         certified,
         Voters::Mask(certificate.mask),
     );
-    let opened = store::join_found(store, words::own_block(x, 0), own, Voters::Mask(0));
-    store::append_statement(store, x);
+    let opened = joining::join_found(store, words::own_block(x, 0), own, Voters::Mask(0));
+    records::append_statement(store, x);
     opened
 }
 
@@ -298,7 +299,7 @@ pub fn statement(store: &mut [u8], out: &mut [u8], at: usize, x: Statement, plan
 {
     match plan {
         Plan::Repeat => {
-            store::join_certificate(store, words::certificate_of(x));
+            joining::join_certificate(store, words::certificate_of(x));
             at
         }
         Plan::New(certified, own) => {

@@ -6,8 +6,8 @@ use mathlib.Core.Bool.{true, false}
 use mathlib.Core.Logic.{_⊎_, inl, inr}
 use Rattle.rules.specs.Messages.{toAll}
 use Rattle.rules.specs.Words.{Statement, message}
-use Rattle.rules.proofs.Tests.{by-bool}
-use Rattle.rules.proofs.Kept.{moves-fixed}
+use Rattle.laws.proofs.Tests.{by-bool}
+use Rattle.laws.proofs.Kept.{moves-fixed}
 use Rattle.agreement.proofs.Lineage.{up}
 use Rattle.agreement.proofs.Group.{Group, ck, Ok, SaidAt, begun-at}
 use Rattle.agreement.proofs.Behind.{SoundVote}

@@ -9,13 +9,13 @@ use Rattle.rules.specs.Lists.{first}
 use Rattle.rules.specs.Sizes.{bit}
 use Rattle.rules.specs.Messages.{vote, maskAllowed, toAll}
 use Rattle.rules.specs.Words.{Statement, message, sameStatement}
-use Rattle.rules.proofs.Tests.{by-option, no-bool}
-use Rattle.rules.proofs.Searches.{first-any, first-none, first-mem}
-use Rattle.rules.proofs.Statements.{In, same-like}
-use Rattle.rules.proofs.Allowed.{mask-parts, allowed-rights, certificate-cases}
-use Rattle.rules.proofs.Moves.{carried}
-use Rattle.rules.proofs.Kept.{moves-kept}
-use Rattle.rules.proofs.Votes.{Cast}
+use Rattle.laws.proofs.Tests.{by-option, no-bool}
+use Rattle.laws.proofs.Searches.{first-any, first-none, first-mem}
+use Rattle.laws.proofs.Statements.{In, same-like}
+use Rattle.laws.proofs.Allowed.{mask-parts, allowed-rights, certificate-cases}
+use Rattle.laws.proofs.Moves.{carried}
+use Rattle.laws.proofs.Kept.{moves-kept}
+use Rattle.laws.proofs.Votes.{Cast}
 use Rattle.agreement.specs.Schedule.{IsSaid, Run, run}
 use Rattle.agreement.proofs.Events.{Brings, begun}
 use Rattle.agreement.proofs.Group.{Group, st, ck, Ok, G, SaidAt, VotedBy, Sure, sure-run, cast-run}

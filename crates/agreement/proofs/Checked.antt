@@ -18,10 +18,10 @@ use Rattle.rules.specs.Words.{State}
 use Rattle.rules.specs.Inputs.{saying, offered}
 use Rattle.rules.specs.Refusals.{done, running, step}
 use Rattle.rules.specs.Script.{sameList}
-use Rattle.rules.proofs.Tests.{by-bool, by-option, no-some, no-bool}
-use Rattle.rules.proofs.Bytes.{Bytes, none as no-bytes, one}
-use Rattle.rules.proofs.Truths.{and-2, both, or-2}
-use Rattle.rules.proofs.Searches.{by-mem, first-mem, first-any, first-none}
+use Rattle.laws.proofs.Tests.{by-bool, by-option, no-some, no-bool}
+use Rattle.laws.proofs.Bytes.{Bytes, none as no-bytes, one}
+use Rattle.laws.proofs.Truths.{and-2, both, or-2}
+use Rattle.laws.proofs.Searches.{by-mem, first-mem, first-any, first-none}
 use Rattle.agreement.specs.Schedule.{Event, idle, commonTick, tickOf, given, offeredTo, happens, ticks, IsCommon, CommonTicks, settingsOf, at, out, clock, IsSaid, HasVoted, HasBlamed, HasMade, Sound, NeverFull, IsLent, ProperBuffers, Sends, InTime, VotersVoted, Genuine, Hands, NoForgery, Offers, OneBlock, OneName, NeverUsedUp, Run, run, HasRoom, Schedule}
 use Rattle.agreement.proofs.Events.{never-idle}
 use Rattle.agreement.specs.Checks.{Premise, settingsGood, fewFaulty, neverFull, commonTicks, properBuffers, inTime, noForgery, oneName, neverUsedUp, premises, place, other, Holds, AllBut, test, verdict, implies, every, some?, sameMessage, maskIn, toAllThat, brought, ifSome, isCommon, givenTo, offeredAs, listed, isSound, hasSaid, votersVoted, hasMade, isGenuine, taken, noneForged, comes, comesInTime, saidInTime, allInTime, allCommon, allRun, allLent, isOneBlock, oneNamed, allHeard}

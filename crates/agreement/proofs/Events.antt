@@ -14,13 +14,13 @@ use Rattle.rules.specs.Messages.{Message, read, Effect, committed}
 use Rattle.rules.specs.Words.{State}
 use Rattle.rules.specs.Inputs.{saying, withClock, withLog, belowLock, blamesOf, blameFull, offered, entersNow}
 use Rattle.rules.specs.Refusals.{done, running, step, offer}
-use Rattle.rules.proofs.Tests.{by-bool}
-use Rattle.rules.proofs.Searches.{All}
-use Rattle.rules.proofs.Moves.{Outside, counted, logAfter, news, Moves, here, step-moves, offer-moves, tick-moves}
-use Rattle.rules.proofs.Kept.{Kept, kept-refl, tick-settled}
-use Rattle.rules.proofs.Orderly.{Orderly, clock-orderly}
-use Rattle.rules.proofs.Held.{reports-all}
-use Rattle.rules.proofs.Proper.{Proper, same-proper}
+use Rattle.laws.proofs.Tests.{by-bool}
+use Rattle.laws.proofs.Searches.{All}
+use Rattle.laws.proofs.Moves.{Outside, counted, logAfter, news, Moves, here, step-moves, offer-moves, tick-moves}
+use Rattle.laws.proofs.Kept.{Kept, kept-refl, tick-settled}
+use Rattle.laws.proofs.Orderly.{Orderly, clock-orderly}
+use Rattle.laws.proofs.Held.{reports-all}
+use Rattle.laws.proofs.Proper.{Proper, same-proper}
 use Rattle.agreement.specs.Schedule.{Event, idle, commonTick, tickOf, given, offeredTo, happens, ticks, IsCommon}
 
 -- what an event brings station i from outside

@@ -8,7 +8,7 @@ use Rattle.rules.specs.Limits.{small}
 use Rattle.rules.specs.Messages.{propose, vote, viewOf, write, toAll}
 use Rattle.rules.specs.Words.{inView}
 use Rattle.rules.specs.Inputs.{merge}
-use Rattle.rules.proofs.Commits.{begins-merge}
+use Rattle.laws.proofs.Commits.{begins-merge}
 use Rattle.agreement.specs.Schedule.{Event, given, happens, ticks, at, out, clock, run, IsSaid, Schedule, OneBegins}
 use Rattle.agreement.specs.Checks.{fewFaulty, commonTicks, inTime, noForgery, oneName, premises, other, AllBut, listed, verdict}
 use Rattle.agreement.specs.Examples.{twoViews, oneAhead, heldBack, forgedVotes, manyFaulty, twoParents, ownTicks, heightOf, parentOf, rivalHeight, rivalParent}

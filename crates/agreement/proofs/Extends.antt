@@ -6,9 +6,9 @@ use native.Mathlib.Decide.{decLt}
 use mathlib.Core.Bool.{true, false}
 use mathlib.Core.Logic.{_⊎_, inl, inr}
 use Rattle.rules.specs.Words.{Statement, conflict, certificate}
-use Rattle.rules.proofs.Tests.{by-bool}
-use Rattle.rules.proofs.Statements.{no-conflict-propose, no-conflict-newView}
-use Rattle.rules.proofs.Tallies.{AtLeast, at-least-trans, not-below}
+use Rattle.laws.proofs.Tests.{by-bool}
+use Rattle.laws.proofs.Statements.{no-conflict-propose, no-conflict-newView}
+use Rattle.laws.proofs.Tallies.{AtLeast, at-least-trans, not-below}
 use Rattle.agreement.proofs.Lineage.{up}
 use Rattle.agreement.proofs.Group.{Group, ck}
 use Rattle.agreement.proofs.Ripe.{Ripe, ripe-view, no-rival, cast-lock}

@@ -11,13 +11,13 @@ use Rattle.rules.specs.Sizes.{Settings, bit, quorum}
 use Rattle.rules.specs.Messages.{Message, blameSet, viewOf, toAll, toOne}
 use Rattle.rules.specs.Words.{Statement, message, inView}
 use Rattle.rules.specs.Inputs.{blameFull}
-use Rattle.rules.proofs.Tests.{no-bool}
-use Rattle.rules.proofs.Masks.{bit-below, quorum-sound}
-use Rattle.rules.proofs.Statements.{In, conflict-view}
-use Rattle.rules.proofs.Kept.{by-phase}
-use Rattle.rules.proofs.Orderly.{Told, full, two, Past, start, onward}
-use Rattle.rules.proofs.Held.{Held, held-stored}
-use Rattle.rules.proofs.Views.{view-message}
+use Rattle.laws.proofs.Tests.{no-bool}
+use Rattle.laws.proofs.Masks.{bit-below, quorum-sound}
+use Rattle.laws.proofs.Statements.{In, conflict-view}
+use Rattle.laws.proofs.Kept.{by-phase}
+use Rattle.laws.proofs.Orderly.{Told, full, two, Past, start, onward}
+use Rattle.laws.proofs.Held.{Held, held-stored}
+use Rattle.laws.proofs.Views.{view-message}
 use Rattle.agreement.specs.Schedule.{Speaks, run}
 use Rattle.agreement.proofs.Clock.{last-of}
 use Rattle.agreement.proofs.Group.{Group, st, ck, Ok, G, SaidAt, at-settings, at-clock, kept-run, orderly-run, view-run, prompt, says-views, NearFrom, reach-near}

@@ -16,15 +16,15 @@ use Rattle.rules.specs.Messages.{Message, newView, propose, vote, blame, blameS
 use Rattle.rules.specs.Words.{Statement, message, sameStatement, Certificate, State, waiting, fresh}
 use Rattle.rules.specs.Inputs.{offered}
 use Rattle.rules.specs.Refusals.{Outcome, running, step}
-use Rattle.rules.proofs.Searches.{All, all-append, all-map, all-of, to-all}
-use Rattle.rules.proofs.Allowed.{sizes}
-use Rattle.rules.proofs.Moves.{carried, Moves}
-use Rattle.rules.proofs.Kept.{no-phase, moves-fixed, Kept, kept-refl, kept-trans, moves-kept, moves-late, settled-waits}
-use Rattle.rules.proofs.Orderly.{Orderly, fresh-orderly, moves-orderly, past-range}
-use Rattle.rules.proofs.Held.{Held, held-kept, step-held, HeldSaid, moves-said}
-use Rattle.rules.proofs.Views.{ViewSaid, moves-views}
-use Rattle.rules.proofs.Votes.{Cast, CastSaid, moves-cast}
-use Rattle.rules.proofs.Proper.{Right, Proper, Known, Parented, fresh-proper, proper-map, moves-proper}
+use Rattle.laws.proofs.Searches.{All, all-append, all-map, all-of, to-all}
+use Rattle.laws.proofs.Allowed.{sizes}
+use Rattle.laws.proofs.Moves.{carried, Moves}
+use Rattle.laws.proofs.Kept.{no-phase, moves-fixed, Kept, kept-refl, kept-trans, moves-kept, moves-late, settled-waits}
+use Rattle.laws.proofs.Orderly.{Orderly, fresh-orderly, moves-orderly, past-range}
+use Rattle.laws.proofs.Held.{Held, held-kept, step-held, HeldSaid, moves-said}
+use Rattle.laws.proofs.Views.{ViewSaid, moves-views}
+use Rattle.laws.proofs.Votes.{Cast, CastSaid, moves-cast}
+use Rattle.laws.proofs.Proper.{Right, Proper, Known, Parented, fresh-proper, proper-map, moves-proper}
 use Rattle.kept.specs.Parts.{WellFormed}
 use Rattle.kept.proofs.Statements.{stored-said}
 use Rattle.agreement.specs.Schedule.{Event, idle, commonTick, tickOf, given, offeredTo, happens, ticks, IsCommon, settingsOf, at, out, clock, IsSaid, Sound, IsLent, Sends, Speaks, Hands, Offers, Run, run}

@@ -10,10 +10,10 @@ use Rattle.rules.specs.Sizes.{Settings}
 use Rattle.rules.specs.Messages.{blockAllowed, allowed}
 use Rattle.rules.specs.Words.{Statement, message}
 use Rattle.rules.specs.Inputs.{isBlock, chainTo, chain}
-use Rattle.rules.proofs.Tests.{by-option, no-some, no-bool}
-use Rattle.rules.proofs.Searches.{All, all-first, first-any, first-none}
-use Rattle.rules.proofs.Allowed.{allowed-rights, genesis-zero}
-use Rattle.rules.proofs.Proper.{Parented}
+use Rattle.laws.proofs.Tests.{by-option, no-some, no-bool}
+use Rattle.laws.proofs.Searches.{All, all-first, first-any, first-none}
+use Rattle.laws.proofs.Allowed.{allowed-rights, genesis-zero}
+use Rattle.laws.proofs.Proper.{Parented}
 use Rattle.kept.proofs.Logs.{block-parts}
 use Rattle.agreement.specs.Schedule.{Linked, lineage}
 

@@ -14,14 +14,14 @@ use Rattle.rules.specs.Messages.{Effect, toAll, toOne, committed}
 use Rattle.rules.specs.Words.{Statement, State, inView, fresh}
 use Rattle.rules.specs.Inputs.{withClock, withLog, due, chain, commits, reports}
 use Rattle.rules.specs.Refusals.{running}
-use Rattle.rules.proofs.Searches.{All, to-all}
-use Rattle.rules.proofs.Statements.{once-first}
-use Rattle.rules.proofs.Tallies.{AtLeast, at-least-either}
-use Rattle.rules.proofs.Moves.{counted, logAfter, news, tick-moves}
-use Rattle.rules.proofs.Kept.{in-true, moves-fixed}
-use Rattle.rules.proofs.Orderly.{propose-high, Voted}
-use Rattle.rules.proofs.Commits.{begins-merge, commits-some, commits-none, Due, due-facts, reports-append, moves-messages}
-use Rattle.rules.proofs.Splits.{dueCommits}
+use Rattle.laws.proofs.Searches.{All, to-all}
+use Rattle.laws.proofs.Statements.{once-first}
+use Rattle.laws.proofs.Tallies.{AtLeast, at-least-either}
+use Rattle.laws.proofs.Moves.{counted, logAfter, news, tick-moves}
+use Rattle.laws.proofs.Kept.{in-true, moves-fixed}
+use Rattle.laws.proofs.Orderly.{propose-high, Voted}
+use Rattle.laws.proofs.Commits.{begins-merge, commits-some, commits-none, Due, due-facts, reports-append, moves-messages}
+use Rattle.laws.proofs.Splits.{dueCommits}
 use Rattle.agreement.specs.Schedule.{Event, idle, commonTick, tickOf, given, offeredTo, happens, ticks, IsCommon, at, out, Linked, lineage, reportsIn, reported, Run, run, OneBegins}
 use Rattle.agreement.proofs.Lineage.{Placed, up, lineage-up, lineage-linked, chain-lineage}
 use Rattle.agreement.proofs.Events.{Brings, begun, before}

@@ -10,12 +10,12 @@ use Rattle.rules.specs.Sizes.{Settings, bit}
 use Rattle.rules.specs.Messages.{Message, newView, propose, vote, blame, blameSet, status, viewOf, read, write, allowed}
 use Rattle.rules.specs.Words.{Certificate}
 use Rattle.rules.specs.Refusals.{Outcome, running, ahead, usedUp, step}
-use Rattle.rules.proofs.Tests.{by-bool, no-some}
-use Rattle.rules.proofs.Tallies.{bit-only}
-use Rattle.rules.proofs.Moves.{carried}
-use Rattle.rules.proofs.Held.{step-taken, step-used}
-use Rattle.rules.proofs.Views.{not-ahead}
-use Rattle.rules.proofs.Proper.{Parented}
+use Rattle.laws.proofs.Tests.{by-bool, no-some}
+use Rattle.laws.proofs.Tallies.{bit-only}
+use Rattle.laws.proofs.Moves.{carried}
+use Rattle.laws.proofs.Held.{step-taken, step-used}
+use Rattle.laws.proofs.Views.{not-ahead}
+use Rattle.laws.proofs.Proper.{Parented}
 use Rattle.agreement.specs.Schedule.{Event, commonTick, given, happens, ticks, IsCommon, at, clock, HasVoted, Sound, GoodSettings, SoundRun, ProperBuffers, Sends, Speaks, Genuine, OneBlock, Premises, Run, run, CommonTicks, InTime, NeverUsedUp}
 use Rattle.agreement.proofs.Events.{happens-given}
 use Rattle.agreement.proofs.Whole.{settings-alike, settings-at, sent-allowed}

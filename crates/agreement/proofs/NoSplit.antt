@@ -12,8 +12,8 @@ use Rattle.rules.specs.Limits.{Size}
 use Rattle.rules.specs.Words.{full, split, clock as late, Phase, inView, waiting, stopped, State, fresh}
 use Rattle.rules.specs.Inputs.{saying}
 use Rattle.rules.specs.Refusals.{done, running}
-use Rattle.rules.proofs.Tests.{by-bool, no-bool}
-use Rattle.rules.proofs.Splits.{Split, dueCommits, step-split, offer-split, tick-split}
+use Rattle.laws.proofs.Tests.{by-bool, no-bool}
+use Rattle.laws.proofs.Splits.{Split, dueCommits, step-split, offer-split, tick-split}
 use Rattle.agreement.specs.Schedule.{Event, idle, commonTick, tickOf, given, offeredTo, happens, ticks, IsCommon, until, at, clock, Sound, NeverFull, SoundRun, RunsTo, Sends, Premises, Run, run}
 use Rattle.agreement.proofs.Clock.{clock-suc, one-tick}
 use Rattle.agreement.proofs.Group.{Reaches, Group}

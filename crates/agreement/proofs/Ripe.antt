@@ -12,17 +12,17 @@ use Rattle.rules.specs.Lists.{first}
 use Rattle.rules.specs.Sizes.{Settings, bit}
 use Rattle.rules.specs.Messages.{vote, Effect}
 use Rattle.rules.specs.Words.{Statement, message, sameStatement, conflict, Certificate, Tally, voters, State, inView, waiting, fresh}
-use Rattle.rules.proofs.Tests.{by-option, no-bool}
-use Rattle.rules.proofs.Searches.{first-none}
-use Rattle.rules.proofs.Statements.{In, in-cong}
-use Rattle.rules.proofs.Tallies.{Above}
-use Rattle.rules.proofs.Allowed.{sizes}
-use Rattle.rules.proofs.Moves.{Moves}
-use Rattle.rules.proofs.Kept.{by-phase, moves-kept}
-use Rattle.rules.proofs.Orderly.{propose-high, Told, Past, past-told, Voted}
-use Rattle.rules.proofs.Held.{block, held-stored}
-use Rattle.rules.proofs.Votes.{Cast}
-use Rattle.rules.proofs.Locks.{HasAll, Locked, moves-locked}
+use Rattle.laws.proofs.Tests.{by-option, no-bool}
+use Rattle.laws.proofs.Searches.{first-none}
+use Rattle.laws.proofs.Statements.{In, in-cong}
+use Rattle.laws.proofs.Tallies.{Above}
+use Rattle.laws.proofs.Allowed.{sizes}
+use Rattle.laws.proofs.Moves.{Moves}
+use Rattle.laws.proofs.Kept.{by-phase, moves-kept}
+use Rattle.laws.proofs.Orderly.{propose-high, Told, Past, past-told, Voted}
+use Rattle.laws.proofs.Held.{block, held-stored}
+use Rattle.laws.proofs.Votes.{Cast}
+use Rattle.laws.proofs.Locks.{HasAll, Locked, moves-locked}
 use Rattle.agreement.specs.Schedule.{Event, at}
 use Rattle.agreement.proofs.Events.{Brings, begun, begun-same, begun-kept}
 use Rattle.agreement.proofs.Clock.{last-of}

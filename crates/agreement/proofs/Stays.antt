@@ -13,16 +13,16 @@ use Rattle.rules.specs.Sizes.{Settings}
 use Rattle.rules.specs.Messages.{propose, vote, toAll}
 use Rattle.rules.specs.Words.{Statement, message, sameStatement, State, inView}
 use Rattle.rules.specs.Inputs.{isBlock, due, chain}
-use Rattle.rules.proofs.Tests.{by-bool, by-option, no-bool}
-use Rattle.rules.proofs.Searches.{any-mem, first-any, first-mem, first-none}
-use Rattle.rules.proofs.Statements.{In, same-like, no-conflict-newView}
-use Rattle.rules.proofs.Allowed.{sizes}
-use Rattle.rules.proofs.Moves.{counted, logAfter}
-use Rattle.rules.proofs.Kept.{true-in, moves-fixed, moves-kept, VoteKept, moves-vote}
-use Rattle.rules.proofs.Orderly.{propose-high}
-use Rattle.rules.proofs.Held.{held-stored}
-use Rattle.rules.proofs.Votes.{Cast, Stands}
-use Rattle.rules.proofs.Commits.{commits-some, Due, facts-due}
+use Rattle.laws.proofs.Tests.{by-bool, by-option, no-bool}
+use Rattle.laws.proofs.Searches.{any-mem, first-any, first-mem, first-none}
+use Rattle.laws.proofs.Statements.{In, same-like, no-conflict-newView}
+use Rattle.laws.proofs.Allowed.{sizes}
+use Rattle.laws.proofs.Moves.{counted, logAfter}
+use Rattle.laws.proofs.Kept.{true-in, moves-fixed, moves-kept, VoteKept, moves-vote}
+use Rattle.laws.proofs.Orderly.{propose-high}
+use Rattle.laws.proofs.Held.{held-stored}
+use Rattle.laws.proofs.Votes.{Cast, Stands}
+use Rattle.laws.proofs.Commits.{commits-some, Due, facts-due}
 use Rattle.agreement.specs.Schedule.{Event, commonTick, ticks, at, run, IsSaid, lineage}
 use Rattle.agreement.proofs.Lineage.{up, propose-facts, chain-whole}
 use Rattle.agreement.proofs.Events.{Brings, begun, begun-same}

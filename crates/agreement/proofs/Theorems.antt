@@ -13,7 +13,7 @@ use Rattle.rules.specs.Messages.{Message, propose, vote, write, Effect, toAll, 
 use Rattle.rules.specs.Words.{inView, State}
 use Rattle.rules.specs.Inputs.{reports}
 use Rattle.rules.specs.Refusals.{running, ahead}
-use Rattle.rules.proofs.Views.{not-ahead}
+use Rattle.laws.proofs.Views.{not-ahead}
 use Rattle.agreement.specs.Schedule.{Event, commonTick, given, happens, until, at, clock, IsSaid, Speaks, Sound, SoundRun, RunsTo, Schedule, Linked, lineage, reported, Run, run, OneBegins}
 use Rattle.agreement.proofs.Clock.{clock-alike, clock-mono}
 use Rattle.agreement.proofs.Group.{Group, at-clock}

@@ -15,7 +15,7 @@ use Rattle.rules.specs.Messages.{Message, vote, write, Effect, toAll, toOne}
 use Rattle.rules.specs.Words.{State}
 use Rattle.rules.specs.Inputs.{saying, offered}
 use Rattle.rules.specs.Refusals.{done, step}
-use Rattle.rules.proofs.Tests.{by-bool}
+use Rattle.laws.proofs.Tests.{by-bool}
 use Rattle.agreement.specs.Schedule.{Event, idle, commonTick, tickOf, given, offeredTo, happens, ticks, IsCommon, until, at, out, clock, IsSaid, CommonTicks, RoomTo, IsLent, ProperBuffers, Sends, Speaks, InTime, NeverUsedUp, Hands, NoForgery, Offers, OneName, Premises, Schedule, reportsIn, reported, Run, run}
 use Rattle.agreement.proofs.Events.{Happening, never-idle}
 use Rattle.agreement.proofs.Alike.{genuine-on}

@@ -14,8 +14,8 @@ use Rattle.rules.specs.Messages.{Message, newView, propose, vote, blame, blameS
 use Rattle.rules.specs.Words.{State, fresh}
 use Rattle.rules.specs.Inputs.{saying}
 use Rattle.rules.specs.Refusals.{Outcome, done, step, offer, tick}
-use Rattle.rules.proofs.Tests.{by-bool, and-left}
-use Rattle.rules.proofs.Truths.{both}
+use Rattle.laws.proofs.Tests.{by-bool, and-left}
+use Rattle.laws.proofs.Truths.{both}
 use Rattle.kept.specs.Parts.{WellFormed}
 use Rattle.kept.specs.Said.{Each, Sendable, Sayable}
 use Rattle.kept.proofs.WellFormed.{fresh-formed}

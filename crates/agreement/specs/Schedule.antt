@@ -13,7 +13,7 @@ use Rattle.rules.specs.Messages.{Message, newView, propose, vote, blame, blameS
 use Rattle.rules.specs.Words.{full, clock as late, stopped, State, fresh}
 use Rattle.rules.specs.Inputs.{saying, offered}
 use Rattle.rules.specs.Refusals.{Outcome, done, running, step, offer, tick}
-use Rattle.rules.proofs.Bytes.{Bytes}
+use Rattle.laws.proofs.Bytes.{Bytes}
 
 -- a schedule that ends goes on idle; a tick of one station alone is there to be shut out (CommonTicks)
 pub data Event : Type 0 where

@@ -14,8 +14,8 @@ use Rattle.rules.specs.Lists.{within}
 use Rattle.rules.specs.Messages.{newView, viewAllowed, blockAllowed, maskAllowed, certificateAllowed, allowed}
 use Rattle.rules.specs.Sizes.{Settings, leader}
 use Rattle.rules.specs.Words.{message}
-use Rattle.rules.proofs.Bounds.{views-most}
-use Rattle.rules.proofs.Tests.{by-bool, and-left, and-right}
+use Rattle.laws.proofs.Bounds.{views-most}
+use Rattle.laws.proofs.Tests.{by-bool, and-left, and-right}
 use Rattle.wire.specs.declared.Statement.{Statement}
 use Rattle.wire.specs.declared.Message.{Message}
 use Rattle.wire.specs.declared.Message.the-variants.{Stated, Vote, Blame, BlameSet, Status}

@@ -11,8 +11,8 @@ use Rattle.fields.specs.Places as places
 use Rattle.fields.specs.Places.{number}
 use Rattle.fields.proofs.Lists.{number-append-left, number-append-right}
 use Rattle.rules.specs.Lists.{unbe}
-use Rattle.rules.proofs.Bytes.{be-unbe, length-unbe}
-use Rattle.rules.proofs.Truths.{both}
+use Rattle.laws.proofs.Bytes.{be-unbe, length-unbe}
+use Rattle.laws.proofs.Truths.{both}
 use Rattle.wire.proofs.Reading.{be-number}
 use Rattle.envelope.specs.Items.{Items, Place, partAt, placesOf, listBytes, messagesOf, flat}
 use Rattle.envelope.specs.Reading.{envelopeIn, listOf}

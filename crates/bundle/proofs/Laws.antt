@@ -10,8 +10,8 @@ use lib.ListN.{length}
 use lib.Dec.{leb}
 use borrow.Author.Tests.{le-leb, leb-true}
 use Rattle.fields.specs.Places as places
-use Rattle.rules.proofs.Tests.{by-bool, by-option, no-some, and-right}
-use Rattle.rules.proofs.Lengths.{length-field}
+use Rattle.laws.proofs.Tests.{by-bool, by-option, no-some, and-right}
+use Rattle.laws.proofs.Lengths.{length-field}
 use Rattle.slots.specs.Slots.{isReadable}
 use Rattle.envelope.specs.Items.{Items, end, message, envelope, Place, partAt, envelopeTag, bytesOf, messagesOf, flat, Held}
 use Rattle.envelope.specs.Reading.{mostBytes, envelopeIn}

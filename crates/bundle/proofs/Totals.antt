@@ -10,8 +10,8 @@ use lib.ListN.{length, take, drop, length-take, length-drop}
 use lib.Dec.{leb}
 use borrow.Author.Tests.{le-leb, lt-leb, leb-true}
 use Rattle.fields.specs.Places.{number}
-use Rattle.rules.proofs.Tests.{and-left}
-use Rattle.rules.proofs.Lengths.{length-field}
+use Rattle.laws.proofs.Tests.{and-left}
+use Rattle.laws.proofs.Lengths.{length-field}
 use Rattle.slots.specs.Slots.{isReadable}
 use Rattle.envelope.specs.Items.{Place, partAt, envelopeTag, bytesOf, flat}
 use Rattle.envelope.specs.Reading.{mostBytes}

@@ -11,10 +11,10 @@ use borrow.Author.Tests.{leb-true}
 use Rattle.fields.specs.Places.{number, put}
 use Rattle.rules.specs.Lists.{unbe}
 use Rattle.rules.specs.Messages.{field}
-use Rattle.rules.proofs.Tests.{by-bool, by-option, no-some}
+use Rattle.laws.proofs.Tests.{by-bool, by-option, no-some}
 use Rattle.wire.specs.Fields.{head}
 use Rattle.outgoing.specs.Wrote.{wrote, Says}
-use Rattle.rules.proofs.Lengths.{length-field}
+use Rattle.laws.proofs.Lengths.{length-field}
 use Rattle.outgoing.proofs.Writing.{wrote-append, field-says, says-length}
 use Rattle.envelope.specs.Items.{Place, partAt, envelopeTag, messageTag, bytesOf, flat}
 use Rattle.envelope.specs.Reading.{mostBytes}

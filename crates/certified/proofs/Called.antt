@@ -9,11 +9,12 @@ use borrow.Author.Tests.{eqb-true, eq-eqb, ne-eqb, not-true, not-false}
 use Rattle.rules.specs.Lists.{be}
 use Rattle.rules.specs.Words.{reachedOf}
 use Rattle.rules.specs.WellFormed.{wellFormed}
-use Rattle.rules.proofs.Tests.{and-left}
+use Rattle.laws.proofs.Tests.{and-left}
 use Rattle.fields.specs.Places.{number, Bytes}
 use Rattle.wire.proofs.Reading.{be-number}
 use Rattle.store.specs.Layout.{storeLength, sizeIn}
-use Rattle.store.specs.Decode.{reachedNumber, tallies, stateFrom, stateOf, hasForm, Form}
+use Rattle.tallies.specs.Values.{reachedNumber}
+use Rattle.store.specs.Decode.{tallies, stateFrom, stateOf, hasForm, Form}
 use Rattle.formed.proofs.Whole.{formed-decoded, unformed-decoded}
 use Rattle.certified.specs.Called.{asked, certifiedCalled}
 

@@ -7,16 +7,17 @@ use mathlib.Core.Logic.{_⊎_, inl, inr}
 use mathlib.Core.Option.{Option, none}
 use native.Mathlib.Omega.{arith}
 use Rattle.rules.specs.Words.{Certificate, Tally, certificateOf, sameBlock, ofBlock, reachedOf}
-use Rattle.rules.proofs.Tests.{by-bool}
-use Rattle.rules.proofs.Tallies.{block-eq}
+use Rattle.laws.proofs.Tests.{by-bool}
+use Rattle.laws.proofs.Tallies.{block-eq}
 use Rattle.fields.proofs.Laws.{number-lt}
 use Rattle.store.specs.Layout.{tallyTable, sizeIn, countOf, placeOf}
-use Rattle.store.specs.Decode.{reachedNumber, tallyFor, tallyAt, sinceFor, sinceAt, rows, tallies, Form}
-use Rattle.store.specs.Changes.{firstFrom, blockAt}
+use Rattle.tallies.specs.Values.{reachedNumber}
+use Rattle.store.specs.Decode.{tallyFor, tallyAt, sinceFor, sinceAt, rows, tallies, Form}
+use Rattle.store.specs.Searches.{firstFrom, blockAt}
 use Rattle.store.specs.declared.Found.{Found}
 use Rattle.store.specs.declared.Found.the-variants.{At, Nothing}
 use Rattle.store.proofs.Searches.{found-within}
-use Rattle.store.proofs.Values.{vote-number}
+use Rattle.tallies.proofs.Values.{vote-number}
 
 -- the clock of the record at a place
 keptAt : (ℕ → Tally) → Found → Option ℕ

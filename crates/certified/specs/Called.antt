@@ -9,7 +9,8 @@ use Rattle.rules.specs.Limits.{lastView, mostStatements, mostTallies}
 use Rattle.rules.specs.Lists.{be}
 use Rattle.rules.specs.Words.{Certificate, reachedOf}
 use Rattle.store.specs.Layout.{storeLength, sizeIn}
-use Rattle.store.specs.Decode.{reachedNumber, decode}
+use Rattle.tallies.specs.Values.{reachedNumber}
+use Rattle.store.specs.Decode.{decode}
 
 -- the block that is asked for
 abbrev pub asked : ℕ → ℕ → ℕ → Certificate

@@ -2,7 +2,8 @@
 ghost use mathlib.Core.Path.{_≡_};
 ghost use Rattle.rules.specs.Words.{reachedOf};
 ghost use Rattle.fields.specs.Names.{nameOf};
-ghost use Rattle.store.specs.Decode.{reachedNumber, tallies, Form};
+ghost use Rattle.tallies.specs.Values.{reachedNumber};
+ghost use Rattle.store.specs.Decode.{tallies, Form};
 ghost use Rattle.certified.specs.Called.{asked, certifiedCalled};
 use fields::Name;
 use store::Found;

@@ -6,7 +6,7 @@ use native.Mathlib.Omega.{arith}
 use native.Mathlib.Nat.{sub-zero}
 use native.Mathlib.Numerals.{add-one}
 use Rattle.rules.specs.Lists.{any, distinct}
-use Rattle.rules.proofs.Tests.{by-bool}
+use Rattle.laws.proofs.Tests.{by-bool}
 use Rattle.store.specs.Decode.{rows}
 use Rattle.store.proofs.Rows.{rows-from}
 use Rattle.heading.proofs.Walks.{distinct-here}

@@ -1,3 +1,4 @@
 pub mod Mixes
+pub mod Firsts
 pub mod Walks
 pub mod Apart

@@ -1,7 +1,7 @@
 -- Laws of chains, for any records, numbers and tests: what hangs on a chain, and what a walk along it meets. Assumes nothing.
 use Prim.Native.Nat.{ℕ, zero, suc, _+_, _-_, _*_, _<_, _≤_}
 use mathlib.Core.Path.{_≡_, refl, sym, ap, _∙_}
-use mathlib.Core.Bool.{Bool, true, false, false≢true}
+use mathlib.Core.Bool.{Bool, true, false}
 use mathlib.Core.List.{List}
 use native.Mathlib.Omega.{arith}
 use native.Mathlib.Numerals.{add-one}
@@ -13,15 +13,20 @@ use Rattle.rules.specs.Limits.{mostTalliesLarge}
 use lib.Seq.{getD-set-same, getD-set-other}
 use borrow.Author.Tests.{eqb-true, eq-eqb, ne-eqb}
 use Rattle.rules.specs.Lists.{any}
-use Rattle.rules.proofs.Tests.{by-bool}
 use Rattle.lookup.specs.Search.{pick}
 use Rattle.store.specs.Decode.{rows, nth}
-use Rattle.heading.proofs.Walks.{any-here, any-next}
+use Rattle.heading.proofs.Walks.{any-here}
+use Rattle.chains.proofs.Firsts.{Skips, whole-of, next-of}
 use Rattle.chains.specs.Chains.{chains, firstOf, Following, Chained, Bare, places, behind, Walk}
 
 -- a record below the count, of a size, lies in the store
 pub record-within : (base size i n long : ℕ) → i < n → base + size * n ≤ long → base + size * i + size ≤ long
 record-within base size i n long h l = omega (arith, mul-le-mul-left size h, mul-suc size i)
+
+-- what fails a test is not among those that pass it
+any-skips : (p : ℕ → Bool) → Skips p (any p)
+unfolding any
+any-skips p k ks t = rw (t, any)
 
 module _ (f : ℕ → ℕ) where
   -- the first of a chain is one of the records, and on the chain
@@ -36,24 +41,6 @@ module _ (f : ℕ → ℕ) where
       go : (b : Bool) → eqb (f i) c ≡ b → Told c (suc i) n (firstOf f c (suc i) n) → Told c i (suc n) (pick b (suc n) (firstOf f c (suc i) n))
       go true q h = (omega arith, (λ l. let e : i + suc n - suc n ≡ i = omega arith in rw e (eqb-true (f i) c q)))
       go false q h = (omega (arith, h .0), (λ l. let e : i + suc n - firstOf f c (suc i) n ≡ suc i + n - firstOf f c (suc i) n = omega arith in rw e (h .1 l)))
-
-  -- all that pass a test are on one chain, so the first that passes is from the chain's first on
-  pub first-any : (p : ℕ → Bool) (c : ℕ) → ((k : ℕ) → p k ≡ true → f k ≡ c) → (i n : ℕ)
-      → any p (places i n) ≡ any p (places (i + n - firstOf f c i n) (firstOf f c i n))
-  unfolding firstOf rows any
-  first-any p c alike i zero = refl
-  first-any p c alike i (suc n) = go (eqb (f i) c) refl (first-any p c alike (suc i) n)
-    where
-      left : ℕ
-      left = firstOf f c (suc i) n
-
-      go : (b : Bool) → eqb (f i) c ≡ b → any p (places (suc i) n) ≡ any p (places (suc i + n - left) left)
-          → any p (places i (suc n)) ≡ any p (places (i + suc n - pick b (suc n) left) (pick b (suc n) left))
-      go true q h = let e : i ≡ i + suc n - suc n = omega arith in ap (λ (j : ℕ). any p (places j (suc n))) e
-      go false q h =
-          let e : i + suc n - left ≡ suc i + n - left = omega arith in
-          let t : p i ≡ false = by-bool (p i) (λ u. absurd (false≢true (sym q ∙ eq-eqb (f i) c (alike i u)))) (λ u. u) in
-          rw (t, any, e) h
 
   first-step : (d i n : ℕ) → i < n → firstOf f d i (n - i) ≡ pick (eqb (f i) d) (n - i) (firstOf f d (i + 1) (n - (i + 1)))
   unfolding firstOf
@@ -110,7 +97,7 @@ module _ (f : ℕ → ℕ) where
         }
 
     pub walk-whole : any p (places i (n - i)) ≡ any p (behind n (nth heads c))
-    walk-whole = first-any p c alike i (n - i) ∙ rw (total, ← h .head c m)
+    walk-whole = whole-of p (any p) (any-skips p) f c alike h l m
 
 pub walk-end : (p : ℕ → Bool) (n left : ℕ) → left ≤ 0 → any p (behind n left) ≡ false
 unfolding any rows
@@ -157,8 +144,4 @@ module _ {p : ℕ → Bool} {n left : ℕ} {nexts : List ℕ} (w : Walk p n left
   walk-here t = whole-on ∙ any-here (λ k. k) n p at (omega (arith, w .within)) t
 
   pub walk-next : p at ≡ false → any p (behind n left) ≡ any p (behind n next)
-  walk-next t =
-      whole-on ∙ any-next (λ k. k) n p at (omega (arith, w .within)) t
-      ∙ first-any (w .of) p (w .chain) (w .alike) (at + 1) (n - (at + 1))
-      ∙ ap (λ (t : ℕ). any p (places (t - firstOf (w .of) (w .chain) (at + 1) (n - (at + 1))) (firstOf (w .of) (w .chain) (at + 1) (n - (at + 1))))) total-on
-      ∙ ap (λ (m : ℕ). any p (places (n - m) m)) (sym next-is)
+  walk-next t = next-of (any p) (any-skips p) w h t

@@ -21,20 +21,21 @@ chains = 2_048
 unfoldable pub stir : ℕ → ℕ → ℕ
 stir m w = (m + (m + w) % 2 ^ 64 % 2 ^ 32 * ((m + w) % 2 ^ 64 / 2 ^ 32)) % 2 ^ 64
 
--- with the four words of the name at a place
-unfoldable pub stirName : List ℕ → ℕ → ℕ → ℕ
+-- with so many words from a place on
+unfoldable pub stirWords : List ℕ → ℕ → ℕ → ℕ → ℕ
 unfolding stir
-stirName b m at = stir (stir (stir (stir m (number b at 8)) (number b (at + 8) 8)) (number b (at + 16) 8)) (number b (at + 24) 8)
+stirWords b m at zero = m
+stirWords b m at (suc k) = stir (stirWords b m at k) (number b (at + 8 * k) 8)
 
 abbrev pub chainOf : ℕ → ℕ
 chainOf m = m / 2 ^ 32 % chains
 
--- the chain of a block, whose name is at a place, and of record i of a table
+-- the chain of a block, whose name is at a place, and of record i of a table, which begins with view and height and then has the name
 abbrev pub blockChain : List ℕ → ℕ → ℕ → ℕ → ℕ
-blockChain b salt key at = chainOf (stirName b (stir salt key) at)
+blockChain b salt key at = chainOf (stirWords b (stir salt key) at 4)
 
 abbrev pub recordChain : List ℕ → ℕ → ℕ → ℕ → ℕ → ℕ
-recordChain b salt base size i = blockChain b salt (number b (base + size * i) 8) (base + size * i + 8)
+recordChain b salt base size i = chainOf (stirWords b salt (base + size * i) 5)
 
 -- ---- the chains
 

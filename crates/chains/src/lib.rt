@@ -6,7 +6,7 @@ ghost use lib.ListN.{length, set};
 ghost use Rattle.rules.specs.Limits.{mostTalliesLarge};
 ghost use Rattle.rules.specs.Lists.{any};
 ghost use Rattle.store.specs.Decode.{nth};
-ghost use Rattle.chains.specs.Chains.{chains, stir, stirName, chainOf, behind, Walk, isOf};
+ghost use Rattle.chains.specs.Chains.{chains, stir, stirWords, chainOf, behind, Walk, isOf};
 use settings::Settings;
 
 // How many chains there are.
@@ -29,15 +29,18 @@ pub fn stirred(mix: u64, word: u64) -> u64
     std::num::wrapping_add_u64(mix, product)
 }
 
-// A number stirred with the four words of the name at a place.
-pub fn with_name(store: &[u8], mix: u64, at: usize) -> u64
-    requires { ⌜ at + 32 ≤ length (now store) ⌝ }
-    ensures { λ r. ⌜ r ≡ stirName (now (store .entry)) mix at ⌝ }
+// A number stirred with so many words from a place on. How many is asked, so that the compiler makes the loop anew at each call.
+pub fn with_words(store: &[u8], mix: u64, at: usize, words: usize) -> u64
+    requires { ⌜ at + 8 * words ≤ length (now store) ⌝ }
+    ensures { λ r. ⌜ r ≡ stirWords (now (store .entry)) mix at words ⌝ }
 {
-    let first = stirred(mix, fields::get(store, at, 8));
-    let second = stirred(first, fields::get(store, at + 8, 8));
-    let third = stirred(second, fields::get(store, at + 16, 8));
-    stirred(third, fields::get(store, at + 24, 8))
+    let mut mixed = mix;
+    let mut k: usize = 0;
+    while k < words {
+        mixed = stirred(mixed, fields::get(store, at + 8 * k, 8));
+        k += 1;
+    }
+    mixed
 }
 
 // The chain of a number.
@@ -88,20 +91,22 @@ fn walked(
     false
 }
 
-// The same without a walk where the chain is empty, as most are.
+// The same of a chain, without a walk where it is empty, as most are.
 pub fn has_block(
     store: &[u8],
     base: usize,
     size: usize,
     count: usize,
+    heads: &[u16; CHAINS],
     nexts: &[u16; Settings::MOST_TALLIES_LARGE],
-    left: usize,
+    chain: usize,
     key: u64,
     at: usize,
 ) -> bool
-    requires { ⌜ (40 ≤ size) × (base + size * count ≤ length (now store)) × (count ≤ mostTalliesLarge) × (at + 32 ≤ length (now store)) × Walk (isOf (now store) base size key at) count left (now nexts) ⌝ }
-    ensures { λ r. ⌜ r ≡ any (isOf (now (store .entry)) base size key at) (behind count left) ⌝ }
+    requires { ⌜ (chain < chains) × (40 ≤ size) × (base + size * count ≤ length (now store)) × (count ≤ mostTalliesLarge) × (at + 32 ≤ length (now store)) × Walk (isOf (now store) base size key at) count (nth (now heads) chain) (now nexts) ⌝ }
+    ensures { λ r. ⌜ r ≡ any (isOf (now (store .entry)) base size key at) (behind count (nth (now (heads .entry)) chain)) ⌝ }
 {
+    let left = heads[chain] as usize;
     if left == 0 {
         return false;
     }

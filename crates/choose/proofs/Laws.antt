@@ -15,16 +15,16 @@ use Rattle.rules.specs.Lists.{unbe}
 use Rattle.rules.specs.Messages.{Message, newView, propose, vote, blame, blameSet, status, field, width, tagsOf, rowOf, table, kind, values, writes, write, read, allowed, size}
 use Rattle.rules.specs.Sizes.{Settings}
 use Rattle.rules.specs.Words.{Certificate, below, message}
-use Rattle.rules.proofs.Bytes as rules
-use Rattle.rules.proofs.ReadBack.{write-read}
-use Rattle.rules.proofs.Tests.{by-bool, by-option, no-some}
+use Rattle.laws.proofs.Bytes as rules
+use Rattle.laws.proofs.ReadBack.{write-read}
+use Rattle.laws.proofs.Tests.{by-bool, by-option, no-some}
 use types.Run.{OneOf, miss}
 use denote.Enum.Declared.{tagOf}
 use Rattle.wire.proofs.Message.{the-type}
 use Rattle.wire.specs.declared.Message as messages
 use Rattle.wire.specs.declared.Message.the-variants.{Stated, Vote, Blame, BlameSet, Status}
 use Rattle.wire.specs.Meaning.{messageOf, statementOf}
-use Rattle.rules.proofs.Lengths.{length-write}
+use Rattle.laws.proofs.Lengths.{length-write}
 use Rattle.groups.specs.Groups.{group}
 use Rattle.choose.specs.Meaning.{Rank}
 use Rattle.choose.specs.Choose.{reported, report, taken, takenOf, Part, certificatePart, emptyPart, chosen}

@@ -9,8 +9,8 @@ use Rattle.rules.specs.Sizes.{only}
 use Rattle.rules.specs.Messages.{Message, newView, propose, vote, blame, blameSet, status, Effect, toAll}
 use Rattle.rules.specs.Words.{Statement, message, sameStatement, conflict, Certificate, Opener, Tally, ownBlock, certificate, join, joinCertificate, waiting, State, moment}
 use Rattle.rules.specs.Inputs.{Work, saying, _▸_, withPhase, withTables, withBlames, isIn, quit, belowLock, votedFor, ballot, voting, certificateJoined, stored, statement, tallied, blamesOf, blamed, blameFull, blaming, handled}
-use Rattle.rules.proofs.Tests.{by-bool, by-option}
-use Rattle.rules.proofs.Moves.{voting-low, voting-high}
+use Rattle.laws.proofs.Tests.{by-bool, by-option}
+use Rattle.laws.proofs.Moves.{voting-low, voting-high}
 use Rattle.clocks.specs.Forget.{forget, Alike}
 use Rattle.clocks.proofs.Tables.{Same, twice, join-forgets, join-same, certificate-same}
 

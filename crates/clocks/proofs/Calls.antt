@@ -10,10 +10,10 @@ use Rattle.rules.specs.Words.{Statement, Certificate, Tally, ownBlock, certific
 use Rattle.rules.specs.Inputs.{Work, saying, _▸_, withPhase, withClock, withTables, withBlames, withLog, entering, belowLock, votedFor, stored, blamed, handled, due, commits, logging, complain, lead, enter, current, inOrder, votingAll, ticked}
 use Rattle.rules.specs.Refusals.{done, refused, stopping, hasRoom, ifRoom, step, offer, tick}
 use Rattle.rules.specs.Script.{Input, ticks, hears, hearsBytes, isOffered, answer}
-use Rattle.rules.proofs.Tests.{by-bool, by-option, no-some}
-use Rattle.rules.proofs.Answers.{by-step, by-offer, by-tick}
-use Rattle.rules.proofs.Moves.{Outside, arrived, Move, joins, stores, passes, casts, clashes, accuses, fills, complains, entersFull, entersPair, enters, Moves, here, more, handed, made, voting-low, voting-high, handled-moves, then-moves, complain-moves, lead-moves, enter-moves, counted, ticked-none, ticked-some}
-use Rattle.rules.proofs.Kept.{moves-fixed}
+use Rattle.laws.proofs.Tests.{by-bool, by-option, no-some}
+use Rattle.laws.proofs.Answers.{by-step, by-offer, by-tick}
+use Rattle.laws.proofs.Moves.{Outside, arrived, Move, joins, stores, passes, casts, clashes, accuses, fills, complains, entersFull, entersPair, enters, Moves, here, more, handed, made, voting-low, voting-high, handled-moves, then-moves, complain-moves, lead-moves, enter-moves, counted, ticked-none, ticked-some}
+use Rattle.laws.proofs.Kept.{moves-fixed}
 use Rattle.clocks.proofs.Joins.{Law, law-refl, law-trans, join-law, certificate-law}
 
 -- ---- the moves

@@ -10,7 +10,7 @@ use mathlib.Core.Option.{none, some, Option·some-injective}
 use Rattle.rules.specs.Sizes.{Settings}
 use Rattle.rules.specs.Words.{Certificate, reachedOf, State, fresh}
 use Rattle.rules.specs.Script.{Input}
-use Rattle.rules.proofs.Tests.{by-option, no-some, no-bool}
+use Rattle.laws.proofs.Tests.{by-option, no-some, no-bool}
 use Rattle.clocks.specs.Runs.{after, isThere, keptAt, hasQuorum, First, KeepsFirst}
 use Rattle.clocks.proofs.Joins.{Goes, goes-some, Marked, none-marked}
 use Rattle.clocks.proofs.Calls.{Clocked, answer-clocked}

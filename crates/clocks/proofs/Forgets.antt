@@ -12,7 +12,7 @@ use Rattle.rules.specs.Inputs.{Work, isIn, withPhase, withTables, handled, offe
 use Rattle.rules.specs.Refusals.{done, refused, stopping, hasRoom, ifRoom, running, ahead, usedUp, heard, step, offer, tick}
 use Rattle.rules.specs.Display.{isShown, dueClock, shown, showing, showingAll, display}
 use Rattle.rules.specs.Script.{Input, ticks, hears, hearsBytes, isOffered, answer}
-use Rattle.rules.proofs.Tests.{by-bool, by-option}
+use Rattle.laws.proofs.Tests.{by-bool, by-option}
 use Rattle.clocks.specs.Forget.{clockless, forget, forgotten, Alike}
 use Rattle.clocks.specs.Runs.{after, answered}
 use Rattle.clocks.proofs.Tables.{any-forgets, opened-forgets}

@@ -8,9 +8,9 @@ use mathlib.Core.Option.{Option, none, some}
 use lib.Dec.{eqb}
 use Rattle.rules.specs.Sizes.{Settings, joined, quorum}
 use Rattle.rules.specs.Words.{Certificate, Tally, Moment, reachedAt, certificateOf, opened, ofBlock, sameBlock, grown, join, joinCertificate, voters, reachedOf}
-use Rattle.rules.proofs.Tests.{by-bool, no-some, no-bool}
-use Rattle.rules.proofs.Tallies.{no-quorum}
-use Rattle.rules.proofs.Kept.{quorum-left}
+use Rattle.laws.proofs.Tests.{by-bool, no-some, no-bool}
+use Rattle.laws.proofs.Tallies.{no-quorum}
+use Rattle.laws.proofs.Kept.{quorum-left}
 use Rattle.clocks.specs.Runs.{isThere}
 
 -- a clock is as it was, or there was none and it is the present one

@@ -7,7 +7,7 @@ use lib.Dec.{eqb, ltb}
 use Rattle.rules.specs.Lists.{any, keep}
 use Rattle.rules.specs.Sizes.{Settings}
 use Rattle.rules.specs.Words.{Certificate, Tally, Moment, certificateOf, ofBlock, sameBlock, grown, join, joinCertificate, isAuthor, openedBy, voters, certified, higher, highest}
-use Rattle.rules.proofs.Tests.{by-bool}
+use Rattle.laws.proofs.Tests.{by-bool}
 use Rattle.clocks.specs.Forget.{clockless}
 
 -- two tables that differ in the clocks alone

@@ -9,8 +9,8 @@ use Rattle.rules.specs.Sizes.{leader, only}
 use Rattle.rules.specs.Messages.{Message, blame, blameSet, Effect, toAll}
 use Rattle.rules.specs.Words.{Statement, message, ownBlock, State}
 use Rattle.rules.specs.Inputs.{Work, saying, _▸_, withClock, withTables, withLog, entering, isIn, voting, blamesOf, blameFull, blaming, handled, leads, isOpened, isUsed, top, extendable, above, offered, isDue, due, commits, logging, votes, overdue, complain, leadsNow, ownNewView, lead, entersNow, nextLock, report, entered, current, pair, inOrder, votingAll, arrive, enter, ticked}
-use Rattle.rules.proofs.Tests.{by-bool, by-option, no-some}
-use Rattle.rules.proofs.Moves.{arrive-full, arrive-pair, arrive-clean}
+use Rattle.laws.proofs.Tests.{by-bool, by-option, no-some}
+use Rattle.laws.proofs.Moves.{arrive-full, arrive-pair, arrive-clean}
 use Rattle.clocks.specs.Forget.{forget, Alike}
 use Rattle.clocks.proofs.Tables.{voters-forgets, highest-forgets}
 use Rattle.clocks.proofs.Blind.{forget-twice, Likewise, Blind, blind-alike, then-blind, voting-blind, quit-blind, blaming-blind, handled-blind}

@@ -15,8 +15,8 @@ use Rattle.rules.specs.Inputs.{withTables}
 use Rattle.rules.specs.Refusals.{Outcome, step, tick, offer, result}
 use Rattle.rules.specs.WellFormed.{wellFormed}
 use Rattle.rules.specs.Script.{ticks, hearsBytes, isOffered, answer}
-use Rattle.rules.proofs.Bytes.{Bytes, be-lt}
-use Rattle.rules.proofs.Tests.{by-bool}
+use Rattle.laws.proofs.Bytes.{Bytes, be-lt}
+use Rattle.laws.proofs.Tests.{by-bool}
 use Rattle.kept.proofs.Calls.{step-whole, offer-whole, tick-whole}
 use Rattle.store.specs.Layout.{storeLength, sizeIn}
 use Rattle.store.specs.Decode.{stateFrom, stateOf, encode}

@@ -11,7 +11,7 @@ use Rattle.rules.specs.Sizes.{goodSettings}
 use Rattle.rules.specs.Words.{Certificate, State, fresh}
 use Rattle.rules.specs.Inputs.{saying}
 use Rattle.rules.specs.Refusals.{done}
-use Rattle.rules.proofs.Tests.{by-bool}
+use Rattle.laws.proofs.Tests.{by-bool}
 use Rattle.agreement.specs.Schedule.{Event, idle, commonTick, tickOf, given, offeredTo, happens, settingsOf, at, IsLent}
 use Rattle.store.specs.Layout.{storeLength}
 use Rattle.store.specs.Decode.{stateOf}

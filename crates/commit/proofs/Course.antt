@@ -13,20 +13,23 @@ use Rattle.rules.specs.Limits.{mostStatements, mostStatementsLarge}
 use Rattle.rules.specs.Lists.{keep}
 use Rattle.rules.specs.Words.{Statement}
 use Rattle.rules.specs.Inputs.{chain, merge, commit, commits}
-use Rattle.rules.proofs.Tests.{by-bool, and-left}
+use Rattle.laws.proofs.Tests.{by-bool, and-left}
 use Rattle.store.specs.Layout.{statementTable, logTable, countOf}
 use Rattle.store.specs.Decode.{rows, statementAt, statements, nameAt, names, Form}
 use Rattle.store.proofs.Rows.{rows-same}
 use Rattle.store.proofs.Forms.{form-log}
-use Rattle.commit.specs.Chains.{statementIn, nameIn, nameSoFar, lacking, Walked, WalkedFrom, Settled, Begun, WholeChain, isRipe}
+use Rattle.linked.specs.Told.{Told}
+use Rattle.commit.specs.Chains.{statementIn, nameIn, nameSoFar, lacking, Walked, WalkedFrom, Tells, Settled, WholeChain, isRipe}
 use Rattle.commit.specs.Outcome.{Log, Has, Joined, JoinedWith}
+use Rattle.commit.specs.Looks.{ToldBelow}
 use Rattle.commit.specs.declared.Merged.{Merged}
 use Rattle.commit.specs.declared.Merged.the-variants.{Grown, Differs}
 use Rattle.commit.proofs.Order.{bind, first-last}
 use Rattle.commit.proofs.Pigeon.{too-high}
 use Rattle.commit.proofs.Places.{so-far-old}
 use Rattle.commit.proofs.Voting.{keep-not, keep-so, keep-end}
-use Rattle.commit.proofs.Joining.{merge-short}
+use Rattle.commit.proofs.Joining.{merge-short, commit-none, commit-some}
+use Rattle.commit.proofs.Telling.{told-commits}
 
 -- the last chain walked, if whole, is in the log so far
 pub record Chained (b gained table : List ℕ) (len height left : ℕ) : Type 0 where
@@ -54,17 +57,6 @@ pub record Turn (b : List ℕ) (p : Statement → Bool) (count i len : ℕ) (gai
   pub walked : WalkedFrom b table (i - 1) left
   pub whole : length table ≡ mostStatementsLarge
 
--- ---- one block
-
-module _ (xs : List Statement) (x : Statement) (l : List ℕ) where
-  commit-none : chain xs x ≡ none → commit xs x l ≡ some l
-  unfolding commit
-  commit-none e = rw (e, commit)
-
-  commit-some : (c : List ℕ) → chain xs x ≡ some c → commit xs x l ≡ merge c l
-  unfolding commit
-  commit-some c e = rw (e, commit)
-
 -- a propose that is due is no new-view
 pub ripe-propose : (view wait now : ℕ) (x : Statement) → isRipe view wait now x ≡ true → x .isNewView ≡ false
 unfolding isRipe
@@ -78,10 +70,10 @@ module _ (b : List ℕ) (p : Statement → Bool) (count : ℕ) (l : List ℕ) wh
   abbrev at : ℕ → Statement
   at i = statementAt b (i - 1)
 
-  from-not : (i : ℕ) → 0 < i → i ≤ count → p (at i) ≡ false → from (i - 1) ≡ from i
+  pub from-not : (i : ℕ) → 0 < i → i ≤ count → p (at i) ≡ false → from (i - 1) ≡ from i
   from-not i pos up e = ap (λ (ys : List Statement). commits (statements b) ys l) (keep-not p (statementAt b) count i pos up e)
 
-  from-so : (i : ℕ) → 0 < i → i ≤ count → p (at i) ≡ true → from (i - 1) ≡ bind (from i) (commit (statements b) (at i))
+  pub from-so : (i : ℕ) → 0 < i → i ≤ count → p (at i) ≡ true → from (i - 1) ≡ bind (from i) (commit (statements b) (at i))
   from-so i pos up e =
       ap (λ (ys : List Statement). commits (statements b) ys l) (keep-so p (statementAt b) count i pos up e)
       ∙ first-last (statements b) (at i) (keep p (rows (statementAt b) i (count - i))) l
@@ -99,36 +91,36 @@ module _ (b : List ℕ) (p : Statement → Bool) (count : ℕ) (l : List ℕ) wh
 
 -- ---- the course's begin and end, and the turns that walk no chain
 
-pub course-start : {b : List ℕ} {gained table : List ℕ} {count logged wait : ℕ} (p : Statement → Bool) → Begun b gained table count logged wait
-    → Course b p count count logged gained table 0 0
+pub course-start : {b : List ℕ} {logged : ℕ} {gained table : List ℕ} (p : Statement → Bool) (count : ℕ) → Form b → logged ≡ countOf logTable b
+    → length gained ≡ mostStatementsLarge → length table ≡ mostStatementsLarge → Course b p count count logged gained table 0 0
 unfolding commits names
-course-start {b} {gained} {table} {count} {logged} p g =
+course-start {b} {logged} {gained} p count f old long whole =
     let same : rows (nameAt b) 0 (countOf logTable b) ≡ rows (nameSoFar b gained) 0 logged =
     rows-same (nameAt b) (nameSoFar b gained) 0 (countOf logTable b) (λ k l m. sym (so-far-old b gained k (omega arith)))
-    ∙ ap (rows (nameSoFar b gained) 0) (sym (g .old)) in
+    ∙ ap (rows (nameSoFar b gained) 0) (sym old) in
     record {
       up = omega arith;
       log =
           record {
             is = ap (λ (ys : List Statement). commits (statements b) ys (names b)) (keep-end p (statementAt b) count) ∙ ap some same;
-            more = omega (arith, g .old);
-            fits = omega (arith, g .old, form-log b (g .form));
-            stored = λ k l m. absurd (omega (arith, g .old));
+            more = omega (arith, old);
+            fits = omega (arith, old, form-log b f);
+            stored = λ k l m. absurd (omega (arith, old));
           };
-      long = g .long;
+      long = long;
       chained =
           record {
             walked = record { stored = λ k l m. absurd (omega arith); chains = λ k l m. absurd (omega arith) };
             high = omega arith;
-            long = g .whole;
+            long = whole;
             has = λ z. record { up = omega arith; same = λ k l. absurd (omega arith) };
           };
     }
 
 module _ {b : List ℕ} {p : Statement → Bool} {count i len : ℕ} {gained table : List ℕ} {height left : ℕ} (c : Course b p count i len gained table height left) where
-  pub course-end : count ≡ countOf statementTable b → i ≡ 0 → Joined (commits (statements b) (keep p (statements b)) (names b)) b gained (Grown len)
+  at-end : count ≡ countOf statementTable b → i ≡ 0 → Joined (commits (statements b) (keep p (statements b)) (names b)) b gained (Grown len)
   unfolding statements
-  course-end e z =
+  at-end e z =
       let all : rows (statementAt b) i (count - i) ≡ statements b =
       ap (λ (k : ℕ). rows (statementAt b) k (count - k)) z ∙ ap (rows (statementAt b) 0) (sub-zero count ∙ e) in
       subst (λ (ys : List Statement). Log (commits (statements b) (keep p ys) (names b)) b gained len) all (c .log)
@@ -163,6 +155,13 @@ module _ {b : List ℕ} {p : Statement → Bool} {count i len : ℕ} {gained tab
           let broken : chain (rows (statementAt b) 0 count) x ≡ none = too-high (statementAt b) count (i - 1) (omega (arith, c .up)) l in
           passed (commit-none (statements b) x soFar (ap (λ (n : ℕ). chain (rows (statementAt b) 0 n) x) (sym e) ∙ broken))
 
+      -- the check told of it: the log has its whole chain
+      pub course-told : {told : List ℕ} → Told b told → (r : Bool) → Tells told (x .height - 1) (i - 1) r → r ≡ true → Course b p count (i - 1) len gained table height left
+      course-told {told} tells r s e =
+          let q = subst (Tells told (x .height - 1) (i - 1)) e s in
+          let l = tells .settles (x .height - 1) (i - 1) q .logged in
+          passed (told-commits tells (x .height - 1) (i - 1) q (nameSoFar b gained) len (omega (arith, l, c .log .more)) (λ j m. so-far-old b gained j (omega (arith, l))))
+
       -- the last walk went through it
       pub course-settled : (own : ℕ) (r : Bool) → Settled table height left own (i - 1) r → r ≡ true → Course b p count (i - 1) len gained table height left
       unfolding statementIn
@@ -181,6 +180,22 @@ module _ {b : List ℕ} {p : Statement → Bool} {count i len : ℕ} {gained tab
               commit-some (statements b) x soFar _ k
               ∙ merge-short (nameIn b table) (nameSoFar b gained) 0 own len (omega (arith, has refl .up)) (λ j u v. has refl .same j (omega arith))
           go (suc n) k has l = commit-none (statements b) x soFar k
+
+-- the check told of all that is due below a place, so the course may end there
+module _ {b told : List ℕ} (tells : Told b told) (view wait now : ℕ) {count len height left : ℕ} {gained table : List ℕ} where
+  course-rest : (i : ℕ) → ToldBelow b told view wait now i → Course b (isRipe view wait now) count i len gained table height left
+      → Course b (isRipe view wait now) count 0 len gained table height left
+  course-rest zero f c = c
+  course-rest (suc i) f c =
+      let z : suc i - 1 ≡ i = omega arith in
+      course-rest i (λ j l m. f j l (omega arith))
+      (subst (λ (n : ℕ). Course b (isRipe view wait now) count n len gained table height left) z
+      (by-bool (isRipe view wait now (statementAt b (suc i - 1))) (λ r. course-told c (omega arith) r tells true (f (suc i - 1) (omega arith) (omega arith) r) refl)
+      (λ r. course-not c (omega arith) r)))
+
+  pub course-end : (i settled : ℕ) → ToldBelow b told view wait now settled → Course b (isRipe view wait now) count i len gained table height left → count ≡ countOf statementTable b → i ≤ settled
+      → Joined (commits (statements b) (keep (isRipe view wait now) (statements b)) (names b)) b gained (Grown len)
+  course-end i settled f c e l = at-end (course-rest i (λ j u v. f j u (omega arith)) c) e refl
 
 -- ---- a turn that walked a chain
 

@@ -8,7 +8,8 @@ use native.Mathlib.Omega.{arith}
 use lib.Dec.{eqb}
 use borrow.Author.Tests.{eq-eqb, ne-eqb}
 use native.Mathlib.Decide.{decLt}
-use Rattle.rules.specs.Inputs.{merge}
+use Rattle.rules.specs.Words.{Statement}
+use Rattle.rules.specs.Inputs.{chain, merge, commit}
 use Rattle.store.specs.Decode.{rows}
 use Rattle.store.proofs.Rows.{rows-same}
 use Rattle.commit.specs.Chains.{nameIn, nameSoFar, Copied, WholeChain, Agree}
@@ -51,6 +52,17 @@ module _ (f g : ℕ → ℕ) where
       go : (t : Bool) → eqb (f i) (g i) ≡ t → merge (rows f (suc i) h) (rows g (suc i) n) ≡ none → merge (rows f i (suc h)) (rows g i (suc n)) ≡ none
       go true e q = rw (e, merge) (ap (Option·map (g i ∷_)) q)
       go false e q = rw (e, merge)
+
+-- ---- one block
+
+module _ (xs : List Statement) (x : Statement) (l : List ℕ) where
+  pub commit-none : chain xs x ≡ none → commit xs x l ≡ some l
+  unfolding commit
+  commit-none e = rw (e, commit)
+
+  pub commit-some : (c : List ℕ) → chain xs x ≡ some c → commit xs x l ≡ merge c l
+  unfolding commit
+  commit-some c e = rw (e, commit)
 
 -- ---- the three ways
 

@@ -2,8 +2,10 @@ pub mod Readers
 pub mod Order
 pub mod Pigeon
 pub mod Joining
+pub mod Telling
 pub mod Walks
 pub mod Voting
 pub mod Places
 pub mod Course
+pub mod Looking
 pub mod Ticks

@@ -9,7 +9,7 @@ use borrow.Author.Tests.{eqb-true, eqb-false, eq-eqb, ne-eqb}
 use Rattle.rules.specs.Lists.{insert, sorted}
 use Rattle.rules.specs.Words.{Statement}
 use Rattle.rules.specs.Inputs.{chain, merge, commit, commits}
-use Rattle.rules.proofs.Tests.{by-bool}
+use Rattle.laws.proofs.Tests.{by-bool}
 
 abbrev then : Option (List ℕ) → List ℕ → Option (List ℕ)
 then o c = elim o [ none ↦ none | some l ↦ merge c l ]

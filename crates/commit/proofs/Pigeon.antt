@@ -12,7 +12,7 @@ use borrow.Author.Tests.{eqb-true, leb-true, leb-false, lt-leb}
 use Rattle.rules.specs.Lists.{first}
 use Rattle.rules.specs.Words.{Statement}
 use Rattle.rules.specs.Inputs.{isBlock, chainTo, chain}
-use Rattle.rules.proofs.Tests.{by-option, no-some}
+use Rattle.laws.proofs.Tests.{by-option, no-some}
 use Rattle.store.specs.Decode.{rows}
 use Rattle.store.proofs.Rows.{rows-length}
 

@@ -9,7 +9,7 @@ use lib.Seq.{getD-set-same, getD-set-other}
 use borrow.Author.Tests.{lt-ltb, le-ltb}
 use Rattle.store.specs.Layout.{logTable, countOf}
 use Rattle.store.specs.Decode.{statementAt, nameAt}
-use Rattle.commit.specs.Chains.{statementIn, nameIn, nameSoFar, Copied}
+use Rattle.commit.specs.Chains.{statementIn, nameIn, nameSoFar, Copied, Lowered}
 
 module _ (b t : List ℕ) (k : ℕ) where
   pub so-far-old : k < countOf logTable b → nameSoFar b t k ≡ nameAt b k
@@ -54,3 +54,22 @@ module _ (from to : List ℕ) (start : ℕ) where
 
   pub copied-end : (left : List ℕ) (k end : ℕ) → end ≤ k → Copied from to left start k → Copied from to left start end
   copied-end left k end l c = record { below = c .below; within = λ j m n. c .within j m (omega arith) }
+
+-- ---- the loop that copies what the check told
+
+module _ (from to : List ℕ) where
+  pub lowered-none : Lowered from to to 0
+  lowered-none = record { within = λ k l. absurd (omega arith); above = λ k l. refl }
+
+  pub lowered-next : (left : List ℕ) (k : ℕ) → k < length left → Lowered from to left k → Lowered from to (set left k (getD from k 0 - 1)) (k + 1)
+  lowered-next left k l c = record {
+    within = λ j m.
+        elim (decLt j k) [
+          | yes u ↦ getD-set-other left k j (getD from k 0 - 1) 0 (λ z. omega arith) ∙ c .within j u
+          | no u ↦ (let z : k ≡ j = omega arith in subst (λ (j : ℕ). getD (set left k (getD from k 0 - 1)) j 0 ≡ getD from j 0 - 1) z (getD-set-same left k (getD from k 0 - 1) 0 l))
+        ];
+    above = λ j m. getD-set-other left k j (getD from k 0 - 1) 0 (λ z. omega arith) ∙ c .above j (omega arith);
+  }
+
+  pub lowered-end : (left : List ℕ) (k end : ℕ) → k ≡ end → Lowered from to left k → Lowered from to left end
+  lowered-end left k end e c = subst (Lowered from to left) e c

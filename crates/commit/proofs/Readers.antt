@@ -1,12 +1,13 @@
 -- What the readers of the store say of a stored statement. Assumes nothing.
 use Prim.Native.Nat.{ℕ}
 use mathlib.Core.Path.{_≡_, ap}
-use mathlib.Core.Bool.{Bool, false, not, _&&_, and-true, and-false}
+use mathlib.Core.Bool.{Bool, true, false, not, _&&_, and-true, and-false}
 use mathlib.Core.Option.{Option}
 use lib.Dec.{eqb}
-use borrow.Author.Tests.{eq-eqb, ne-eqb}
+use borrow.Author.Tests.{eqb-true, eq-eqb, ne-eqb}
 use Rattle.rules.specs.Words as words
 use Rattle.rules.specs.Inputs.{isBlock}
+use Rattle.laws.proofs.Tests.{and-left, and-right}
 use Rattle.fields.specs.Names.{nameOf}
 use Rattle.wire.specs.Meaning.{statementOf}
 use Rattle.wire.specs.declared.Statement.{Statement}
@@ -33,3 +34,12 @@ module _ (x : Statement) (v : Option ℕ) (y : words.Statement) (e : statementOf
 pub block-differs : (h n : ℕ) (y : words.Statement) → (h ≡ y .height → ⊥) → false ≡ isBlock h n y
 unfolding isBlock
 block-differs h n y d = rw (ne-eqb _ _ d, and-false)
+
+-- a block that is found has the height and the name
+pub block-height : (h n : ℕ) (x : words.Statement) → isBlock h n x ≡ true → h ≡ x .height
+unfolding isBlock
+block-height h n x e = eqb-true _ _ (and-right (not (x .isNewView)) _ (and-left (not (x .isNewView) && eqb h (x .height)) _ e))
+
+pub block-name : (h n : ℕ) (x : words.Statement) → isBlock h n x ≡ true → n ≡ x .name
+unfolding isBlock
+block-name h n x e = eqb-true _ _ (and-right (not (x .isNewView) && eqb h (x .height)) _ e)

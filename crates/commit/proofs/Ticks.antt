@@ -5,7 +5,7 @@ use mathlib.Core.Bool.{Bool, true, false, not, _&&_}
 use mathlib.Core.List.{List, [], _∷_, _++_, append-nil}
 use mathlib.Core.Option.{Option, none, some}
 use native.Mathlib.Omega.{arith}
-use native.Mathlib.Nat.{zero-add}
+use native.Mathlib.Nat.{zero-add, sub-zero}
 use lib.Dec.{leb}
 use lib.ListN.{length}
 use borrow.Author.Tests.{leb-true}
@@ -14,24 +14,29 @@ use Rattle.rules.specs.Lists.{keep, sorted, all, distinct}
 use Rattle.rules.specs.Sizes.{Settings, goodSettings}
 use Rattle.rules.specs.Messages.{propose, viewAllowed, blockAllowed, maskAllowed, allowed}
 use Rattle.rules.specs.Words.{Statement, message, Phase, inView, waiting, stopped, State, sameStatement}
-use Rattle.rules.specs.Inputs.{withClock, isIn, isDue, due, commits}
+use Rattle.rules.specs.Inputs.{withClock, isIn, isDue, due, commits, votes}
 use Rattle.rules.specs.WellFormed.{isName, wellFormed, clocksInOrder, lockGood, statementGood, tallyGood, sameTally, talliesThere, blamesGood, linked, fewOpened}
-use Rattle.rules.proofs.Tests.{by-bool, and-left, and-right}
+use Rattle.laws.proofs.Tests.{by-bool, and-left, and-right}
 use Rattle.fields.specs.Places.{Bytes}
 use Rattle.fields.specs.Records.{fields}
 use Rattle.fields.proofs.Laws.{number-lt}
 use Rattle.store.specs.Layout.{headerFormat, statementTable, logTable, countOf}
 use Rattle.store.specs.Meaning.{headerOf, Loads}
 use Rattle.store.specs.declared.Station.{Station}
-use Rattle.store.proofs.Loaded.{loaded-settings}
-use Rattle.store.specs.Decode.{nth, rows, statementAt, statements, nameAt, names, stateFrom, stateOf}
+use Rattle.store.proofs.Loaded.{loaded-settings, loaded-view, loaded-clock, loaded-statements}
+use Rattle.store.specs.Decode.{nth, rows, statementAt, statements, nameAt, names, stateFrom, stateOf, Form}
 use Rattle.store.proofs.Rows.{rows-same, rows-append, rows-all}
-use Rattle.commit.specs.Chains.{nameIn, nameSoFar, isRipe}
+use Rattle.linked.specs.Told.{Told}
+use Rattle.commit.specs.Chains.{nameIn, nameSoFar, Begun, isRipe}
 use Rattle.commit.specs.Outcome.{tickLog, Joined, Committed}
+use Rattle.commit.specs.Looks.{ToldIn, Seen}
+use Rattle.commit.specs.declared.Glance.{Glance}
 use Rattle.commit.specs.declared.Merged.{Merged}
 use Rattle.commit.specs.declared.Merged.the-variants.{Grown, Differs}
 use Rattle.commit.proofs.Order.{any-order}
 use Rattle.commit.proofs.Places.{so-far-old, so-far-new}
+use Rattle.commit.proofs.Voting.{votes-are}
+use Rattle.commit.proofs.Looking.{quiet-log}
 
 -- ---- what is due
 
@@ -117,6 +122,35 @@ module _ (b : List ℕ) where
       record { is = sym e ∙ g .is ∙ ap some (parted t n (g .more)); more = g .more; fits = g .fits; stored = g .stored }
   gained o e t Differs g = sym e ∙ g
 
+-- ---- a loaded delay
+
+module _ (s : Station) (b : List ℕ) (e : Loads s b) where
+  pub delay-is : 2 * s .settings .delay ≡ 2 * stateOf b .settings .D
+  delay-is = ap (λ (g : Settings). 2 * g .D) (loaded-settings s b e)
+
+  pub delay-short : Bytes b → s .settings .delay < 256 ^ 2
+  unfolding headerOf
+  delay-short k = omega (arith, ap (λ (vs : List ℕ). nth vs 2) (e .header), number-lt b k (0 + 5) 2)
+
+-- ---- what was seen before the tick
+
+module _ (b told : List ℕ) (s : Station) (e : Loads s b) where
+  -- the check told of all that is due, so the log stays
+  pub told-log : Told b told → ToldIn b told s (s .statements) → tickLog b ≡ some (names b)
+  unfolding statements
+  told-log tells k = by-phase (stateOf b .phase) refl
+    where
+      by-phase : (p : Phase) → stateOf b .phase ≡ p → tickLog b ≡ some (names b)
+      by-phase inView q =
+          sym (tick-in b q _ _ _ (loaded-view s b e) (delay-is s b e) (ap (λ (c : ℕ). c + 1) (loaded-clock s b e)))
+          ∙ ap (λ (n : ℕ). commits (statements b) (keep (isRipe (s .view) (2 * s .settings .delay) (s .clock + 1)) (rows (statementAt b) 0 n)) (names b)) (sym (sub-zero (s .statements) ∙ loaded-statements s b e))
+          ∙ quiet-log tells (s .view) (2 * s .settings .delay) (s .clock + 1) (s .statements) k
+      by-phase (waiting c) q = tick-out b (λ r. let z : _≡_ {A = ℕ} 0 1 = cc in omega arith)
+      by-phase (stopped c) q = tick-out b (λ r. let z : _≡_ {A = ℕ} 0 1 = cc in omega arith)
+
+  pub seen-votes : (r : Glance) → Seen b told s r → r .votes ≡ votes (stateOf b)
+  seen-votes r k = k .counted ∙ votes-are b (s .view) (loaded-view s b e)
+
 -- ---- a propose has height at least 1
 
 seventh-last : (a x b c d e f g h : Bool) → (a && x && b && c && d && e && f && g && h) ≡ true → x ≡ true
@@ -149,19 +183,15 @@ propose-high s x e q =
     leb-true 1 (x .height)
     (and-right v h (and-left (v && h) b (and-left (v && h && b) p (and-left (v && h && b && p) (maskAllowed g (x .mask)) (and-left (v && h && b && p && maskAllowed g (x .mask)) _ f)))))
 
-pub heights : (b : List ℕ) → wellFormed (stateOf b) ≡ true → (count : ℕ) → count ≡ countOf statementTable b → (i : ℕ) → i < count → statementAt b i .isNewView ≡ false
+heights : (b : List ℕ) → wellFormed (stateOf b) ≡ true → (count : ℕ) → count ≡ countOf statementTable b → (i : ℕ) → i < count → statementAt b i .isNewView ≡ false
     → 1 ≤ statementAt b i .height
 unfolding stateOf stateFrom statements
 heights b w count e i l =
     propose-high (stateOf b) (statementAt b i)
     (rows-all (statementGood (stateOf b)) (statementAt b) 0 (countOf statementTable b) (all-good (stateOf b) w) i (omega arith) (omega arith))
 
--- ---- a loaded delay
-
-module _ (s : Station) (b : List ℕ) (e : Loads s b) where
-  pub delay-is : 2 * s .settings .delay ≡ 2 * stateOf b .settings .D
-  delay-is = ap (λ (g : Settings). 2 * g .D) (loaded-settings s b e)
-
-  pub delay-short : Bytes b → s .settings .delay < 256 ^ 2
-  unfolding headerOf
-  delay-short k = omega (arith, ap (λ (vs : List ℕ). nth vs 2) (e .header), number-lt b k (0 + 5) 2)
+-- so the due statements can be looked at
+pub begun : (b told : List ℕ) (s : Station) → Loads s b → Form b → wellFormed (stateOf b) ≡ true → Told b told → Begun b told (s .statements) (2 * s .settings .delay)
+begun b told s e f w t =
+    let count = loaded-statements s b e in
+    record { form = f; tells = t; all = count; heights = heights b w (s .statements) count; short = omega (arith, delay-short s b e (f .bytes)) }

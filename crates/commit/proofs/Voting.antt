@@ -1,7 +1,7 @@
 -- The number of a vote: when a propose of the view was voted for, and when it is due. Assumes nothing.
 use Prim.Native.Nat.{ℕ, _+_, _-_, _<_, _≤_}
 use mathlib.Core.Path.{_≡_, refl, sym, ap, ap₂, _∙_}
-use mathlib.Core.Bool.{Bool, true, false, not, _&&_}
+use mathlib.Core.Bool.{Bool, true, false, not, _&&_, and-false}
 use mathlib.Core.List.{List, [], _∷_}
 use mathlib.Core.Option.{Option, none, some}
 use native.Mathlib.Omega.{arith}
@@ -12,31 +12,34 @@ use borrow.Author.Tests.{eq-eqb, ne-eqb, leb-true, le-leb}
 use Rattle.rules.specs.Lists.{keep}
 use Rattle.rules.specs.Words as words
 use Rattle.rules.specs.Inputs.{votes}
-use Rattle.rules.proofs.Tests.{by-bool, no-bool}
-use Rattle.wire.specs.Meaning.{statementOf}
-use Rattle.wire.specs.declared.Statement.{Statement}
-use Rattle.store.specs.Decode.{voteNumber, rows, statementAt, voteAt, statements, stateFrom, stateOf}
+use Rattle.laws.proofs.Tests.{by-bool, no-bool}
+use Rattle.tallies.specs.Values.{voteNumber}
+use Rattle.store.specs.Decode.{rows, statementAt, kindAt, voteAt, statements, stateFrom, stateOf}
 use Rattle.store.specs.Layout.{statementTable, countOf}
-use Rattle.store.proofs.Values.{vote-number, voted-is}
+use Rattle.tallies.proofs.Values.{vote-number}
+use Rattle.store.proofs.Values.{voted-is}
 use Rattle.store.proofs.Rows.{rows-from}
 use Rattle.commit.specs.Chains.{voteIf, voteIn, isVoted, isRipe}
 
--- the vote's number, from what is read
-module _ (x : Statement) (v : Option ℕ) (y : words.Statement) (e : statementOf x v ≡ y) (view : ℕ) where
-  pub vote-new-view : x .«is_new_view» ≡ true → 0 ≡ voteIn view y
-  unfolding voteIn statementOf
-  vote-new-view q = ap (λ (k : Bool). voteIf (not k && eqb (x .view) view) v) (sym q) ∙ ap (voteIn view) e
-
-  pub vote-other : x .«is_new_view» ≡ false → (x .view ≡ view → ⊥) → 0 ≡ voteIn view y
-  unfolding voteIn statementOf
-  vote-other q d = (simp (q, ne-eqb _ _ d)) ∙ ap (voteIn view) e
-
-  pub vote-own : x .«is_new_view» ≡ false → x .view ≡ view → voteNumber v ≡ voteIn view y
-  unfolding voteIn statementOf
-  vote-own q d = (simp (q, eq-eqb _ _ d)) ∙ ap (voteIn view) e
-
-pub vote-read : (b : List ℕ) (i : ℕ) → voteAt b i ≡ voteNumber (statementAt b i .voted)
+vote-read : (b : List ℕ) (i : ℕ) → voteAt b i ≡ voteNumber (statementAt b i .voted)
 vote-read b i = sym (ap voteNumber (voted-is b i) ∙ vote-number (voteAt b i))
+
+-- the vote's number, from what is read
+module _ (b : List ℕ) (i view : ℕ) where
+  pub vote-other : (statementAt b i .view ≡ view → ⊥) → 0 ≡ voteIn view (statementAt b i)
+  unfolding voteIn
+  vote-other d = rw (ne-eqb _ _ d, and-false)
+
+  pub vote-new-view : kindAt b i ≡ 1 → 0 ≡ voteIn view (statementAt b i)
+  unfolding voteIn statementAt kindAt
+  vote-new-view e = rw (eq-eqb _ _ e)
+
+  own-vote : statementAt b i .view ≡ view → (kindAt b i ≡ 1 → ⊥) → voteNumber (statementAt b i .voted) ≡ voteIn view (statementAt b i)
+  unfolding voteIn statementAt kindAt
+  own-vote e d = rw (ne-eqb _ _ d, eq-eqb _ _ e)
+
+  pub vote-own : statementAt b i .view ≡ view → (kindAt b i ≡ 1 → ⊥) → voteAt b i ≡ voteIn view (statementAt b i)
+  vote-own e d = vote-read b i ∙ own-vote e d
 
 -- ---- what the number says
 
@@ -104,9 +107,6 @@ unfolding keep rows
 keep-end p f n = let e : n - n ≡ 0 = omega arith in rw e
 
 -- those that pass, all of them, are rules' votes
-pub votes-are : (b : List ℕ) (view count i : ℕ) → view ≡ stateOf b .view → count ≡ countOf statementTable b → i ≡ 0
-    → length (keep (isVoted view) (rows (statementAt b) i (count - i))) ≡ votes (stateOf b)
-unfolding votes isVoted stateOf stateFrom statements
-votes-are b view count i e q z =
-    ap (λ (k : ℕ). length (keep (isVoted view) (rows (statementAt b) k (count - k)))) z
-    ∙ ap₂ (λ (v n : ℕ). length (keep (isVoted v) (rows (statementAt b) 0 n))) e (sub-zero count ∙ q)
+pub votes-are : (b : List ℕ) (view : ℕ) → view ≡ stateOf b .view → length (keep (isVoted view) (statements b)) ≡ votes (stateOf b)
+unfolding votes isVoted stateOf stateFrom
+votes-are b view e = ap (λ (v : ℕ). length (keep (isVoted v) (statements b))) e

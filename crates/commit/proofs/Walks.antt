@@ -1,39 +1,31 @@
 -- The walk down a chain: where it begins, goes on and ends. Assumes nothing.
 use Prim.Native.Nat.{ℕ, zero, suc, _+_, _-_, _<_, _≤_}
 use mathlib.Core.Path.{_≡_, refl, sym, ap, ap₂, _∙_, subst}
-use mathlib.Core.Bool.{true, not, _&&_}
+use mathlib.Core.Bool.{Bool, true}
 use mathlib.Core.List.{List, [], _∷_}
 use mathlib.Core.Option.{none, some}
 use native.Mathlib.Omega.{arith}
 use native.Mathlib.Numerals.{sub-one}
 use native.Mathlib.Decide.{decLt}
 use native.Mathlib.Nat.{sub-zero}
-use lib.Dec.{eqb}
 use lib.ListN.{length, getD, set, length-set}
 use lib.Seq.{getD-set-same, getD-set-other}
-use borrow.Author.Tests.{eqb-true}
 use Rattle.rules.specs.Limits.{mostStatements, mostStatementsLarge}
 use Rattle.rules.specs.Lists.{first}
 use Rattle.rules.specs.Words.{Statement}
 use Rattle.rules.specs.Inputs.{isBlock, chainTo, chain}
-use Rattle.rules.proofs.Tests.{and-left, and-right}
-use Rattle.store.specs.Layout.{statementTable, countOf}
-use Rattle.store.specs.Decode.{rows, statementAt, statements}
+use Rattle.store.specs.Layout.{statementTable, logTable, countOf}
+use Rattle.store.specs.Decode.{nth, rows, statementAt, statements, nameAt}
 use Rattle.store.specs.declared.Found.{Found}
 use Rattle.store.specs.declared.Found.the-variants.{At, Nothing}
 use Rattle.store.proofs.Rows.{rows-same}
-use Rattle.store.specs.Changes.{firstFrom}
-use Rattle.commit.specs.Chains.{statementIn, nameIn, Stored, lacking, Walked, WalkedFrom}
+use Rattle.store.specs.Searches.{firstFrom}
 use Rattle.store.proofs.Searches.{found-within, found-matches, found-first, missing-first}
-
--- a block that is found has the height and the name
-pub block-height : (h n : ℕ) (x : Statement) → isBlock h n x ≡ true → h ≡ x .height
-unfolding isBlock
-block-height h n x e = eqb-true _ _ (and-right (not (x .isNewView)) _ (and-left (not (x .isNewView) && eqb h (x .height)) _ e))
-
-pub block-name : (h n : ℕ) (x : Statement) → isBlock h n x ≡ true → n ≡ x .name
-unfolding isBlock
-block-name h n x e = eqb-true _ _ (and-right (not (x .isNewView) && eqb h (x .height)) _ e)
+use Rattle.linked.specs.Told.{nameBelow, Told}
+use Rattle.commit.specs.Chains.{statementIn, nameIn, Stored, lacking, Walked, WalkedFrom, Known, WalkedDown, Meets, Lowered}
+use Rattle.commit.proofs.Readers.{block-height, block-name}
+use Rattle.commit.proofs.Places.{name-at}
+use Rattle.commit.proofs.Telling.{below-name, told-under, told-at, told-name, reach, told-chain}
 
 -- one step down a chain
 chain-down : (xs : List Statement) (k n : ℕ) (x : Statement) → 0 < k → first (isBlock k n) xs ≡ some x → (c : List ℕ)
@@ -146,6 +138,45 @@ module _ (b : List ℕ) where
   down-end t h k link z d = subst (λ (n : ℕ). Down b t h n link → Walked b t h n) (sym z)
       (λ (d : Down b t h 0 link). record { stored = d .stored; chains = λ j l m. d .chains j l m ∙ ap (λ (n : ℕ). some (rows (nameIn b t) 0 n)) (sub-zero (j + 1)) }) d
 
+  -- the chain goes on with the log, whose lowest places are put below
+  module _ (t told t′ : List ℕ) (h k link : ℕ) (d : Down b t h k link) (pos : 0 < k) (below : k < h) (tells : Told b told) (here : 0 < nth told (k - 1)) (c : Lowered told t t′ k) where
+    told-low : (j : ℕ) → j < k → 0 < nth told j
+    told-low j l = told-under tells (k - 1) here j (omega arith)
+
+    low-place : (j p : ℕ) → j < k → nth told j ≡ suc p → getD t′ j 0 ≡ p
+    low-place j p l q = omega (arith, c .within j l)
+
+    low-name : (j : ℕ) → j < k → nameIn b t′ j ≡ nameAt b j
+    low-name j l = told-at tells j (told-low j l) (λ p q. sym (told-name tells j p q ∙ name-at b t′ j p (sym (low-place j p l q))))
+
+    same-in : (j : ℕ) → k ≤ j → statementIn b t′ j ≡ statementIn b t j
+    unfolding statementIn
+    same-in j l = ap (statementAt b) (c .above j l)
+
+    down-meets : link ≡ nameAt b (k - 1) → Walked b t′ h 0
+    unfolding statementIn nameIn
+    down-meets e =
+        record {
+          stored = λ j l m.
+              elim (decLt j k) [
+                | yes u ↦ told-at tells j (told-low j u) (λ p q. omega (arith, low-place j p u q, tells .settles j p q .stored))
+                | no u ↦ omega (arith, c .above j (omega arith), d .stored j (omega arith) m)
+              ];
+          chains = λ j l m.
+              elim (decLt j k) [
+                | yes u ↦
+                    told-at tells j (told-low j u)
+                    (λ p q. ap (λ (i : ℕ). chain (statements b) (statementAt b i)) (low-place j p u q) ∙ told-chain tells j p q (nameIn b t′) (λ i v. low-name i (omega arith)))
+                | no u ↦
+                    (let z : k + (j + 1 - k) ≡ j + 1 = omega arith in
+                    ap (chain (statements b)) (same-in j (omega arith)) ∙ d .chains j (omega arith) m
+                    ∙ ap (λ (n : ℕ). chainTo (statements b) k n (rows (nameIn b t) k (j + 1 - k))) (e ∙ sym (below-name b k pos))
+                    ∙ ap (chainTo (statements b) k (nameBelow b k)) (rows-same (nameIn b t) (nameIn b t′) k (j + 1 - k) (λ i v w. ap (λ (y : Statement). y .name) (sym (same-in i v))))
+                    ∙ reach tells (nameIn b t′) k (j + 1 - k) told-low low-name
+                    ∙ ap (λ (n : ℕ). some (rows (nameIn b t′) 0 n)) z)
+              ];
+        }
+
 -- ---- the loop of the walk
 
 pub record Walking (b t : List ℕ) (i height k link : ℕ) : Type 0 where
@@ -168,19 +199,41 @@ walking-start {b} {i} {height} t s e l m n q = record {
 }
 
 module _ {b t : List ℕ} {i height k link : ℕ} (w : Walking b t i height k link) where
-  from : Walked b t height k → WalkedFrom b t i k
-  from d = record {
-    walked = subst (λ (n : ℕ). Walked b t n k) (w .tall) d;
-    below = omega (arith, w .below, w .tall);
-    top = ap (λ (n : ℕ). getD t (n - 1) 0) (sym (w .tall)) ∙ w .top;
+  from : (left : ℕ) → left < height → Walked b t height left → WalkedDown b t i left 0
+  from left l d = record {
+    from =
+        record {
+          walked = subst (λ (n : ℕ). Walked b t n left) (w .tall) d;
+          below = omega (arith, w .tall);
+          top = ap (λ (n : ℕ). getD t (n - 1) 0) (sym (w .tall)) ∙ w .top;
+        };
+    lowest = record { logged = omega arith; names = λ j l. absurd (omega arith) };
   }
 
-  pub walking-end : k ≡ 0 → WalkedFrom b t i k
-  walking-end z = from (down-end b t height k link z (w .down))
+  pub walking-end : k ≡ 0 → WalkedDown b t i 0 0
+  walking-end z = from 0 (omega (arith, w .below)) (subst (Walked b t height) z (down-end b t height k link z (w .down)))
+
+  -- it meets the log
+  pub walking-meets : {told t′ : List ℕ} (r : Bool) → Meets b told k link r → r ≡ true → Told b told → 0 < k → Lowered told t t′ k → WalkedDown b t′ i 0 k
+  walking-meets {told} {t′} r m e tells pos c =
+      let q = subst (Meets b told k link) e m in
+      record {
+        from =
+            record {
+              walked = subst (λ (n : ℕ). Walked b t′ n 0) (w .tall) (down-meets b t told t′ height k link (w .down) pos (w .below) tells (q .0) c (q .1));
+              below = omega (arith, w .tall, w .below);
+              top = ap (λ (n : ℕ). getD t′ (n - 1) 0) (sym (w .tall)) ∙ c .above (height - 1) (omega (arith, w .below)) ∙ w .top;
+            };
+        lowest =
+            record {
+              logged = told-at tells (k - 1) (q .0) (λ p u. omega (arith, tells .settles (k - 1) p u .logged));
+              names = low-name b t told t′ height k link (w .down) pos (w .below) tells (q .0) c;
+            };
+      }
 
   module _ {f : Found} (found : f ≡ firstFrom (isBlock k link) 0 (statements b)) (pos : 0 < k) where
-    pub walking-broken : f ≡ Nothing → WalkedFrom b t i k
-    walking-broken e = from (down-broken b t height k link (w .down) f found pos e)
+    pub walking-broken : f ≡ Nothing → WalkedDown b t i k 0
+    walking-broken e = from k (w .below) (down-broken b t height k link (w .down) f found pos e)
 
     module _ {p : ℕ} (e : f ≡ At p) where
       pub walking-stored : p < countOf statementTable b

@@ -10,7 +10,9 @@ use Rattle.rules.specs.Limits.{mostStatements, mostStatementsLarge}
 use Rattle.rules.specs.Words.{Statement}
 use Rattle.rules.specs.Inputs.{chain}
 use Rattle.store.specs.Layout.{statementTable, logTable, countOf}
-use Rattle.store.specs.Decode.{voteNumber, rows, statementAt, nameAt, statements, Form}
+use Rattle.tallies.specs.Values.{voteNumber}
+use Rattle.store.specs.Decode.{rows, statementAt, nameAt, statements, Form}
+use Rattle.linked.specs.Told.{Told}
 
 -- the statement whose place stands in a table, and its name
 unfoldable pub statementIn : List ℕ → List ℕ → ℕ → Statement
@@ -45,6 +47,31 @@ pub record WalkedFrom (b t : List ℕ) (i left : ℕ) : Type 0 where
   pub below : left < statementAt b i .height
   pub top : getD t (statementAt b i .height - 1) 0 ≡ i
 
+-- the lowest names of a table's chain are the log's
+pub record Known (b t : List ℕ) (known : ℕ) : Type 0 where
+  pub logged : known ≤ countOf logTable b
+  pub names : (k : ℕ) → k < known → nameIn b t k ≡ nameAt b k
+
+-- the walk from statement i, and how many of its lowest names are the log's
+pub record WalkedDown (b t : List ℕ) (i left known : ℕ) : Type 0 where
+  pub from : WalkedFrom b t i left
+  pub lowest : Known b t known
+
+-- the check told that statement i is the first propose of the logged name at place k
+abbrev pub Tells : List ℕ → ℕ → ℕ → Bool → Type 0
+Tells t k i true = getD t k 0 ≡ suc i
+Tells t k i false = Unit {0}
+
+-- the check told of the log's lowest k names, and a name is the highest of them
+abbrev pub Meets : List ℕ → List ℕ → ℕ → ℕ → Bool → Type 0
+Meets b t k link true = (0 < getD t (k - 1) 0) × (link ≡ nameAt b (k - 1))
+Meets b t k link false = Unit {0}
+
+-- the places up to one are each one less than those of another table
+pub record Lowered (from to left : List ℕ) (end : ℕ) : Type 0 where
+  pub within : (k : ℕ) → k < end → getD left k 0 ≡ getD from k 0 - 1
+  pub above : (k : ℕ) → end ≤ k → getD left k 0 ≡ getD to k 0
+
 -- a place of the table is that of statement i, and its chain goes down as far as the walk did
 abbrev pub Settled : List ℕ → ℕ → ℕ → ℕ → ℕ → Bool → Type 0
 Settled t height left own i true = (left < own) × (own ≤ height) × (getD t (own - 1) 0 ≡ i)
@@ -55,13 +82,11 @@ pub record Copied (from to left : List ℕ) (start end : ℕ) : Type 0 where
   pub below : (k : ℕ) → k < start → getD left k 0 ≡ getD to k 0
   pub within : (k : ℕ) → start ≤ k → k < end → getD left k 0 ≡ getD from k 0
 
--- before any due block: the store, its counts, and two tables to work in
-pub record Begun (b gained chain : List ℕ) (count logged wait : ℕ) : Type 0 where
+-- before any due block: the store, what the check told of it, and how many statements it has
+pub record Begun (b told : List ℕ) (count wait : ℕ) : Type 0 where
   pub form : Form b
+  pub tells : Told b told
   pub all : count ≡ countOf statementTable b
-  pub old : logged ≡ countOf logTable b
-  pub long : length gained ≡ mostStatementsLarge
-  pub whole : length chain ≡ mostStatementsLarge
   pub heights : (i : ℕ) → i < count → statementAt b i .isNewView ≡ false → 1 ≤ statementAt b i .height
   pub short : wait < 2 ^ 32
 

@@ -2,20 +2,22 @@
 // The store is only read; a caller shows that it has the form.
 ghost use mathlib.Core.Path.{_≡_};
 ghost use lib.ListN.{length, getD};
-ghost use Prim.Native.Nat.{_<_, _≤_, _^_};
+ghost use Prim.Native.Nat.{ℕ, _-_, _^_, _<_, _≤_};
 ghost use Rattle.rules.specs.Lists.{keep};
 ghost use Rattle.rules.specs.Limits.{mostStatements, mostStatementsLarge};
 ghost use mathlib.Core.Bool.{true};
 ghost use Rattle.rules.specs.WellFormed.{wellFormed};
-ghost use Rattle.rules.specs.Inputs.{isBlock, commits, votes};
+ghost use Rattle.rules.specs.Inputs.{isBlock, commits};
 ghost use Rattle.fields.specs.Records.{fields};
 ghost use Rattle.fields.specs.Names.{nameOf};
 ghost use Rattle.store.specs.Layout.{sizeIn, headerFormat, statementTable, logTable, storeLength, countOf};
 ghost use Rattle.store.specs.Decode.{statements, statementAt, names, stateOf, Form};
 ghost use Rattle.store.specs.Meaning.{Loads, headerOf};
-ghost use Rattle.store.specs.Changes.{firstFrom};
-ghost use Rattle.commit.specs.Chains.{nameIn, nameSoFar, Stored, voteIn, isRipe, WalkedFrom, Settled, Copied, Begun, WholeChain, Agree};
+ghost use Rattle.store.specs.Searches.{firstFrom};
+ghost use Rattle.linked.specs.Told.{Told};
+ghost use Rattle.commit.specs.Chains.{nameIn, nameSoFar, Stored, voteIn, isRipe, Tells, Meets, Lowered, Known, WalkedDown, Settled, Copied, Begun, WholeChain, Agree};
 ghost use Rattle.commit.specs.Outcome.{Joined, JoinedWith, Committed};
+ghost use Rattle.commit.specs.Looks.{ToldBelow, Looked, ToldIn, Seen};
 use fields::Name;
 use settings::Settings;
 use store::Found;
@@ -26,6 +28,18 @@ use store::Station;
 pub enum Merged {
     Grown(usize),
     Differs,
+}
+
+// How many proposes of the view were voted for, and a place: the check told of each due statement below it.
+pub struct Glance {
+    pub votes: usize,
+    pub settled: usize,
+}
+
+// How many of the lowest blocks of a chain are not stored, and how many of its lowest names are known to be the log's.
+struct Reached {
+    left: usize,
+    known: usize,
 }
 
 // Whether statement i is a propose of the name at the height; no more than its height is read where that differs.
@@ -57,10 +71,53 @@ pub fn find_block(store: &[u8], count: usize, height: u32, name: Name) -> Found
     }
 }
 
-// Puts the places of the chain of statement i into the table, from its height down; answers how many of the lowest are not stored.
-fn walk(store: &[u8], count: usize, i: usize, chain: &mut [u16]) -> usize
-    requires { ⌜ (Form (now store)) × (count ≡ countOf statementTable (now store)) × (i < count) × (length (now chain) ≡ mostStatementsLarge) × (1 ≤ statementAt (now store) i .height) × (statementAt (now store) i .height ≤ mostStatementsLarge) ⌝ }
-    ensures { λ r. ⌜ WalkedFrom (now (store .entry)) (now (chain .exit)) i r ⌝ }
+// The place that stands in a table.
+fn place_in(table: &[u16], k: usize) -> usize
+    requires { ⌜ k < length (now table) ⌝ }
+    ensures { λ r. ⌜ r ≡ getD (now (table .entry)) k 0 ⌝ }
+{
+    table[k] as usize
+}
+
+// Whether the check told that statement i, of some height, is the first propose of the logged name there, above the name below.
+fn is_told(store: &[u8], told: &[u16], i: usize) -> bool
+    requires { ⌜ (length (now store) ≡ storeLength (sizeIn (now store))) × (i < mostStatements (sizeIn (now store))) × (1 ≤ statementAt (now store) i .height) × (length (now told) ≡ mostStatementsLarge) ⌝ }
+    ensures { λ r. ⌜ Tells (now (told .entry)) (statementAt (now (store .entry)) i .height - 1) i r ⌝ }
+{
+    let k = store::height_at(store, i) as usize - 1;
+    if Settings::MOST_STATEMENTS_LARGE <= k {
+        return false;
+    }
+    place_in(told, k) == i + 1
+}
+
+// Whether a chain that goes on with a name at height k goes on with the log there, as far down as the check told.
+fn meets(store: &[u8], told: &[u16], k: usize, link: Name) -> bool
+    requires { ⌜ (Form (now store)) × (Told (now store) (now told)) × (1 ≤ k) × (k ≤ mostStatementsLarge) ⌝ }
+    ensures { λ r. ⌜ Meets (now (store .entry)) (now (told .entry)) k (nameOf link) r ⌝ }
+{
+    if place_in(told, k - 1) == 0 {
+        return false;
+    }
+    link.same(store::name_at(store, k - 1))
+}
+
+// Puts the places of the log's lowest blocks, as the check told them, into a table.
+fn copy_told(told: &[u16], to: &mut [u16], end: usize)
+    requires { ⌜ (end ≤ length (now told)) × (end ≤ length (now to)) × ((k : ℕ) → k < end → 0 < getD (now told) k 0) ⌝ }
+    ensures { λ _. ⌜ Lowered (now (told .entry)) (now (to .entry)) (now (to .exit)) end ⌝ }
+{
+    let mut k: usize = 0;
+    while k < end {
+        to[k] = told[k] - 1;
+        k += 1;
+    }
+}
+
+// Puts the places of the chain of statement i into the table, from its height down, to where it meets the log or isn't stored.
+fn walk(store: &[u8], told: &[u16], count: usize, i: usize, chain: &mut [u16]) -> Reached
+    requires { ⌜ (Form (now store)) × (Told (now store) (now told)) × (count ≡ countOf statementTable (now store)) × (i < count) × (length (now chain) ≡ mostStatementsLarge) × (1 ≤ statementAt (now store) i .height) × (statementAt (now store) i .height ≤ mostStatementsLarge) ⌝ }
+    ensures { λ r. ⌜ WalkedDown (now (store .entry)) (now (chain .exit)) i (r .left) (r .known) ⌝ }
 {
     let x = store::statement_at(store, i);
     let height = x.height as usize;
@@ -69,10 +126,14 @@ fn walk(store: &[u8], count: usize, i: usize, chain: &mut [u16]) -> usize
     let mut link = x.link;
     loop {
         if k == 0 {
-            break k;
+            break Reached { left: 0, known: 0 };
+        }
+        if meets(store, told, k, link) {
+            copy_told(told, chain, k);
+            break Reached { left: 0, known: k };
         }
         let Found::At(p) = find_block(store, count, k as u32, link) else {
-            break k;
+            break Reached { left: k, known: 0 };
         };
         k -= 1;
         chain[k] = p as u16;
@@ -86,34 +147,13 @@ pub fn vote_in(store: &[u8], i: usize, view: u32) -> u32
     requires { ⌜ (length (now store) ≡ storeLength (sizeIn (now store))) × (i < mostStatements (sizeIn (now store))) ⌝ }
     ensures { λ r. ⌜ r ≡ voteIn view (statementAt (now (store .entry)) i) ⌝ }
 {
-    let x = store::statement_at(store, i);
-    if x.is_new_view {
+    if search::view_at(store, i) != view {
         return 0;
     }
-    if x.view != view {
+    if store::kind_at(store, i) == 1 {
         return 0;
     }
     store::voted_at(store, i)
-}
-
-// How many proposes of the view were voted for.
-pub fn votes(store: &[u8], station: Station) -> usize
-    requires { ⌜ (Form (now store)) × (Loads station (now store)) ⌝ }
-    ensures { λ r. ⌜ r ≡ votes (stateOf (now (store .entry))) ⌝ }
-{
-    let view = station.view;
-    let mut i = station.statements;
-    let mut n: usize = 0;
-    loop {
-        if i == 0 {
-            break n;
-        }
-        i -= 1;
-        if vote_in(store, i, view) == 0 {
-            continue;
-        }
-        n += 1;
-    }
 }
 
 // Whether statement i is a propose of the view that was voted for more than `wait` ticks ago.
@@ -126,14 +166,6 @@ fn is_due(store: &[u8], i: usize, view: u32, wait: u64, clock: u64) -> bool
         return false;
     }
     vote as u64 + wait <= clock
-}
-
-// The place that stands in a table.
-fn place_in(table: &[u16], k: usize) -> usize
-    requires { ⌜ k < length (now table) ⌝ }
-    ensures { λ r. ⌜ r ≡ getD (now (table .entry)) k 0 ⌝ }
-{
-    table[k] as usize
 }
 
 // The name of the statement whose place stands in a table.
@@ -156,7 +188,7 @@ fn name_so_far(store: &[u8], logged: usize, gained: &[u16], k: usize) -> Name
     name_in(store, gained, k)
 }
 
-// Whether the chain and the log so far have the same names up to a height.
+// Whether the chain and the log so far have the same names up to a height; the lowest are known to be the log's.
 fn agrees(
     store: &[u8],
     logged: usize,
@@ -164,12 +196,13 @@ fn agrees(
     gained: &[u16],
     chain: &[u16],
     height: usize,
+    known: usize,
     end: usize,
 ) -> bool
-    requires { ⌜ (WholeChain (now store) (now gained) (now chain) logged len height) × (end ≤ len) × (end ≤ height) ⌝ }
+    requires { ⌜ (WholeChain (now store) (now gained) (now chain) logged len height) × (Known (now store) (now chain) known) × (end ≤ len) × (end ≤ height) ⌝ }
     ensures { λ r. ⌜ Agree (nameIn (now (store .entry)) (now (chain .entry))) (nameSoFar (now (store .entry)) (now (gained .entry))) end r ⌝ }
 {
-    let mut k: usize = 0;
+    let mut k = known;
     loop {
         if end <= k {
             break true;
@@ -213,8 +246,9 @@ fn join(
     gained: &mut [u16],
     chain: &[u16],
     height: usize,
+    known: usize,
 ) -> Merged
-    requires { ⌜ WholeChain (now store) (now gained) (now chain) logged len height ⌝ }
+    requires { ⌜ (WholeChain (now store) (now gained) (now chain) logged len height) × (Known (now store) (now chain) known) ⌝ }
     ensures { λ r. ⌜ JoinedWith (now (store .entry)) (now (gained .entry)) (now (gained .exit)) (now (chain .entry)) height len r ⌝ }
 {
     if !agrees(
@@ -224,6 +258,7 @@ fn join(
         gained,
         chain,
         height,
+        known,
         least(height, len),
     ) {
         return Merged::Differs;
@@ -252,10 +287,42 @@ fn is_settled(chain: &[u16], height: usize, left: usize, own: usize, i: usize) -
     true
 }
 
-// The chains of the due statements join the log, from the last place down: the walk from the highest mostly goes through the others.
+// What is seen of all statements, from the last place down, field by field.
+fn look_down(store: &[u8], told: &[u16], count: usize, view: u32, wait: u64, clock: u64) -> Glance
+    requires { ⌜ Begun (now store) (now told) count wait ⌝ }
+    ensures { λ r. ⌜ Looked (now (store .entry)) (now (told .entry)) view wait clock count (r .votes) (r .settled) ⌝ }
+{
+    let mut i = count;
+    let mut votes: usize = 0;
+    let mut settled = count;
+    while 0 < i {
+        i -= 1;
+        if search::view_at(store, i) != view {
+            continue;
+        }
+        if store::kind_at(store, i) == 1 {
+            continue;
+        }
+        let vote = store::voted_at(store, i);
+        if vote == 0 {
+            continue;
+        }
+        votes += 1;
+        if (clock < vote as u64 + wait) | is_told(store, told, i) {
+            continue;
+        }
+        settled = i;
+    }
+    Glance { votes, settled }
+}
+
+// The chains of the due statements join the log, from the last place down to where the check told of the rest: the walk from the
+// highest mostly goes through the others.
 fn commit_due(
     store: &[u8],
+    told: &[u16],
     count: usize,
+    settled: usize,
     logged: usize,
     view: u32,
     wait: u64,
@@ -263,7 +330,7 @@ fn commit_due(
     gained: &mut [u16],
     chain: &mut [u16],
 ) -> Merged
-    requires { ⌜ Begun (now store) (now gained) (now chain) count logged wait ⌝ }
+    requires { ⌜ (Begun (now store) (now told) count wait) × (logged ≡ countOf logTable (now store)) × (ToldBelow (now store) (now told) view wait clock settled) × (length (now gained) ≡ mostStatementsLarge) × (length (now chain) ≡ mostStatementsLarge) ⌝ }
     ensures { λ r. ⌜ Joined (commits (statements (now (store .entry))) (keep (isRipe view wait clock) (statements (now (store .entry)))) (names (now (store .entry)))) (now (store .entry)) (now (gained .exit)) r ⌝ }
 {
     let mut i = count;
@@ -271,36 +338,62 @@ fn commit_due(
     let mut height: usize = 0;
     let mut left: usize = 0;
     loop {
-        if i == 0 {
+        if i <= settled {
             break Merged::Grown(len);
         }
         i -= 1;
         if !is_due(store, i, view, wait, clock) {
             continue;
         }
-        let x = store::statement_at(store, i);
-        let own = x.height as usize;
+        if is_told(store, told, i) {
+            continue;
+        }
+        let own = store::height_at(store, i) as usize;
         if count < own {
             continue;
         }
         if is_settled(chain, height, left, own, i) {
             continue;
         }
-        left = walk(store, count, i, chain);
+        let walked = walk(store, told, count, i, chain);
+        left = walked.left;
         height = own;
         if left != 0 {
             continue;
         }
-        let Merged::Grown(m) = join(store, logged, len, gained, chain, height) else {
+        let Merged::Grown(m) = join(store, logged, len, gained, chain, height, walked.known) else {
             break Merged::Differs;
         };
         len = m;
     }
 }
 
-// The commit stage of a tick from this store: the new log's length, its new names by place in the table, or refusal 7.
-pub fn commits(store: &[u8], station: Station, gained: &mut [u16]) -> Merged
-    requires { ⌜ (Form (now store)) × (wellFormed (stateOf (now store)) ≡ true) × (Loads station (now store)) × (length (now gained) ≡ mostStatementsLarge) ⌝ }
+// What is seen of the statements before a tick to the next clock.
+pub fn look(store: &[u8], station: Station, told: &[u16]) -> Glance
+    requires { ⌜ (Form (now store)) × (wellFormed (stateOf (now store)) ≡ true) × (Loads station (now store)) × (Told (now store) (now told)) ⌝ }
+    ensures { λ r. ⌜ Seen (now (store .entry)) (now (told .entry)) station r ⌝ }
+{
+    let settings = station.settings;
+    look_down(
+        store,
+        told,
+        station.statements,
+        station.view,
+        2 * settings.delay,
+        station.clock as u64 + 1,
+    )
+}
+
+// The commit stage of a tick from this store, where the check told of what is due below a place: the new log's length, its new names
+// by place in the table, or refusal 7.
+pub fn commits(
+    store: &[u8],
+    station: Station,
+    told: &[u16],
+    settled: usize,
+    gained: &mut [u16],
+) -> Merged
+    requires { ⌜ (Form (now store)) × (wellFormed (stateOf (now store)) ≡ true) × (Loads station (now store)) × (Told (now store) (now told)) × (ToldIn (now store) (now told) station settled) × (length (now gained) ≡ mostStatementsLarge) ⌝ }
     ensures { λ r. ⌜ Committed (now (store .entry)) (now (gained .exit)) r ⌝ }
 {
     let logged = station.logged;
@@ -314,7 +407,9 @@ pub fn commits(store: &[u8], station: Station, gained: &mut [u16]) -> Merged
     let mut chain = [0u16; Settings::MOST_STATEMENTS_LARGE];
     commit_due(
         store,
+        told,
         station.statements,
+        settled,
         logged,
         station.view,
         wait,

@@ -7,7 +7,7 @@ use lib.Count.{onesIn, ones}
 use lib.Pow.{field, mod-mod-pow}
 use Rattle.rules.specs.Limits.{maskBits}
 use Rattle.rules.specs.Sizes.{count}
-use Rattle.rules.proofs.Masks.{count-ones}
+use Rattle.laws.proofs.Masks.{count-ones}
 
 low-ones : (k m : ℕ) → onesIn k (m % 2 ^ k) ≡ onesIn k m
 unfolding onesIn

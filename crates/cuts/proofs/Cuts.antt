@@ -9,8 +9,8 @@ use lib.ListN.{length}
 use lib.Dec.{eqb}
 use Rattle.rules.specs.Sizes.{Settings, goodSettings}
 use Rattle.rules.specs.Words.{State, fresh}
-use Rattle.rules.proofs.Tests.{by-bool}
-use Rattle.rules.proofs.Searches.{All}
+use Rattle.laws.proofs.Tests.{by-bool}
+use Rattle.laws.proofs.Searches.{All}
 use Rattle.store.specs.Decode.{decode, encode}
 use Rattle.oneform.proofs.OneForm.{fresh-encoded}
 use Rattle.slots.specs.Slots.{slotLength, isInput, recordBytes, Written, written, Slot, blank, torn, bad, whole}

@@ -7,7 +7,7 @@ use native.Mathlib.Omega.{arith}
 use native.Mathlib.Nat.{add-zero}
 use lib.ListN.{length, take, replicate}
 use lib.Dec.{eqb}
-use Rattle.rules.proofs.Tests.{by-bool, no-bool, eqb-self}
+use Rattle.laws.proofs.Tests.{by-bool, no-bool, eqb-self}
 use Rattle.slots.specs.Slots.{Slot, blank, torn, bad, whole}
 use Rattle.replay.specs.Replay.{handed, isTaken, Replay, ends, skipping, replayFrom}
 use Rattle.cuts.specs.Disk.{Try}

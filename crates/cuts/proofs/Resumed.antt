@@ -10,8 +10,8 @@ use Rattle.rules.specs.Limits.{Size, leastOut}
 use Rattle.rules.specs.Lists.{unbe}
 use Rattle.rules.specs.Sizes.{goodSettings}
 use Rattle.rules.specs.Words.{fresh}
-use Rattle.rules.proofs.Tests.{by-bool}
-use Rattle.rules.proofs.Searches.{All}
+use Rattle.laws.proofs.Tests.{by-bool}
+use Rattle.laws.proofs.Searches.{All}
 use Rattle.fields.specs.Places.{Bytes}
 use Rattle.agreement.specs.Schedule.{Event, idle, commonTick, tickOf, given, offeredTo, settingsOf, IsLent, at, happens}
 use Rattle.store.specs.Layout.{storeLength}

@@ -59,11 +59,6 @@ module _ (s : List ℕ) (n : length s ≡ slotLength) (e : judged s ≡ blank) (
   unfolding isBlank
   zero-at x h = zero-byte s slotLength x (eqb-true (number s 0 slotLength) 0 (blank-only s e)) h
 
-  -- cut before the first byte
-  pub stored-none : judged (storing 0 made s) ≡ blank
-  unfolding storing
-  stored-none = e
-
   -- cut after the first byte and before the last
   pub stored-some : (m : ℕ) → 0 < m → m < slotLength → judged (storing m made s) ≡ torn
   stored-some m h l =

@@ -7,8 +7,8 @@ use native.Mathlib.Omega.{arith}
 use lib.ListN.{length, take, drop, replicate, take-append-drop}
 use lib.Seq.{drop-drop}
 use borrow.Author.Tests.{eqb-true, eqb-false}
-use Rattle.rules.proofs.Tests.{by-bool, eqb-self}
-use Rattle.rules.proofs.Searches.{All}
+use Rattle.laws.proofs.Tests.{by-bool, eqb-self}
+use Rattle.laws.proofs.Searches.{All}
 use Rattle.slots.specs.Slots.{slotLength, recordBytes, judged, Slot, blank, torn, whole}
 use Rattle.journal.specs.Journal.{slotCount, slotAt, withSlot, slotsFrom, slotsOf, free, nowhere, Room, roomFrom, roomIn}
 use Rattle.cuts.specs.Disk.{Try, Proper, storing, tryIn, trying, tryAll, Zeroed}

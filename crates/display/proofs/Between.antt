@@ -17,10 +17,10 @@ use Rattle.rules.specs.Inputs.{Work, saying, withPhase, withTables, isIn, quit,
 use Rattle.rules.specs.Refusals.{done, refused, stopping, hasRoom, ifRoom, running, step, offer, tick}
 use Rattle.rules.specs.WellFormed.{wellFormed}
 use Rattle.rules.specs.Display.{Shown, isShown, dueClock, shown, showingAll, display}
-use Rattle.rules.proofs.Answers.{by-step}
-use Rattle.rules.proofs.Tests.{by-bool, by-option, no-bool}
-use Rattle.rules.proofs.Searches.{by-mem}
-use Rattle.rules.proofs.Moves.{voting-low, voting-high}
+use Rattle.laws.proofs.Answers.{by-step}
+use Rattle.laws.proofs.Tests.{by-bool, by-option, no-bool}
+use Rattle.laws.proofs.Searches.{by-mem}
+use Rattle.laws.proofs.Moves.{voting-low, voting-high}
 use Rattle.display.proofs.Shown.{Shows, shows, shown-mem, waiting-shows-none, stopped-shows-none}
 use Rattle.display.proofs.Numbers.{not-come}
 use Rattle.display.proofs.Still.{stored-shown, blamed-shown, joined-shown}

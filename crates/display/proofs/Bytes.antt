@@ -16,12 +16,12 @@ use Rattle.rules.specs.Messages.{field}
 use Rattle.rules.specs.Words.{Statement, inView, State}
 use Rattle.rules.specs.Inputs.{isIn}
 use Rattle.rules.specs.Display.{Shown, isLogged, isShown, dueClock, shown, showing, showingAll, display, twos, entry, entries}
-use Rattle.rules.proofs.Tests.{by-bool, by-option}
-use Rattle.rules.proofs.Bytes.{length-unbe}
+use Rattle.laws.proofs.Tests.{by-bool, by-option}
+use Rattle.laws.proofs.Bytes.{length-unbe}
 use Rattle.fields.specs.Places.{put}
 use Rattle.wire.specs.Fields.{head}
 use Rattle.outgoing.specs.Wrote.{Says}
-use Rattle.rules.proofs.Lengths.{length-field}
+use Rattle.laws.proofs.Lengths.{length-field}
 use Rattle.outgoing.proofs.Writing.{says-none, says-both, put-says, field-says}
 use Rattle.store.specs.Layout.{statementTable, logTable, countOf}
 use Rattle.store.specs.Decode.{rows, statementAt, nameAt, statements, names, stateFrom, stateOf}

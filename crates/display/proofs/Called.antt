@@ -11,7 +11,7 @@ use borrow.Author.Tests.{eqb-true, le-leb, lt-leb, not-true, not-false}
 use Rattle.rules.specs.Limits.{leastOut}
 use Rattle.rules.specs.WellFormed.{wellFormed}
 use Rattle.rules.specs.Display.{display, entries}
-use Rattle.rules.proofs.Tests.{and-left}
+use Rattle.laws.proofs.Tests.{and-left}
 use Rattle.fields.specs.Places.{Bytes}
 use Rattle.outgoing.specs.Wrote.{Says}
 use Rattle.outgoing.proofs.Writing.{wrote-prefix}

@@ -14,12 +14,12 @@ use Rattle.rules.specs.Words.{Statement, sameStatement, inView, waiting, State}
 use Rattle.rules.specs.Inputs.{Work, saying, _▸_, withPhase, withClock, withTables, withLog, entering, isIn, quit, belowLock, noted, votedFor, blameFull, due, commits, logging, overdue, complain, leads, leadsNow, lead, entersNow, entered, current, pair, inOrder, votingAll, enter}
 use Rattle.rules.specs.Refusals.{done, running, tick}
 use Rattle.rules.specs.Display.{Shown, dueClock, shown, display}
-use Rattle.rules.proofs.Tests.{by-bool, by-option, no-bool, no-some}
-use Rattle.rules.proofs.Truths.{and-2}
-use Rattle.rules.proofs.Searches.{by-mem, any-mem}
-use Rattle.rules.proofs.Statements.{same-like, same-sym, same-cong, noted-same, mem-in, in-keep, in-order}
-use Rattle.rules.proofs.Moves.{arrived, counted, voting-low, voting-high, arrive-full, arrive-pair, arrive-clean, ticked-none, ticked-some, tick-done}
-use Rattle.rules.proofs.Kept.{no-phase, in-true, votingAll-fixed}
+use Rattle.laws.proofs.Tests.{by-bool, by-option, no-bool, no-some}
+use Rattle.laws.proofs.Truths.{and-2}
+use Rattle.laws.proofs.Searches.{by-mem, any-mem}
+use Rattle.laws.proofs.Statements.{same-like, same-sym, same-cong, noted-same, mem-in, in-keep, in-order}
+use Rattle.laws.proofs.Moves.{arrived, counted, voting-low, voting-high, arrive-full, arrive-pair, arrive-clean, ticked-none, ticked-some, tick-done}
+use Rattle.laws.proofs.Kept.{no-phase, in-true, votingAll-fixed}
 use Rattle.kept.proofs.Lists.{distinct-alter}
 use Rattle.display.proofs.Shown.{shown-parts, shows}
 

@@ -10,8 +10,8 @@ use lib.Signed.{leZ}
 use borrow.Author.Tests.{lt-ltb, le-ltb, ltb-true, ltb-false, leb-true}
 use Rattle.rules.specs.Lists.{be, unbe}
 use Rattle.rules.specs.Display.{twos, signed}
-use Rattle.rules.proofs.Tests.{by-bool}
-use Rattle.rules.proofs.Bytes.{be-unbe}
+use Rattle.laws.proofs.Tests.{by-bool}
+use Rattle.laws.proofs.Bytes.{be-unbe}
 
 signed-pos : (n : ℕ) → n < 2 ^ 63 → signed (twos (pos n)) ≡ pos n
 unfolding twos signed

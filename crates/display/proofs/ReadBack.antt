@@ -8,7 +8,7 @@ use Rattle.rules.specs.Lists.{be, unbe}
 use Rattle.rules.specs.Words.{State}
 use Rattle.rules.specs.WellFormed.{wellFormed}
 use Rattle.rules.specs.Display.{Shown, dueClock, shown, display, twos, signed}
-use Rattle.rules.proofs.Bytes.{be-unbe}
+use Rattle.laws.proofs.Bytes.{be-unbe}
 use Rattle.kept.proofs.WellFormed.{parts}
 use Rattle.kept.proofs.Facts.{sizes-of, clocks-of, statement-of, statement-limits, vote-clock}
 use Rattle.display.proofs.Shown.{shows}

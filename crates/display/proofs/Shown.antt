@@ -8,9 +8,9 @@ use borrow.Author.Tests.{not-true}
 use Rattle.rules.specs.Words.{Statement, Phase, Cause, inView, waiting, stopped, State}
 use Rattle.rules.specs.Inputs.{isIn}
 use Rattle.rules.specs.Display.{Shown, isLogged, isShown, shown, showing, showingAll, display}
-use Rattle.rules.proofs.Tests.{by-bool, by-option}
-use Rattle.rules.proofs.Truths.{and-3}
-use Rattle.rules.proofs.Searches.{by-mem}
+use Rattle.laws.proofs.Tests.{by-bool, by-option}
+use Rattle.laws.proofs.Truths.{and-3}
+use Rattle.laws.proofs.Searches.{by-mem}
 
 -- ---- one statement
 

@@ -13,10 +13,10 @@ use Rattle.rules.specs.Words.{Statement, message, sameStatement, inView, waitin
 use Rattle.rules.specs.Inputs.{withPhase, withClock, withTables, withBlames, withLog, entering, isIn, noted, votedFor, stored, blamed, ownNewView}
 use Rattle.rules.specs.Refusals.{running, tick}
 use Rattle.rules.specs.Display.{Shown, isShown, dueClock, shown, showing, showingAll, display}
-use Rattle.rules.proofs.Tests.{by-bool}
-use Rattle.rules.proofs.Statements.{same-like}
-use Rattle.rules.proofs.Moves.{Outside, Origin, handed, led, made, Move, joins, stores, passes, casts, clashes, accuses, fills, complains, entersFull, entersPair, enters, Moves, here, more, counted, logAfter, tick-moves}
-use Rattle.rules.proofs.Kept.{no-phase, waiting-clock, enters-at}
+use Rattle.laws.proofs.Tests.{by-bool}
+use Rattle.laws.proofs.Statements.{same-like}
+use Rattle.laws.proofs.Moves.{Outside, Origin, handed, led, made, Move, joins, stores, passes, casts, clashes, accuses, fills, complains, entersFull, entersPair, enters, Moves, here, more, counted, logAfter, tick-moves}
+use Rattle.laws.proofs.Kept.{no-phase, waiting-clock, enters-at}
 use Rattle.display.proofs.Shown.{not-voted, new-view-none, shown-append, shown-one}
 
 -- nothing comes from outside in a tick

@@ -21,12 +21,12 @@ use Rattle.rules.specs.Inputs.{withClock, withLog, isIn, isBlock, chainTo, chai
 use Rattle.rules.specs.Refusals.{refused, running, tick}
 use Rattle.rules.specs.WellFormed.{wellFormed}
 use Rattle.rules.specs.Display.{Shown, isLogged, isShown, dueClock, shown, showing, showingAll, display}
-use Rattle.rules.proofs.Tests.{by-bool, by-option, no-bool, no-some}
-use Rattle.rules.proofs.Truths.{and-3}
-use Rattle.rules.proofs.Searches.{by-mem, all-of}
-use Rattle.rules.proofs.Moves.{Moves, counted, logAfter, news, tick-moves}
-use Rattle.rules.proofs.Kept.{by-phase, in-true, moves-fixed}
-use Rattle.rules.proofs.Commits.{commits-some, facts-due, moves-messages}
+use Rattle.laws.proofs.Tests.{by-bool, by-option, no-bool, no-some}
+use Rattle.laws.proofs.Truths.{and-3}
+use Rattle.laws.proofs.Searches.{by-mem, all-of}
+use Rattle.laws.proofs.Moves.{Moves, counted, logAfter, news, tick-moves}
+use Rattle.laws.proofs.Kept.{by-phase, in-true, moves-fixed}
+use Rattle.laws.proofs.Commits.{commits-some, facts-due, moves-messages}
 use Rattle.kept.proofs.WellFormed.{parts}
 use Rattle.kept.proofs.Facts.{statement-of}
 use Rattle.display.proofs.Shown.{not-voted, not-shown, is-shown, shown-parts, shows, waiting-shows-none, stopped-shows-none}

@@ -13,10 +13,10 @@ use Rattle.fields.specs.Places as places
 use Rattle.fields.specs.Places.{number}
 use Rattle.rules.specs.Lists.{unbe}
 use Rattle.rules.specs.Messages.{field}
-use Rattle.rules.proofs.Bytes.{Bytes, none as no-bytes, one, bytes-split}
-use Rattle.rules.proofs.Tests.{by-bool, by-option, no-some}
-use Rattle.rules.proofs.Truths.{and-3, both}
-use Rattle.rules.proofs.Lengths.{length-field}
+use Rattle.laws.proofs.Bytes.{Bytes, none as no-bytes, one, bytes-split}
+use Rattle.laws.proofs.Tests.{by-bool, by-option, no-some}
+use Rattle.laws.proofs.Truths.{and-3, both}
+use Rattle.laws.proofs.Lengths.{length-field}
 use Rattle.slots.specs.Slots.{isReadable}
 use Rattle.envelope.specs.Items.{Items, end, message, envelope, envelopeTag, messageTag, bytesOf, joined, Held}
 use Rattle.envelope.specs.Reading.{mostBytes, mostDepth, isWhole, valueIn, restIn, itemOf, itemIn, itemsFrom, inside, isOpened, envelopeIn}

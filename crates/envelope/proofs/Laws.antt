@@ -10,9 +10,9 @@ use lib.Seq.{take-append-seam, drop-append-seam, drop-drop}
 use Rattle.fields.specs.Places as places
 use Rattle.rules.specs.Lists.{unbe}
 use Rattle.rules.specs.Messages.{field}
-use Rattle.rules.proofs.Bytes.{Bytes}
-use Rattle.rules.proofs.Tests.{by-option}
-use Rattle.rules.proofs.Lengths.{length-field}
+use Rattle.laws.proofs.Bytes.{Bytes}
+use Rattle.laws.proofs.Tests.{by-option}
+use Rattle.laws.proofs.Lengths.{length-field}
 use Rattle.slots.specs.Slots.{isReadable}
 use Rattle.envelope.specs.Items.{Items, end, message, envelope, envelopeTag, messageTag, bytesOf, messagesOf, Place, partAt, placesOf, Held}
 use Rattle.envelope.specs.Reading.{inside, envelopeIn}

@@ -13,14 +13,14 @@ use Rattle.fields.specs.Places.{number, put}
 use Rattle.fields.proofs.Laws.{length-put}
 use Rattle.fields.proofs.Lists.{number-drop}
 use Rattle.outgoing.specs.Wrote.{wrote}
-use Rattle.rules.proofs.Lengths.{length-field, length-write, size-least}
+use Rattle.laws.proofs.Lengths.{length-field, length-write, size-least}
 use Rattle.outgoing.proofs.Writing.{wrote-append, put-wrote}
 use Rattle.rules.specs.Lists.{unbe}
 use Rattle.rules.specs.Messages as messages
 use Rattle.rules.specs.Messages.{field, read, write}
-use Rattle.rules.proofs.Bytes.{Bytes, bytes-split}
-use Rattle.rules.proofs.ReadBack.{write-read}
-use Rattle.rules.proofs.Tests.{by-option, no-bool}
+use Rattle.laws.proofs.Bytes.{Bytes, bytes-split}
+use Rattle.laws.proofs.ReadBack.{write-read}
+use Rattle.laws.proofs.Tests.{by-option, no-bool}
 use Rattle.slots.specs.Slots.{isReadable}
 use Rattle.envelope.specs.Items.{Items, end, message, envelope, envelopeTag, messageTag, bytesOf, joined, Place, placesOf, listBytes, Held}
 use Rattle.envelope.specs.Reading.{mostBytes, envelopeIn, listOf, isEnvelope, listIn}

@@ -81,9 +81,6 @@ put-number s b at (suc w) =
     let hi : number s at (suc w) / 256 ≡ number s at w = omega (arith, b (at + w)) in
     rw (lo, hi, set-getD s (at + w) 0) (put-number s b at w)
 
-pub put-same : (s : List ℕ) → Bytes s → (at w v : ℕ) → number s at w ≡ v → put s at w v ≡ s
-put-same s b at w v e = rw (← e) (put-number s b at w)
-
 -- what is written is bytes again
 pub bytes-set : (s : List ℕ) → Bytes s → (i x : ℕ) → x < 256 → Bytes (set s i x)
 bytes-set [] b i x h k = b k

@@ -98,12 +98,3 @@ piece-put d b s at h =
     (λ i p.
     let q : i < w = omega arith in
     getD-take w (drop at s′) i 0 q ∙ getD-drop at s′ i 0 ∙ rw zero-add at (getD-put d b 0 s at w i h q))
-
-pub put-list : (d : List ℕ) → Bytes d → (s : List ℕ) (at : ℕ) → at + length d ≤ length s
-    → put s at (length d) (number d 0 (length d)) ≡ take at s ++ (d ++ drop (at + length d) s)
-put-list d b s at h =
-    let w = length d in
-    let s′ = put s at w (number d 0 w) in
-    let rest : drop w (drop at s′) ≡ drop (at + w) s = drop-drop w at s′ ∙ drop-put (at + w) s at w (number d 0 w) (omega arith) in
-    sym (take-append-drop at s′)
-    ∙ ap₂ _++_ (take-put at s at w (number d 0 w) (omega arith)) (sym (take-append-drop w (drop at s′)) ∙ ap₂ _++_ (piece-put d b s at h) rest)

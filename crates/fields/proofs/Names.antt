@@ -31,9 +31,6 @@ unfolding nameOf
 name-lt n p q r t =
     digit-lt (2 ^ 64) _ (2 ^ 192) (n .fourth) 0 t (digit-lt (2 ^ 64) _ (2 ^ 128) (n .third) 0 r (digit-lt (2 ^ 64) (n .first) (2 ^ 64) (n .second) 0 q p))
 
-pub words-lt : (n : Name) → Words n → nameOf n < 256 ^ 32
-words-lt n k = name-lt n (k .0 .fits) (k .1 .0 .fits) (k .1 .1 .0 .fits) (k .1 .1 .1 .0 .fits)
-
 -- the number of 32 bytes by its words
 pub number-words : (s : List ℕ) (at : ℕ) → number s at 32 ≡ more (more (more (number s at 8) (number s (at + 8) 8)) (number s (at + 16) 8)) (number s (at + 24) 8)
 number-words s at =
@@ -73,19 +70,6 @@ module _ (n m : Name) (p : Words n) (q : Words m) where
   high-fourth : nameOf n ≡ nameOf m → n₃ ≡ m₃
   unfolding nameOf
   high-fourth = digit-high (2 ^ 64) n₃ m₃ (n .fourth) (m .fourth) (p .1 .1 .1 .0 .fits) (q .1 .1 .1 .0 .fits)
-
-  -- names of one number are one name
-  pub name-inj : nameOf n ≡ nameOf m → n ≡ m
-  unfolding nameOf
-  name-inj e =
-      let e₃ = high-fourth e in
-      let e₂ = high-third e₃ in
-      let a = high-second e₂ in
-      let b = digit-low (2 ^ 64) (n .first) (m .first) (n .second) (m .second) (p .1 .0 .fits) (q .1 .0 .fits) e₂ in
-      let c = digit-low (2 ^ 64) n₂ m₂ (n .third) (m .third) (p .1 .1 .0 .fits) (q .1 .1 .0 .fits) e₃ in
-      let d = digit-low (2 ^ 64) n₃ m₃ (n .fourth) (m .fourth) (p .1 .1 .1 .0 .fits) (q .1 .1 .1 .0 .fits) e in
-      let r : name (n .first) (n .second) (n .third) (n .fourth) ≡ name (m .first) (m .second) (m .third) (m .fourth) = cc in
-      r
 
   -- an or of the words' differences tells names apart
   pub same-name : eqb (bitOr (bitOr (bitOr (bitXor (n .first) (m .first)) (bitXor (n .second) (m .second))) (bitXor (n .third) (m .third))) (bitXor (n .fourth) (m .fourth))) 0

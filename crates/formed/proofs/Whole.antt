@@ -1,7 +1,7 @@
 -- The whole definition by its parts, and what the answer says of decoding. Assumes nothing.
 use Prim.Native.Nat.{ℕ, _≤_}
 use mathlib.Core.Path.{_≡_, refl, sym, ap, _∙_}
-use mathlib.Core.Bool.{Bool, true, false, not, _&&_, and-true}
+use mathlib.Core.Bool.{Bool, true, false, not, _&&_, and-true, false≢true}
 use mathlib.Core.List.{List}
 use mathlib.Core.Option.{none, some}
 use native.Mathlib.Omega.{arith}
@@ -13,8 +13,8 @@ use Rattle.rules.specs.Sizes.{Settings, goodSettings}
 use Rattle.rules.specs.Messages.{viewAllowed}
 use Rattle.rules.specs.Words.{Statement, sameStatement, Tally}
 use Rattle.rules.specs.WellFormed.{clocksInOrder, lockGood, statementGood, tallyGood, sameTally, talliesThere, blamesGood, linked, fewOpened, wellFormed}
-use Rattle.rules.proofs.Tests.{and-left, and-right}
-use Rattle.rules.proofs.Allowed.{sizes}
+use Rattle.laws.proofs.Tests.{and-left, and-right}
+use Rattle.laws.proofs.Allowed.{sizes}
 use Rattle.fields.specs.Records.{fields}
 use Rattle.settings.specs.Made.{sizeFrom, settingsOf}
 use Rattle.store.specs.Layout.{sizeIn, headerFormat, storeLength, statementTable, countOf}
@@ -24,7 +24,7 @@ use Rattle.store.specs.declared.Station.{Station}
 use Rattle.store.proofs.Rows.{rows-length, rows-all}
 use Rattle.heading.specs.Lent.{Lent, Counts, alone}
 use Rattle.stated.specs.Stated.{AllCertify}
-use Rattle.formed.specs.Ready.{Ready, tablesGood}
+use Rattle.formed.specs.Ready.{Ready, tablesGood, Telling}
 use Rattle.heading.proofs.Forms.{form-tables, counts-statements, counts-tallies, counts-log}
 use Rattle.stated.proofs.Parts.{good-certifies}
 
@@ -48,6 +48,10 @@ state-is b = refl
 grouped : (x a b c d e f : Bool) → (x && (a && b && c && d && e && f)) ≡ (x && a && b && c && d && e && f)
 grouped true a b c d e f = refl
 grouped false a b c d e f = refl
+
+-- where the answer is no, nothing is told
+pub untold : {good : Bool} {b t : List ℕ} → false ≡ good → Telling good b false t
+untold e = record { is = e; told = λ q. absurd (false≢true q) }
 
 -- where a tally is not good or two are of one block nothing else of the tables counts
 module _ (g : Settings) (now : ℕ) (b : List ℕ) (r : Bool) (e : r ≡ (all (tallyGood g now) (tallies b) && distinct sameTally (tallies b))) where

@@ -1,7 +1,7 @@
 -- A lent store whose form, heading and statements are good, and what is left of the definition then. Assumes nothing.
 use Prim.Native.Nat.{ℕ, _≤_}
 use mathlib.Core.Path.{_≡_}
-use mathlib.Core.Bool.{Bool, _&&_}
+use mathlib.Core.Bool.{Bool, true, _&&_}
 use mathlib.Core.List.{List}
 use Rattle.rules.specs.Limits.{mostStations}
 use Rattle.rules.specs.Lists.{all, distinct}
@@ -13,6 +13,7 @@ use Rattle.store.specs.Decode.{statements, tallies, blames, names}
 use Rattle.store.specs.declared.Station.{Station}
 use Rattle.heading.specs.Lent.{Counts}
 use Rattle.stated.specs.Stated.{AllCertify}
+use Rattle.linked.specs.Told.{Told}
 
 -- the limits of the store, every table's count in range, statements that certify, and not too many stations
 pub record Ready (b : List ℕ) (s : Station) : Type 0 where
@@ -28,3 +29,8 @@ unfoldable pub tablesGood : Settings → ℕ → List ℕ → Bool
 tablesGood g now b =
     all (tallyGood g now) (tallies b) && distinct sameTally (tallies b) && all (talliesThere (tallies b)) (statements b)
     && blamesGood g (blames b) && linked (statements b) 0 0 (names b) && fewOpened (g .n) (tallies b)
+
+-- the exact answer, and what the log tells, where it is yes
+pub record Telling (good : Bool) (b : List ℕ) (r : Bool) (t : List ℕ) : Type 0 where
+  pub is : r ≡ good
+  pub told : r ≡ true → Told b t

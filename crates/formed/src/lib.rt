@@ -2,12 +2,13 @@
 // Any bytes of a store's length are taken; parts after the form know that the counts are in range.
 ghost use mathlib.Core.Path.{_≡_};
 ghost use mathlib.Core.Bool.{_&&_};
-ghost use lib.ListN.{length};
+ghost use lib.ListN.{length, replicate};
+ghost use Rattle.rules.specs.Limits.{mostStatementsLarge};
 ghost use Rattle.rules.specs.WellFormed.{wellFormed};
 ghost use Rattle.settings.specs.Made.{settingsOf};
 ghost use Rattle.store.specs.Layout.{sizeIn, storeLength};
 ghost use Rattle.store.specs.Decode.{stateOf, hasForm};
-ghost use Rattle.formed.specs.Ready.{Ready, tablesGood};
+ghost use Rattle.formed.specs.Ready.{Ready, tablesGood, Telling};
 use chains::CHAINS;
 use heading::blames;
 use heading::form;
@@ -19,10 +20,15 @@ use store::Station;
 use tallied::apart;
 use tallied::openers;
 
-// Whether tallies, blame masks and log are well formed, where the statements are.
-fn tables_good(store: &[u8], station: Station, salt: u64) -> bool
-    requires { ⌜ Ready (now store) station ⌝ }
-    ensures { λ r. ⌜ r ≡ tablesGood (settingsOf (station .settings)) (station .clock) (now (store .entry)) ⌝ }
+// Whether tallies, blame masks and log are well formed, where the statements are; and what the log tells.
+fn tables_good(
+    store: &[u8],
+    station: Station,
+    salt: u64,
+    told: &mut [u16; Settings::MOST_STATEMENTS_LARGE],
+) -> bool
+    requires { ⌜ Ready (now store) station × (now told ≡ replicate mostStatementsLarge 0) ⌝ }
+    ensures { λ r. ⌜ Telling (tablesGood (settingsOf (station .settings)) (station .clock) (now (store .entry))) (now (store .entry)) r (now (told .exit)) ⌝ }
 {
     let settings = station.settings;
     let count = station.tallies;
@@ -42,14 +48,14 @@ fn tables_good(store: &[u8], station: Station, salt: u64) -> bool
     }
     there::all_there(store, salt, count, &heads, &nexts, station.statements)
         & blames::all_good(store, settings)
-        & linked::is_linked(store, station.logged, station.statements)
+        & linked::is_linked(store, station.logged, station.statements, told)
         & openers::few_opened(store, settings, count)
 }
 
-// Whether a store of the exact length is well formed.
-pub fn well_formed(store: &[u8]) -> bool
-    requires { ⌜ length (now store) ≡ storeLength (sizeIn (now store)) ⌝ }
-    ensures { λ r. ⌜ r ≡ (hasForm (now (store .entry)) && wellFormed (stateOf (now (store .entry)))) ⌝ }
+// Whether a store of the exact length is well formed; and if it is, what its log tells.
+pub fn well_formed_told(store: &[u8], told: &mut [u16; Settings::MOST_STATEMENTS_LARGE]) -> bool
+    requires { ⌜ (length (now store) ≡ storeLength (sizeIn (now store))) × (now told ≡ replicate mostStatementsLarge 0) ⌝ }
+    ensures { λ r. ⌜ Telling (hasForm (now (store .entry)) && wellFormed (stateOf (now (store .entry)))) (now (store .entry)) r (now (told .exit)) ⌝ }
 {
     let station = Station::load(store);
     if !form::has_form(store, station) {
@@ -62,5 +68,14 @@ pub fn well_formed(store: &[u8]) -> bool
     if !good {
         return false;
     }
-    tables_good(store, station, salt)
+    tables_good(store, station, salt, told)
+}
+
+// Whether a store of the exact length is well formed.
+pub fn well_formed(store: &[u8]) -> bool
+    requires { ⌜ length (now store) ≡ storeLength (sizeIn (now store)) ⌝ }
+    ensures { λ r. ⌜ r ≡ (hasForm (now (store .entry)) && wellFormed (stateOf (now (store .entry)))) ⌝ }
+{
+    let mut told = [0u16; Settings::MOST_STATEMENTS_LARGE];
+    well_formed_told(store, &mut told)
 }

@@ -16,8 +16,8 @@ use Rattle.settings.specs.Made.{made, pick, sizeFrom}
 use Rattle.settings.specs.declared.Size as declared-size
 use Rattle.settings.specs.declared.Settings as declared
 use Rattle.settings.specs.declared.Made.the-variants.{Good, Bad}
-use Rattle.rules.proofs.Tests.{by-bool, and-left, and-right}
-use Rattle.rules.proofs.Bytes.{pow-pos}
+use Rattle.laws.proofs.Tests.{by-bool, and-left, and-right}
+use Rattle.laws.proofs.Bytes.{pow-pos}
 use Rattle.fields.specs.Places.{number, put, Bytes}
 use Rattle.fields.specs.Records.{fields, puts, Fit}
 use Rattle.fields.proofs.Laws.{number-put-same, number-split, length-put, bytes-put}
@@ -27,8 +27,8 @@ use Rattle.fresh.specs.Fresh.{answer, freshly}
 use Rattle.store.proofs.Kept.{zero-end}
 use Rattle.store.proofs.Tables.{Holds}
 use Rattle.store.proofs.Forms.{left, sized}
-use Rattle.store.proofs.OneForm.{left-bytes}
-use Rattle.store.proofs.Changes.{put-station}
+use Rattle.oneform.proofs.Held.{left-bytes}
+use Rattle.records.proofs.Changes.{put-station}
 
 -- ---- a cleared store
 

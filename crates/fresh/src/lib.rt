@@ -42,6 +42,6 @@ pub fn fresh(store: &mut [u8], n: u64, d: u64, own: u64) -> u64
     };
     let whole = store.len();
     fields::clear(store, 0, whole);
-    starting(settings).save(store);
+    records::save(starting(settings), store);
     0
 }

@@ -5,7 +5,7 @@ use mathlib.Core.Option.{none}
 use borrow.Author.Tests.{ne-eqb}
 use Rattle.rules.specs.Limits.{small, large, leastDelay}
 use Rattle.rules.specs.Sizes.{goodSettings}
-use Rattle.rules.proofs.Tests.{by-bool}
+use Rattle.laws.proofs.Tests.{by-bool}
 use Rattle.settings.specs.Made.{madeOf, made}
 use Rattle.settings.specs.declared.Size.the-variants.{Small, Large}
 use Rattle.settings.specs.declared.Made.{Made}

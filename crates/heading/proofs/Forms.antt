@@ -8,8 +8,8 @@ use lib.Dec.{leb, eqb}
 use borrow.Author.Tests.{not-true, not-false, leb-true, eq-eqb}
 use Rattle.rules.specs.Limits.{mostStatementsLarge, mostTalliesLarge}
 use Rattle.rules.specs.Lists.{all, within}
-use Rattle.rules.proofs.Bounds.{statements-most, tallies-most}
-use Rattle.rules.proofs.Tests.{and-left, and-right}
+use Rattle.laws.proofs.Bounds.{statements-most, tallies-most}
+use Rattle.laws.proofs.Tests.{and-left, and-right}
 use Rattle.fields.specs.Places.{number}
 use Rattle.store.specs.Layout.{sizeIn, Table, statementTable, tallyTable, logTable, countOf}
 use Rattle.store.specs.Decode.{tableFits, kinds, hasForm}
@@ -46,6 +46,12 @@ used-room : (t : Table) (b : List ℕ) (n : ℕ) → used t b n ≡ true → n �
 unfolding fits
 used-room t b n e = leb-true n (t .room (sizeIn b)) (and-left (leb n (t .room (sizeIn b))) _ e)
 
+-- the tests of a store's three tables
+pub record Tested (b : List ℕ) (s : Station) (x y z : Bool) : Type 0 where
+  pub statements : x ≡ used statementTable b (s .statements)
+  pub tallies : y ≡ used tallyTable b (s .tallies)
+  pub log : z ≡ used logTable b (s .logged)
+
 module _ (b : List ℕ) (s : Station) (h : Lent b s) where
   abbrev xs : Bool
   xs = used statementTable b (s .statements)
@@ -80,9 +86,9 @@ module _ (b : List ℕ) (s : Station) (h : Lent b s) where
   form-tables e = and-left (xs && ts && l) _ (form-is ∙ e)
 
   -- the same, as the code tests them
-  module _ (x y z : Bool) (p : x ≡ xs) (q : y ≡ ts) (r : z ≡ l) where
+  module _ {x y z : Bool} (t : Tested b s x y z) where
     tests : (x && y && z) ≡ (xs && ts && l)
-    tests = rw (p, q, r)
+    tests = rw (t .statements, t .tallies, t .log)
 
     pub tests-fail : not (x && y && z) ≡ true → false ≡ hasForm b
     tests-fail e = ap (_&& all (within 1 2) (kinds b)) (sym (not-true (x && y && z) e) ∙ tests) ∙ form-is

@@ -13,7 +13,7 @@ use Rattle.rules.specs.Sizes as sizes
 use Rattle.rules.specs.Sizes.{goodSettings}
 use Rattle.rules.specs.Messages.{blockAllowed, certificateAllowed}
 use Rattle.rules.specs.WellFormed.{isName, isMask, clocksInOrder, lockGood, blamesGood}
-use Rattle.rules.proofs.Tests.{by-bool}
+use Rattle.laws.proofs.Tests.{by-bool}
 use Rattle.fields.specs.declared.Name.{Name}
 use Rattle.fields.specs.Names.{nameOf}
 use Rattle.fields.proofs.Names.{Words, name-lt}

@@ -7,7 +7,7 @@ use mathlib.Core.List.{List, []}
 use native.Mathlib.Omega.{arith}
 use native.Mathlib.Nat.{sub-zero}
 use Rattle.rules.specs.Lists.{all, any, distinct}
-use Rattle.rules.proofs.Tests.{by-bool}
+use Rattle.laws.proofs.Tests.{by-bool}
 use Rattle.store.specs.Decode.{rows}
 use Rattle.store.proofs.Rows.{rows-from}
 
@@ -33,24 +33,9 @@ module _ {A : Type 0} (f : ℕ → A) (n : ℕ) where
     unfolding all
     all-next h t = ap (all p) (rows-from f i n h) ∙ rw t
 
-    pub any-end : n ≤ i → any p (rows f i (n - i)) ≡ false
-    unfolding any
-    any-end h = ap (any p) (rows-end i h)
-
     pub any-here : i < n → p (f i) ≡ true → any p (rows f i (n - i)) ≡ true
     unfolding any
     any-here h t = ap (any p) (rows-from f i n h) ∙ rw (t, any)
-
-    pub any-next : i < n → p (f i) ≡ false → any p (rows f i (n - i)) ≡ any p (rows f (i + 1) (n - (i + 1)))
-    unfolding any
-    any-next h t = ap (any p) (rows-from f i n h) ∙ rw (t, any)
-
-    -- a loop that looks at all of them joins what it met
-    pub any-joins : i < n → (met : Bool) → (met || any p (rows f i (n - i))) ≡ ((met || p (f i)) || any p (rows f (i + 1) (n - (i + 1))))
-    unfolding any
-    any-joins h met =
-        ap (λ (xs : List A). met || any p xs) (rows-from f i n h)
-        ∙ by-bool (p (f i)) (λ t. rw (t, any, or-true)) (λ t. rw (t, any, or-false))
 
   module _ (same : A → A → Bool) (i : ℕ) where
     pub distinct-end : n ≤ i → distinct same (rows f i (n - i)) ≡ true
@@ -69,9 +54,6 @@ module _ {A : Type 0} (f : ℕ → A) (n : ℕ) where
       pub distinct-next : any (same (f i)) rest ≡ false → distinct same (rows f i (n - i)) ≡ distinct same rest
       unfolding distinct
       distinct-next t = ap (distinct same) (rows-from f i n h) ∙ rw t
-
-pub any-alike : {A B : Type 0} (same : A → B → Bool) {x y : A} (xs : List B) → x ≡ y → any (same x) xs ≡ any (same y) xs
-any-alike same xs e = rw e
 
 -- where one test holds so does another, so where none of the other's rows match none of its own do
 pub any-fewer : {A B : Type 0} (f : ℕ → A) (p : A → Bool) (g : ℕ → B) (q : B → Bool) (i n : ℕ)

@@ -14,10 +14,10 @@ use Rattle.rules.specs.Messages.{viewAllowed}
 use Rattle.rules.specs.Words.{State}
 use Rattle.rules.specs.Inputs.{withTables, withBlames, withLog, blamesOf, blamed}
 use Rattle.rules.specs.WellFormed.{isMask, blamesGood}
-use Rattle.rules.proofs.Tests.{no-bool}
-use Rattle.rules.proofs.Masks.{joined-lt}
-use Rattle.rules.proofs.Truths.{and-3}
-use Rattle.rules.proofs.Allowed.{mask-lt, lt-mask, none-lt, view-within}
+use Rattle.laws.proofs.Tests.{no-bool}
+use Rattle.laws.proofs.Masks.{joined-lt}
+use Rattle.laws.proofs.Truths.{and-3}
+use Rattle.laws.proofs.Allowed.{mask-lt, lt-mask, none-lt, view-within}
 use Rattle.kept.specs.Parts.{Formed}
 use Rattle.kept.proofs.Lists.{all-set, all-getD}
 use Rattle.kept.proofs.Recorded.{recorded}

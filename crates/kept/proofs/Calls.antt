@@ -15,11 +15,11 @@ use Rattle.rules.specs.Words.{Cause, full, split, clock, State}
 use Rattle.rules.specs.Inputs.{Work, withPhase, handled}
 use Rattle.rules.specs.Refusals.{Outcome, done, refused, stopping, hasRoom, ifRoom, step, offer, tick}
 use Rattle.rules.specs.WellFormed.{wellFormed}
-use Rattle.rules.proofs.Tests.{by-bool}
-use Rattle.rules.proofs.Answers.{by-step, by-offer, by-tick}
-use Rattle.rules.proofs.Bytes.{Bytes}
-use Rattle.rules.proofs.Written.{read-write}
-use Rattle.rules.proofs.Truths.{and-2}
+use Rattle.laws.proofs.Tests.{by-bool}
+use Rattle.laws.proofs.Answers.{by-step, by-offer, by-tick}
+use Rattle.laws.proofs.Bytes.{Bytes}
+use Rattle.laws.proofs.Written.{read-write}
+use Rattle.laws.proofs.Truths.{and-2}
 use Rattle.kept.specs.Parts.{WellFormed}
 use Rattle.kept.specs.Said.{Each, Sendable, Sayable}
 use Rattle.kept.proofs.Lists.{each-mem}

@@ -11,8 +11,8 @@ use Rattle.rules.specs.Lists.{first}
 use Rattle.rules.specs.Words.{Statement, Tally, State}
 use Rattle.rules.specs.Inputs.{isBlock, chainTo, chain}
 use Rattle.rules.specs.WellFormed.{statementGood, tallyGood}
-use Rattle.rules.proofs.Tests.{by-option, no-some}
-use Rattle.rules.proofs.Allowed.{Sizes, sizes, view-within, height-le, leader-lt, mask-small, certificate-mask}
+use Rattle.laws.proofs.Tests.{by-option, no-some}
+use Rattle.laws.proofs.Allowed.{Sizes, sizes, view-within, height-le, leader-lt, mask-small, certificate-mask}
 use Rattle.kept.specs.Parts.{Formed, WellFormed}
 use Rattle.kept.proofs.Lists.{all-mem}
 use Rattle.kept.proofs.Tallies.{TallyGood, tally-parts, opener-lt, reached-le, CertificateGood, lock-parts}
@@ -78,12 +78,6 @@ module _ {s : State} (f : Formed s) where
       let c = lock-of in
       (c .earlier, height-le (t .height) (t .name) (c .block), mask-small sizes-of (certificate-mask (s .settings) (t .mask) (t .height) (t .view) (c .isAllowed)))
 
-  pub blame-limits : (v : ℕ) → (getD (s .blames) v 0 < 2 ^ s .settings .n) × (getD (s .blames) v 0 < 2 ^ mostStations)
-  blame-limits v = let h = blames-mask (s .settings) (s .blames) v (f .blames) in (h, mask-small sizes-of h)
-
-  pub blame-count : length (s .blames) ≡ suc (lastView (s .settings .size))
-  blame-count = blames-length (s .settings) (s .blames) (f .blames)
-
 -- ---- the log and chains
 
 chainTo-length : (xs : List Statement) (h b : ℕ) (above l : List ℕ) → chainTo xs h b above ≡ some l → length l ≡ h + length above
@@ -109,13 +103,3 @@ module _ {s : State} (w : WellFormed s) where
         let h = chainTo-length (s .statements) (x .height - 1) (x .link) (x .name ∷ []) l e in
         let p = stored-stated (w .formed) x m .parent n .0 in
         (omega arith, linked-length (s .statements) l (chain-linked (w .formed) x l m n e))
-
-    -- so a block higher than the table is long has none
-    pub chain-none : (mostStatements (s .settings .size)) < x .height → chain (s .statements) x ≡ none
-    chain-none h =
-        by-option (chain (s .statements) x) (λ q. q)
-        (λ l q.
-        let c = chain-length l q in
-        let k = proposes-length (s .statements) in
-        let o = w .fewStatements in
-        absurd (omega arith))

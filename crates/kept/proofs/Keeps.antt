@@ -11,10 +11,10 @@ use Rattle.rules.specs.Messages.{Message, newView, propose, vote, blame, blameS
 use Rattle.rules.specs.Words.{Statement, message, sameStatement, conflict, Certificate, Opener, State, moment}
 use Rattle.rules.specs.Inputs.{Work, saying, _▸_, withPhase, withTables, withBlames, isIn, quit, belowLock, votedFor, ballot, voting, certificateJoined, stored, statement, tallied, blamesOf, blamed, blameFull, blaming, handled}
 use Rattle.rules.specs.Refusals.{usedUp}
-use Rattle.rules.proofs.Tests.{by-bool, by-option}
-use Rattle.rules.proofs.Truths.{and-2, both}
-use Rattle.rules.proofs.Searches.{first-mem}
-use Rattle.rules.proofs.Allowed.{sizes, only-lt, mask-parts, mask-made, allowed-rights}
+use Rattle.laws.proofs.Tests.{by-bool, by-option}
+use Rattle.laws.proofs.Truths.{and-2, both}
+use Rattle.laws.proofs.Searches.{first-mem}
+use Rattle.laws.proofs.Allowed.{sizes, only-lt, mask-parts, mask-made, allowed-rights}
 use Rattle.kept.specs.Parts.{Formed}
 use Rattle.kept.specs.Said.{Each, Sendable, Sayable}
 use Rattle.kept.proofs.Lists.{each-append}

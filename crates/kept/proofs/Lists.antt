@@ -8,9 +8,9 @@ use lib.Dec.{leb}
 use lib.ListN.{length, getD, set}
 use borrow.Author.Tests.{not-true}
 use Rattle.rules.specs.Lists.{any, all, keep, alter, distinct, insert, sorted}
-use Rattle.rules.proofs.Tests.{by-bool, no-bool}
-use Rattle.rules.proofs.Truths.{and-2, both}
-use Rattle.rules.proofs.Searches.{any-alter}
+use Rattle.laws.proofs.Tests.{by-bool, no-bool}
+use Rattle.laws.proofs.Truths.{and-2, both}
+use Rattle.laws.proofs.Searches.{any-alter}
 use Rattle.kept.specs.Said.{Each}
 
 -- ---- a claim of each element, or of every member

@@ -14,11 +14,11 @@ use Rattle.rules.specs.Messages.{blockAllowed}
 use Rattle.rules.specs.Words.{Statement, State}
 use Rattle.rules.specs.Inputs.{isBlock, chainTo, chain, commits}
 use Rattle.rules.specs.WellFormed.{linked}
-use Rattle.rules.proofs.Tests.{by-option, no-some, eqb-self}
-use Rattle.rules.proofs.Truths.{and-2, and-3, both}
-use Rattle.rules.proofs.Searches.{any-mem, first-any, first-mem}
-use Rattle.rules.proofs.Allowed.{genesis-zero}
-use Rattle.rules.proofs.Commits.{commits-some}
+use Rattle.laws.proofs.Tests.{by-option, no-some, eqb-self}
+use Rattle.laws.proofs.Truths.{and-2, and-3, both}
+use Rattle.laws.proofs.Searches.{any-mem, first-any, first-mem}
+use Rattle.laws.proofs.Allowed.{genesis-zero}
+use Rattle.laws.proofs.Commits.{commits-some}
 use Rattle.kept.specs.Parts.{Formed}
 use Rattle.kept.specs.Said.{Each}
 use Rattle.kept.proofs.Lists.{each-mem, any-find, keep-length, keep-fewer, keep-fewer-by}

@@ -14,8 +14,8 @@ use Rattle.rules.specs.Lists.{all, keep}
 use Rattle.rules.specs.Sizes.{Settings}
 use Rattle.rules.specs.Words.{Opener, Tally, isAuthor, openedBy, State}
 use Rattle.rules.specs.WellFormed.{tallyGood, fewOpened}
-use Rattle.rules.proofs.Tests.{by-bool}
-use Rattle.rules.proofs.Truths.{and-2}
+use Rattle.laws.proofs.Tests.{by-bool}
+use Rattle.laws.proofs.Truths.{and-2}
 use Rattle.kept.specs.Parts.{Formed, WellFormed}
 use Rattle.kept.proofs.Tallies.{tally-parts, opener-lt}
 use Rattle.kept.proofs.Openers.{few-each}

@@ -13,9 +13,9 @@ use Rattle.rules.specs.Messages.{Message, propose, allowed}
 use Rattle.rules.specs.Words.{Statement, ownBlock, voters, State}
 use Rattle.rules.specs.Inputs.{leads, extendable, above, offered}
 use Rattle.rules.specs.Refusals.{usedUp}
-use Rattle.rules.proofs.Truths.{and-2}
-use Rattle.rules.proofs.Allowed.{sizes, block-made, mask-made}
-use Rattle.rules.proofs.Offers.{top-mem, offer-made}
+use Rattle.laws.proofs.Truths.{and-2}
+use Rattle.laws.proofs.Allowed.{sizes, block-made, mask-made}
+use Rattle.laws.proofs.Offers.{top-mem, offer-made}
 use Rattle.kept.specs.Parts.{Formed}
 use Rattle.kept.specs.Said.{Sendable}
 use Rattle.kept.proofs.Sendable.{sendable}

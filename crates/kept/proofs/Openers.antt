@@ -16,8 +16,8 @@ use Rattle.rules.specs.Messages.{vote}
 use Rattle.rules.specs.Words.{Certificate, Opener, Tally, Moment, ofBlock, sameBlock, grown, join, joinCertificate, isAuthor, openedBy, State}
 use Rattle.rules.specs.Refusals.{usedUp}
 use Rattle.rules.specs.WellFormed.{fewOpened}
-use Rattle.rules.proofs.Tests.{by-bool, no-bool}
-use Rattle.rules.proofs.Truths.{and-2, both}
+use Rattle.laws.proofs.Tests.{by-bool, no-bool}
+use Rattle.laws.proofs.Truths.{and-2, both}
 
 -- ---- at most so many for each
 

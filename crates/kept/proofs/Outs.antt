@@ -13,13 +13,13 @@ use Rattle.rules.specs.Words.{Cause, full, split, clock, stopped, State}
 use Rattle.rules.specs.Inputs.{Work, withPhase, handled}
 use Rattle.rules.specs.Refusals.{done, refused, stopping, hasRoom, ifRoom, step, offer, tick}
 use Rattle.rules.specs.WellFormed.{wellFormed}
-use Rattle.rules.proofs.Bounds.{out-least, out-enough}
-use Rattle.rules.proofs.Tests.{by-bool}
-use Rattle.rules.proofs.Answers.{by-step, by-offer, by-tick}
+use Rattle.laws.proofs.Bounds.{out-least, out-enough}
+use Rattle.laws.proofs.Tests.{by-bool}
+use Rattle.laws.proofs.Answers.{by-step, by-offer, by-tick}
 use Rattle.kept.specs.Parts.{WellFormed}
 use Rattle.kept.proofs.WellFormed.{parts}
 use Rattle.kept.proofs.Phases.{clocks-parts}
-use Rattle.rules.proofs.Lengths.{bytes, bytes-none}
+use Rattle.laws.proofs.Lengths.{bytes, bytes-none}
 use Rattle.kept.proofs.Room.{handled-bytes}
 use Rattle.kept.proofs.Ticking.{largestTick, ticked-bytes}
 

@@ -10,8 +10,8 @@ use Rattle.rules.specs.Lists.{within}
 use Rattle.rules.specs.Words.{Cause, Certificate, Tally, certificateOf, opened, ofBlock, Phase, inView, waiting, stopped, State}
 use Rattle.rules.specs.Inputs.{withPhase, withClock, entering}
 use Rattle.rules.specs.WellFormed.{clocksInOrder, lockGood, statementGood, tallyGood}
-use Rattle.rules.proofs.Truths.{and-3}
-use Rattle.rules.proofs.Allowed.{le-within, within-le, within-view}
+use Rattle.laws.proofs.Truths.{and-3}
+use Rattle.laws.proofs.Allowed.{le-within, within-le, within-view}
 use Rattle.kept.specs.Parts.{Formed}
 use Rattle.kept.proofs.Lists.{all-weaken}
 use Rattle.kept.proofs.Tallies.{tally-later, CertificateGood, lock-made}

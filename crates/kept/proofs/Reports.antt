@@ -9,9 +9,9 @@ use lib.ListN.{drop}
 use Rattle.rules.specs.Words.{State}
 use Rattle.rules.specs.Inputs.{due, isBlock, reports, withTables, withBlames, withLog}
 use Rattle.rules.specs.WellFormed.{linked}
-use Rattle.rules.proofs.Truths.{and-2}
-use Rattle.rules.proofs.Allowed.{height-le}
-use Rattle.rules.proofs.Commits.{due-facts}
+use Rattle.laws.proofs.Truths.{and-2}
+use Rattle.laws.proofs.Allowed.{height-le}
+use Rattle.laws.proofs.Commits.{due-facts}
 use Rattle.kept.specs.Parts.{Formed}
 use Rattle.kept.specs.Said.{Each, Sayable}
 use Rattle.kept.proofs.Lists.{mem-each, any-find}

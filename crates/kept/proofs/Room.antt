@@ -13,9 +13,9 @@ use Rattle.rules.specs.Sizes.{leader, only}
 use Rattle.rules.specs.Messages.{Message, newView, propose, vote, blame, blameSet, status, Effect, toAll, toOne, size}
 use Rattle.rules.specs.Words.{Statement, message, sameStatement, conflict, Certificate, Opener, State}
 use Rattle.rules.specs.Inputs.{Work, saying, _▸_, isIn, quit, belowLock, ballot, voting, stored, statement, tallied, blamesOf, blamed, blameFull, blaming, handled, overdue, complain, leadsNow, ownNewView, lead, nextLock, report, entering, entered, current, pair, inOrder, votingAll, arrive, entersNow, enter}
-use Rattle.rules.proofs.Tests.{by-bool, by-option}
+use Rattle.laws.proofs.Tests.{by-bool, by-option}
 use Rattle.kept.proofs.Lists.{keep-length, sorted-length}
-use Rattle.rules.proofs.Lengths.{weight, bytes, bytes-cons, bytes-append, bytes-none, size-most}
+use Rattle.laws.proofs.Lengths.{weight, bytes, bytes-cons, bytes-append, bytes-none, size-most}
 
 pub then-bytes : (w : Work) (r : State → Work) → bytes ((w ▸ r) .out) ≡ bytes (w .out) + bytes (r (w .now) .out)
 unfolding _▸_

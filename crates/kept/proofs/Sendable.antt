@@ -10,10 +10,10 @@ use lib.ListN.{length}
 use Rattle.rules.specs.Lists.{unbe}
 use Rattle.rules.specs.Sizes.{Settings}
 use Rattle.rules.specs.Messages.{Message, newView, propose, vote, blame, blameSet, status, InWidth, Fitting, field, width, rowOf, tagsOf, kind, values, writes, write, read, allowed}
-use Rattle.rules.proofs.Bytes.{Bytes, one, bytes-split, pow-pos}
-use Rattle.rules.proofs.Written.{write-eq, writes-cons}
-use Rattle.rules.proofs.ReadBack.{write-read}
-use Rattle.rules.proofs.Allowed.{Sizes, leader-lt, mask-small, view-within, height-le, mask-parts, certificate-mask, certificate-view, allowed-rights}
+use Rattle.laws.proofs.Bytes.{Bytes, one, bytes-split, pow-pos}
+use Rattle.laws.proofs.Written.{write-eq, writes-cons}
+use Rattle.laws.proofs.ReadBack.{write-read}
+use Rattle.laws.proofs.Allowed.{Sizes, leader-lt, mask-small, view-within, height-le, mask-parts, certificate-mask, certificate-view, allowed-rights}
 use Rattle.kept.specs.Said.{Each, Sendable}
 
 -- the names in a message are of 32 bytes

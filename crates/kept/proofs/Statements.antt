@@ -12,9 +12,9 @@ use Rattle.rules.specs.Messages.{newView, propose, allowed, viewAllowed, blockA
 use Rattle.rules.specs.Words.{Statement, message, sameStatement, Certificate, Tally, reachedAt, certificateOf, opened, ofBlock, ownBlock, certificate, State}
 use Rattle.rules.specs.Inputs.{noted}
 use Rattle.rules.specs.WellFormed.{isName, statementGood, openerGood, tallyGood, talliesThere}
-use Rattle.rules.proofs.Tests.{by-bool, by-option, no-bool}
-use Rattle.rules.proofs.Truths.{and-4}
-use Rattle.rules.proofs.Allowed.{Sizes, sizes, view-within, view-name, name-lt, lt-name, mask-parts, certificate-mask, allowed-rights}
+use Rattle.laws.proofs.Tests.{by-bool, by-option, no-bool}
+use Rattle.laws.proofs.Truths.{and-4}
+use Rattle.laws.proofs.Allowed.{Sizes, sizes, view-within, view-name, name-lt, lt-name, mask-parts, certificate-mask, allowed-rights}
 use Rattle.kept.specs.Parts.{Formed}
 use Rattle.kept.specs.Said.{Sendable}
 use Rattle.kept.proofs.Lists.{all-mem}

@@ -11,11 +11,11 @@ use Rattle.rules.specs.Sizes.{only}
 use Rattle.rules.specs.Words.{Statement, message, sameStatement, Certificate, Opener, Tally, Moment, certificateOf, ofBlock, ownBlock, certificate, sameBlock, join, joinCertificate, State, moment}
 use Rattle.rules.specs.Inputs.{withTables, withBlames, withLog, noted, votedFor, certificateJoined, stored, isBlock}
 use Rattle.rules.specs.WellFormed.{statementGood, talliesThere, linked}
-use Rattle.rules.proofs.Tests.{by-bool}
-use Rattle.rules.proofs.Truths.{and-2, both, or-2, or-left, or-right}
-use Rattle.rules.proofs.Searches.{any-alter}
-use Rattle.rules.proofs.Statements.{same-sym}
-use Rattle.rules.proofs.Allowed.{sizes, none-lt, only-lt}
+use Rattle.laws.proofs.Tests.{by-bool}
+use Rattle.laws.proofs.Truths.{and-2, both, or-2, or-left, or-right}
+use Rattle.laws.proofs.Searches.{any-alter}
+use Rattle.laws.proofs.Statements.{same-sym}
+use Rattle.laws.proofs.Allowed.{sizes, none-lt, only-lt}
 use Rattle.kept.specs.Parts.{Tables, Formed}
 use Rattle.kept.specs.Said.{Sendable}
 use Rattle.kept.proofs.Lists.{all-last, all-weaken, all-alter, any-append, distinct-append, distinct-alter}

@@ -13,11 +13,11 @@ use Rattle.rules.specs.Sizes.{Settings, only, bit, holds, joined, quorum}
 use Rattle.rules.specs.Messages.{viewAllowed, blockAllowed, certificateAllowed}
 use Rattle.rules.specs.Words.{Certificate, Opener, Tally, Moment, reachedAt, certificateOf, opened, ofBlock, sameBlock, grown, join, joinCertificate, voters, highest, State}
 use Rattle.rules.specs.WellFormed.{isName, isMask, lockGood, openerGood, reachedGood, tallyGood, sameTally}
-use Rattle.rules.proofs.Tests.{by-bool, no-bool, no-some, eqb-self}
-use Rattle.rules.proofs.Masks.{joined-lt, joined-left, quorum-joined}
-use Rattle.rules.proofs.Truths.{and-2, and-4, and-6, both, eqb-sym}
-use Rattle.rules.proofs.Tallies.{only-bit, count-quorum, block-cong, voters-tally, highest-tally}
-use Rattle.rules.proofs.Allowed.{view-within, name-lt, lt-name, mask-lt, lt-mask, none-lt, mask-parts, mask-made, certificate-cases, certificate-made, within-view}
+use Rattle.laws.proofs.Tests.{by-bool, no-bool, no-some, eqb-self}
+use Rattle.laws.proofs.Masks.{joined-lt, joined-left, quorum-joined}
+use Rattle.laws.proofs.Truths.{and-2, and-4, and-6, both, eqb-sym}
+use Rattle.laws.proofs.Tallies.{only-bit, count-quorum, block-cong, voters-tally, highest-tally}
+use Rattle.laws.proofs.Allowed.{view-within, name-lt, lt-name, mask-lt, lt-mask, none-lt, mask-parts, mask-made, certificate-cases, certificate-made, within-view}
 use Rattle.kept.proofs.Lists.{all-mem}
 
 -- ---- one tally

@@ -15,13 +15,13 @@ use Rattle.rules.specs.Sizes.{only}
 use Rattle.rules.specs.Words.{Statement, sameStatement, conflict, Phase, inView, waiting, stopped, State}
 use Rattle.rules.specs.Inputs.{Work, saying, _▸_, withPhase, withClock, withTables, withBlames, withLog, isIn, quit, belowLock, votedFor, voting, certificateJoined, stored, statement, blamed, blameFull, blaming, handled, isDue, due, commits, logging, overdue, complain, leads, leadsNow, ownNewView, lead, entersNow, enter, ticked}
 use Rattle.rules.specs.Refusals.{running}
-use Rattle.rules.proofs.Bounds.{statements-some}
-use Rattle.rules.proofs.Tests.{by-bool, by-option, no-bool}
+use Rattle.laws.proofs.Bounds.{statements-some}
+use Rattle.laws.proofs.Tests.{by-bool, by-option, no-bool}
 use Rattle.kept.specs.Parts.{WellFormed}
 use Rattle.kept.proofs.Phases.{clock-formed}
 use Rattle.kept.proofs.Logs.{linked-length, proposes-length, commits-linked}
 use Rattle.kept.proofs.Reports.{due-stored}
-use Rattle.rules.proofs.Lengths.{bytes, reports-bytes}
+use Rattle.laws.proofs.Lengths.{bytes, reports-bytes}
 use Rattle.kept.proofs.Room.{then-bytes, complain-bytes, lead-bytes, enter-bytes}
 
 -- a rule that does nothing

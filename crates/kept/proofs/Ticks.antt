@@ -15,12 +15,12 @@ use Rattle.rules.specs.Words.{Statement, message, highest, State}
 use Rattle.rules.specs.Inputs.{Work, saying, _▸_, withClock, withLog, isIn, blamesOf, blameFull, leads, due, commits, logging, overdue, complain, leadsNow, ownNewView, lead, entersNow, nextLock, report, entering, entered, current, pair, inOrder, votingAll, arrive, enter, ticked}
 use Rattle.rules.specs.Refusals.{usedUp}
 use Rattle.rules.specs.WellFormed.{linked}
-use Rattle.rules.proofs.Tests.{by-bool, by-option}
-use Rattle.rules.proofs.Truths.{and-2, both}
-use Rattle.rules.proofs.Searches.{mem-keep}
-use Rattle.rules.proofs.Statements.{pair-some, mem-order}
-use Rattle.rules.proofs.Allowed.{sizes, leader-lt, only-lt, view-within}
-use Rattle.rules.proofs.Kept.{enters-at}
+use Rattle.laws.proofs.Tests.{by-bool, by-option}
+use Rattle.laws.proofs.Truths.{and-2, both}
+use Rattle.laws.proofs.Searches.{mem-keep}
+use Rattle.laws.proofs.Statements.{pair-some, mem-order}
+use Rattle.laws.proofs.Allowed.{sizes, leader-lt, only-lt, view-within}
+use Rattle.laws.proofs.Kept.{enters-at}
 use Rattle.kept.specs.Parts.{Formed}
 use Rattle.kept.specs.Said.{Each, Sendable, Sayable}
 use Rattle.kept.proofs.Lists.{mem-each}

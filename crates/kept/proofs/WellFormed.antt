@@ -14,8 +14,8 @@ use Rattle.rules.specs.Sizes.{Settings, goodSettings}
 use Rattle.rules.specs.Messages.{viewAllowed}
 use Rattle.rules.specs.Words.{sameStatement, openedBy, State, fresh}
 use Rattle.rules.specs.WellFormed.{isMask, clocksInOrder, lockGood, statementGood, tallyGood, sameTally, talliesThere, blamesGood, linked, fewOpened, wellFormed}
-use Rattle.rules.proofs.Bounds.{views-some}
-use Rattle.rules.proofs.Truths.{and-2, both}
+use Rattle.laws.proofs.Bounds.{views-some}
+use Rattle.laws.proofs.Truths.{and-2, both}
 use Rattle.kept.specs.Parts.{WellFormed}
 use Rattle.kept.specs.Said.{Each}
 use Rattle.kept.proofs.Openers.{each-few}

@@ -15,8 +15,8 @@ use Rattle.rules.specs.Words.{State}
 use Rattle.rules.specs.Refusals as rules
 use Rattle.rules.specs.Inputs.{Work, handled, offered, ticked}
 use Rattle.rules.specs.Refusals.{done, refused, stopping, hasRoom, ifRoom, running, ahead, usedUp, heard}
-use Rattle.rules.proofs.Bytes.{Bytes}
-use Rattle.rules.proofs.Tests.{by-bool, by-option, no-bool}
+use Rattle.laws.proofs.Bytes.{Bytes}
+use Rattle.laws.proofs.Tests.{by-bool, by-option, no-bool}
 use Rattle.slots.specs.Slots.{mostInput, isReadable, isInput}
 use Rattle.slots.proofs.Inputs.{readable-fits, tick-input, offer-input, message-input}
 use Rattle.lent_list.specs.Lists.{Input, tick, offer, message, kindOf, bytesOf}

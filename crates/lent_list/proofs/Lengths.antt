@@ -7,7 +7,7 @@ use native.Mathlib.Omega.{arith}
 use lib.ListN.{length, length-drop}
 use lib.Dec.{leb, eqb}
 use borrow.Author.Tests.{eqb-true, eq-eqb, ne-eqb, leb-true, le-leb, lt-leb}
-use Rattle.rules.proofs.Truths.{and-3, both}
+use Rattle.laws.proofs.Truths.{and-3, both}
 use Rattle.slots.specs.Slots.{slotLength}
 use Rattle.journal.specs.Journal.{slotCount}
 use Rattle.lent_list.specs.Lists.{headLength, mostSlots, slotsIn, hasLength}

@@ -5,3 +5,4 @@ pub mod Standing
 pub mod Kept
 pub mod Adding
 pub mod Entering
+pub mod Rooms

@@ -11,9 +11,9 @@ use borrow.Author.Tests.{leb-true, ltb-true}
 use Rattle.rules.specs.Limits.{small, leastStations, mostStations, leastDelay, mostDelay}
 use Rattle.rules.specs.Lists.{unbe, within}
 use Rattle.rules.specs.Sizes.{Settings, goodSettings}
-use Rattle.rules.proofs.Bytes.{pow-pos, length-unbe}
-use Rattle.rules.proofs.Tests.{by-bool}
-use Rattle.rules.proofs.Truths.{and-2, and-4}
+use Rattle.laws.proofs.Bytes.{pow-pos, length-unbe}
+use Rattle.laws.proofs.Tests.{by-bool}
+use Rattle.laws.proofs.Truths.{and-2, and-4}
 use Rattle.settings.specs.Made.{made, pick, sizeFrom, settingsOf}
 use Rattle.settings.specs.declared.Settings as declared
 use Rattle.settings.specs.declared.Size.the-variants.{Small}

@@ -9,14 +9,14 @@ use lib.ListN.{length, take, drop}
 use lib.Seq.{take-add, take-all, drop-at, take-take, drop-drop, length-take-le}
 use lib.Dec.{leb, eqb}
 use borrow.Author.Tests.{leb-true, leb-false}
-use Rattle.rules.proofs.Tests.{by-bool, and-left}
+use Rattle.laws.proofs.Tests.{by-bool, and-left}
 use Rattle.fields.specs.Places.{number}
 use Rattle.slots.specs.Slots as slots
-use Rattle.slots.specs.Slots.{slotLength, mostInput, isInput, recordBytes, isBlank, isEnded, sequenceIn, kindIn, inputIn, isRecord, recordIn, judged, blank, torn, bad, whole}
+use Rattle.slots.specs.Slots.{slotLength, mostInput, isInput, recordBytes, sequenceIn, kindIn, inputIn, isRecord, judged, blank, torn, bad, whole}
 use Rattle.slots.specs.Meaning.{inputPlace, slotOf, Within, Judged}
 use Rattle.slots.specs.declared.Slot.{Slot}
 use Rattle.slots.specs.declared.Slot.the-variants.{Blank, Torn, Bad, Whole}
-use Rattle.slots.proofs.Judging.{chosen, sorted}
+use Rattle.slots.proofs.OneForm.{whole-only}
 use Rattle.journal.specs.Journal.{slotCount, slotAt, slotsFrom, slotsOf}
 use Rattle.journal.proofs.Rooms.{slots-step, slots-end}
 use Rattle.lent_list.specs.Lists.{headLength, recordsIn, slotsIn, hasLength, inputOf, inputsIn, inputsOf, inputsAfter}
@@ -38,27 +38,11 @@ after-last l p h = ap inputsIn (slots-end (recordsIn l) p (slotsIn l) h)
 
 -- what is judged whole is an input
 whole-input : (s : List ℕ) (q k : ℕ) (bs : List ℕ) → judged s ≡ whole q k bs → isInput k bs ≡ true
-unfolding judged recordIn isRecord
+unfolding isRecord
 whole-input s q k bs e =
-    by-bool (isBlank s) (λ p. absurd (blank-whole (sym (ap (λ (b : Bool). sorted s b (isEnded s)) p) ∙ e)))
-    (λ p.
-    by-bool (isEnded s)
-    (λ t.
-    let r : recordIn s ≡ whole q k bs = sym (ap₂ (sorted s) p t) ∙ e in
-    by-bool (isRecord s)
-    (λ u. inputs (and-left (isInput (kindIn s) (inputIn s)) (eqb (number s 0 slotLength) (number (recordBytes (sequenceIn s) (kindIn s) (inputIn s)) 0 slotLength)) u) (sym (ap (chosen s) u) ∙ r))
-    (λ u. absurd (bad-whole (sym (ap (chosen s) u) ∙ r))))
-    (λ t. absurd (torn-whole (sym (ap₂ (sorted s) p t) ∙ e))))
+    let w = whole-only s q k bs e in
+    inputs (and-left (isInput (kindIn s) (inputIn s)) (eqb (number s 0 slotLength) (number (recordBytes (sequenceIn s) (kindIn s) (inputIn s)) 0 slotLength)) (w .0)) (w .1)
   where
-    blank-whole : blank ≡ whole q k bs → ⊥
-    blank-whole r = let z : _≡_ {A = ℕ} 0 1 = cc in omega arith
-
-    torn-whole : torn ≡ whole q k bs → ⊥
-    torn-whole r = let z : _≡_ {A = ℕ} 0 1 = cc in omega arith
-
-    bad-whole : bad ≡ whole q k bs → ⊥
-    bad-whole r = let z : _≡_ {A = ℕ} 0 1 = cc in omega arith
-
     inputs : isInput (kindIn s) (inputIn s) ≡ true → whole (sequenceIn s) (kindIn s) (inputIn s) ≡ whole q k bs → isInput k bs ≡ true
     inputs i r = let a : kindIn s ≡ k = cc in let b : inputIn s ≡ bs = cc in sym (ap₂ isInput a b) ∙ i
 

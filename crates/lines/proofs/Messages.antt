@@ -7,7 +7,7 @@ use native.Mathlib.Omega.{arith}
 use lib.ListN.{drop}
 use Rattle.rules.specs.Lists.{iff}
 use Rattle.rules.specs.Messages.{write}
-use Rattle.rules.proofs.Truths.{iff-eq}
+use Rattle.laws.proofs.Truths.{iff-eq}
 use Rattle.fields.specs.declared.Name.{Name}
 use Rattle.fields.specs.Names.{nameOf}
 use Rattle.wire.proofs.Reading.{tried, tried-at}

@@ -10,7 +10,7 @@ use lib.Dec.{leb}
 use borrow.Author.Tests.{le-leb, lt-leb, leb-true, leb-false}
 use Rattle.rules.specs.Lists.{unbe}
 use Rattle.rules.specs.Script.{sameList}
-use Rattle.rules.proofs.Tests.{by-bool}
+use Rattle.laws.proofs.Tests.{by-bool}
 use Rattle.fields.specs.declared.Name.{Name}
 use Rattle.fields.specs.Names.{nameOf}
 use Rattle.outgoing.specs.Wrote.{wrote}

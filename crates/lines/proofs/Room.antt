@@ -9,8 +9,8 @@ use Rattle.rules.specs.Lists.{unbe}
 use Rattle.rules.specs.Messages as messages
 use Rattle.rules.specs.Messages.{write, rowOf}
 use Rattle.rules.specs.Script.{sameList}
-use Rattle.rules.proofs.Bytes.{length-unbe}
-use Rattle.rules.proofs.Tests.{by-bool, by-option}
+use Rattle.laws.proofs.Bytes.{length-unbe}
+use Rattle.laws.proofs.Tests.{by-bool, by-option}
 use Rattle.outgoing.proofs.Writing.{length-write-most}
 use Rattle.text.specs.Words.{word, rest, noWord, pairs, isBytes}
 use Rattle.parts.specs.Fields.{says, flawOf, fieldOf, unlabelled, Got, got, wrong, onto, reads}

@@ -1,44 +1,84 @@
 -- Statements on the chains of their heights. Assumes nothing.
-use Prim.Native.Nat.{ℕ, _-_, _%_, _<_}
+use Prim.Native.Nat.{ℕ, suc, _+_, _-_, _%_, _<_}
 use mathlib.Core.Path.{_≡_, refl, sym, ap, _∙_}
-use mathlib.Core.Bool.{Bool, true, not, _&&_}
+use mathlib.Core.Bool.{Bool, true, false, not, _&&_, _||_, and-comm}
 use mathlib.Core.List.{List}
+use mathlib.Core.Option.{Option, some}
 use native.Mathlib.Omega.{arith}
 use native.Mathlib.Nat.{sub-zero}
 use lib.Dec.{eqb}
 use borrow.Author.Tests.{eqb-true}
-use Rattle.rules.specs.Lists.{any}
+use Rattle.rules.specs.Lists.{first, any}
 use Rattle.rules.specs.Words.{Statement}
 use Rattle.rules.specs.Inputs.{isBlock}
-use Rattle.rules.proofs.Tests.{and-left, and-right}
+use Rattle.laws.proofs.Tests.{and-left, and-right}
+use Rattle.laws.proofs.Truths.{eqb-sym}
+use Rattle.laws.proofs.Searches.{first-any, first-none}
 use Rattle.store.specs.Layout.{statementTable, countOf}
-use Rattle.store.specs.Decode.{nth, rows, statementAt, statements}
-use Rattle.chains.specs.Chains.{chains, Chained, behind, Walk}
-use Rattle.chains.proofs.Walks.{walk-start, walk-whole}
+use Rattle.store.specs.Decode.{nth, rows, statementAt, statements, nameAt}
+use Rattle.chains.specs.Chains.{chains, Chained, places, behind, Walk}
+use Rattle.chains.proofs.Walks.{walk-start, walk-on}
 use Rattle.chains.proofs.Apart.{any-same}
-use Rattle.linked.specs.Links.{isLink, linksAt, heightChain}
+use Rattle.chains.proofs.Firsts.{first-whole, first-next, first-record}
+use Rattle.linked.specs.Told.{nameBelow}
+use Rattle.linked.specs.Links.{isLink, soughtAt, heightChain, placeLeft, Foremost}
+use Rattle.linked.proofs.Parts.{hasLink}
 
-link-height : (height name parent : ℕ) (x : Statement) → isLink height name parent x ≡ true → height ≡ x .height
-unfolding isLink isBlock
-link-height height name parent x e =
+block-height : (height name : ℕ) (x : Statement) → isBlock height name x ≡ true → height ≡ x .height
+unfolding isBlock
+block-height height name x e =
     let kind = not (x .isNewView) in
     let high = eqb height (x .height) in
-    let named = eqb name (x .name) in
-    eqb-true _ _ (and-right kind high (and-left (kind && high) named (and-left (kind && high && named) (eqb parent (x .link)) e)))
+    eqb-true _ _ (and-right kind high (and-left (kind && high) (eqb name (x .name)) e))
 
-module _ (b : List ℕ) (n : ℕ) (k : n ≡ countOf statementTable b) {heads nexts : List ℕ} (h : Chained (heightChain b) 0 n heads nexts) (height name parent : ℕ) where
+-- where some are left there is a place
+pub place-left : (n r : ℕ) → 0 < r → some (n - r) ≡ placeLeft n r
+place-left n r g = let e : r ≡ suc (r - 1) = omega arith in ap (λ (s : ℕ). some (n - s)) e ∙ ap (placeLeft n) (sym e)
+
+-- a walk goes on from a record that fails the test
+pub first-on : {p : ℕ → Bool} {n left : ℕ} {nexts : List ℕ} {whole : Option ℕ} → Walk p n left nexts × (whole ≡ first p (behind n left)) → 0 < left → p (n - left) ≡ false
+    → Walk p n (nth nexts (n - left)) nexts × (whole ≡ first p (behind n (nth nexts (n - left))))
+first-on w h t = (walk-on (w .0) h, w .1 ∙ first-next (w .0) h t)
+
+-- all proposes that are sought for a logged name are on the chain of its height
+module _ (b : List ℕ) (k : ℕ) (free : Bool) where
   abbrev test : ℕ → Bool
-  test = linksAt b height name parent
+  test = soughtAt b k free
 
-  alike : (j : ℕ) → test j ≡ true → heightChain b j ≡ height % chains
-  alike j t = ap (_% chains) (sym (link-height height name parent (statementAt b j) t))
+  alike : (j : ℕ) → test j ≡ true → heightChain b j ≡ (k + 1) % chains
+  alike j t =
+      ap (_% chains) (sym (block-height (k + 1) (nameAt b k) (statementAt b j) (and-right (free || eqb (statementAt b j .link) (nameBelow b k)) _ t)))
 
-  pub link-start : height % chains < chains → Walk test n (nth heads (height % chains)) nexts
-  link-start m = walk-start (heightChain b) h (omega arith) test (height % chains) m alike
+  module _ {n : ℕ} {heads nexts : List ℕ} (h : Chained (heightChain b) 0 n heads nexts) (m : (k + 1) % chains < chains) where
+    pub sought-start : Walk test n (nth heads ((k + 1) % chains)) nexts
+    sought-start = walk-start (heightChain b) h (omega arith) test ((k + 1) % chains) m alike
 
-  pub link-is : height % chains < chains → any test (behind n (nth heads (height % chains))) ≡ any (isLink height name parent) (statements b)
+    pub sought-whole : first test (places 0 n) ≡ first test (behind n (nth heads ((k + 1) % chains)))
+    sought-whole =
+        ap (λ (j : ℕ). first test (places 0 j)) (sym (sub-zero n))
+        ∙ first-whole test (heightChain b) ((k + 1) % chains) alike h (omega arith) m
+
+module _ (b : List ℕ) (n k r : ℕ) (e : n ≡ countOf statementTable b) where
+  -- the first with any parent
+  pub block-is : Foremost (soughtAt b k true) n r → 0 < r → first (isBlock (k + 1) (nameAt b k)) (statements b) ≡ some (statementAt b (n - r))
   unfolding statements
-  link-is m =
-      sym (walk-whole (heightChain b) h (omega arith) test (height % chains) m alike)
-      ∙ any-same (statementAt b) (isLink height name parent) test 0 (n - 0) (λ j x y. refl)
-      ∙ ap (λ (j : ℕ). any (isLink height name parent) (rows (statementAt b) 0 j)) (sub-zero n ∙ k)
+  block-is f g =
+      ap (λ (j : ℕ). first (isBlock (k + 1) (nameAt b k)) (rows (statementAt b) 0 j)) (sym e)
+      ∙ first-record (statementAt b) (isBlock (k + 1) (nameAt b k)) 0 n (n - r) (f .is ∙ sym (place-left n r g))
+
+  -- whether there is one above the name below
+  links-any : any (soughtAt b k false) (places 0 n) ≡ hasLink b k
+  unfolding statements isLink
+  links-any =
+      any-same (statementAt b) (isLink (k + 1) (nameAt b k) (nameBelow b k)) (soughtAt b k false) 0 n
+      (λ j x y.
+      and-comm (eqb (statementAt b j .link) (nameBelow b k)) (isBlock (k + 1) (nameAt b k) (statementAt b j))
+      ∙ ap (isBlock (k + 1) (nameAt b k) (statementAt b j) &&_) (eqb-sym (statementAt b j .link) (nameBelow b k)))
+      ∙ ap (λ (j : ℕ). any (isLink (k + 1) (nameAt b k) (nameBelow b k)) (rows (statementAt b) 0 j)) e
+
+  pub link-none : Foremost (soughtAt b k false) n r → r ≡ 0 → hasLink b k ≡ false
+  link-none f z = sym links-any ∙ first-none (soughtAt b k false) (places 0 n) (f .is ∙ ap (placeLeft n) z)
+
+  pub link-some : Foremost (soughtAt b k false) n r → (r ≡ 0 → ⊥) → hasLink b k ≡ true
+  link-some f d =
+      sym links-any ∙ first-any (soughtAt b k false) (places 0 n) (n - r) (f .is ∙ sym (place-left n r (omega arith))) .0

@@ -4,7 +4,7 @@ use mathlib.Core.Path.{_≡_, refl}
 use mathlib.Core.Bool.{_&&_}
 use lib.Dec.{eqb}
 use borrow.Author.Tests.{eqb-true, eqb-false, eq-eqb, ne-eqb}
-use Rattle.rules.proofs.Tests.{by-bool}
+use Rattle.laws.proofs.Tests.{by-bool}
 use Rattle.fields.proofs.Differ.{digit-high, digit-low}
 
 pub same-pair : (d v h v′ h′ : ℕ) → h < d → h′ < d → eqb (v * d + h) (v′ * d + h′) ≡ (eqb v v′ && eqb h h′)

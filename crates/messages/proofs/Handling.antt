@@ -13,9 +13,9 @@ use Rattle.rules.specs.Messages.{viewOf, viewAllowed, allowed}
 use Rattle.rules.specs.Words.{message, Certificate, sameBlock, ofBlock, State}
 use Rattle.rules.specs.Inputs.{statement, tallied, blaming, handled}
 use Rattle.rules.specs.Refusals.{ifRoom, usedUp, heard}
-use Rattle.rules.proofs.Views.{view-message}
-use Rattle.rules.proofs.Allowed.{view-within, only-lt, mask-parts, allowed-rights}
-use Rattle.rules.proofs.Tests.{by-bool}
+use Rattle.laws.proofs.Views.{view-message}
+use Rattle.laws.proofs.Allowed.{view-within, only-lt, mask-parts, allowed-rights}
+use Rattle.laws.proofs.Tests.{by-bool}
 use Rattle.fields.specs.Names.{nameOf}
 use Rattle.fields.specs.declared.Name.{Name}
 use Rattle.kept.specs.Said.{Sendable}
@@ -25,7 +25,7 @@ use Rattle.wire.specs.declared.Statement as code
 use Rattle.wire.specs.declared.Message.{Message}
 use Rattle.wire.specs.declared.Message.the-variants.{Stated, Vote, Blame, BlameSet, Status}
 use Rattle.words.specs.Meaning.{blockOf}
-use Rattle.store.specs.Changes.{withVoters}
+use Rattle.tallies.specs.Meaning.{withVoters}
 use Rattle.store.specs.Layout.{tallyTable, countOf}
 use Rattle.store.specs.Decode.{tallyAt, tallies, stateFrom, stateOf, Form}
 use Rattle.store.specs.declared.Found.{Found}

@@ -8,8 +8,8 @@ use Rattle.rules.specs.Limits.{mostStatements, mostTallies}
 use Rattle.rules.specs.Words.{State, full, Certificate, Opener}
 use Rattle.rules.specs.Inputs.{saying, withPhase, withBlames, isIn, quit, blamed, blameFull, blaming, tallied}
 use Rattle.rules.specs.Refusals.{stopping, hasRoom, ifRoom}
-use Rattle.rules.proofs.Tests.{by-bool}
-use Rattle.rules.proofs.Truths.{both}
+use Rattle.laws.proofs.Tests.{by-bool}
+use Rattle.laws.proofs.Truths.{both}
 use Rattle.store.specs.Decode.{stateOf, Left}
 use Rattle.acts.specs.Works.{Formed, Works, fitting, Tried}
 use Rattle.acts.proofs.Works.{formed-parts, works-none}

@@ -14,10 +14,10 @@ use Rattle.rules.specs.Sizes.{Settings}
 use Rattle.rules.specs.Words.{Statement, Opener, Tally, Phase, inView, waiting, stopped, full, split, clock, State}
 use Rattle.rules.specs.Inputs.{isBlock}
 use Rattle.rules.specs.WellFormed.{isMask, blamesGood, linked, wellFormed}
-use Rattle.rules.proofs.Bounds.{statements-most, tallies-most}
-use Rattle.rules.proofs.Tests.{no-bool, and-left}
-use Rattle.rules.proofs.Truths.{and-3}
-use Rattle.rules.proofs.Allowed.{Sizes, mask-lt, mask-small}
+use Rattle.laws.proofs.Bounds.{statements-most, tallies-most}
+use Rattle.laws.proofs.Tests.{no-bool, and-left}
+use Rattle.laws.proofs.Truths.{and-3}
+use Rattle.laws.proofs.Allowed.{Sizes, mask-lt, mask-small}
 use Rattle.fields.specs.Records.{Fit}
 use Rattle.kept.specs.Parts.{WellFormed, Formed}
 use Rattle.kept.proofs.WellFormed.{parts}
@@ -26,9 +26,10 @@ use Rattle.kept.proofs.Lists.{all-mem, any-find}
 use Rattle.kept.proofs.Logs.{block-parts, linked-cons}
 use Rattle.kept.proofs.Facts.{sizes-of, clocks-of, view-of, lock-of, statement-of, statement-limits, vote-clock, tally-of, tally-limits, opener-below, reached-clock, lock-limits, log-length}
 use Rattle.store.specs.Layout.{headerFormat, statementFormat, tallyFormat, maskFormat, nameFormat}
-use Rattle.store.specs.Decode.{phaseNumber, voteNumber, openerNumber, reachedNumber, kindNumber, statementValues, tallyValues, headerValues}
-use Rattle.store.proofs.ReadBack.{Each}
-use Rattle.store.proofs.Decoded.{Fitted}
+use Rattle.store.specs.Decode.{phaseNumber, kindNumber, statementValues, tallyValues, headerValues}
+use Rattle.tallies.specs.Values.{voteNumber, openerNumber, reachedNumber}
+use Rattle.oneform.proofs.ReadBack.{Each}
+use Rattle.oneform.proofs.Decoded.{Fitted}
 
 each-mem : {A : Type 0} (P : A → Type 0) (xs : List A) → ((x : A) → Mem x xs → P x) → Each P xs
 each-mem P [] h = tt

@@ -10,8 +10,8 @@ use Rattle.rules.specs.WellFormed.{wellFormed}
 use Rattle.fields.specs.Places.{Bytes}
 use Rattle.kept.proofs.WellFormed.{fresh-whole}
 use Rattle.store.specs.Decode.{decode, Left, encode}
-use Rattle.store.proofs.Decoded.{encode-left}
-use Rattle.store.proofs.OneForm.{left-decoded, decoded-bytes}
+use Rattle.oneform.proofs.Decoded.{encode-left}
+use Rattle.oneform.proofs.Held.{left-decoded, decoded-bytes}
 use Rattle.oneform.proofs.Fitting.{fitted}
 
 module _ (s : State) (w : wellFormed s ≡ true) where

@@ -1,6 +1,6 @@
 -- Writing into a buffer: one writer after another, numbers and fields, and what a prefix leaves. Assumes nothing.
 use Prim.Native.Nat.{ℕ, zero, suc, _+_, _*_, _/_, _%_, _^_, _<_, _≤_}
-use mathlib.Core.Path.{_≡_, refl, sym, ap, ap₂, _∙_}
+use mathlib.Core.Path.{_≡_, refl, sym, ap, ap₂, _∙_, subst}
 use mathlib.Core.List.{List, [], _∷_, _++_, append-assoc, append-nil}
 use native.Mathlib.Omega.{arith}
 use native.Mathlib.Nat.{add-zero, add-suc, suc-add, mod-lt, mod-eq-of-lt, div-one, div-add-mod', div-lt-iff-lt-mul, mul-comm, pow-suc}
@@ -13,8 +13,8 @@ use Rattle.fields.specs.Places.{put}
 use Rattle.fields.proofs.Laws.{put-both, put-comm}
 use Rattle.rules.specs.Lists.{unbe}
 use Rattle.rules.specs.Messages.{Message, field, width, tagsOf, kind, values, writes, write, size, Effect, toAll, toOne, committed, effect, outgoing}
-use Rattle.rules.proofs.Bytes.{pow-pos, length-unbe}
-use Rattle.rules.proofs.Lengths.{length-field, length-write, size-most, length-effect, weight}
+use Rattle.laws.proofs.Bytes.{pow-pos, length-unbe}
+use Rattle.laws.proofs.Lengths.{length-field, length-write, size-most, length-effect, weight}
 use Rattle.wire.specs.Fields.{head}
 use Rattle.outgoing.specs.Wrote.{wrote, Says, SaysFields}
 
@@ -72,6 +72,10 @@ pub first-field : {o : List ℕ} {at t v : ℕ} {ts vs o₁ o₂ : List ℕ} {r�
 unfolding writes
 first-field {o} {at} {t} {v} {ts} {vs} {o₁} {o₂} {r₁} {r₂} p q =
     record { says = says-both o at (field t (unbe (width t) v)) (writes ts vs) o₁ o₂ r₁ r₂ p (q .says); even = ap suc (q .even) }
+
+-- a field whose width is that of its tag
+pub last-field : {o : List ℕ} {at t v w : ℕ} {o₁ : List ℕ} {r₁ : ℕ} → w ≡ width t → Says o at (field t (unbe w v)) o₁ r₁ → SaysFields o at (t ∷ []) (v ∷ []) o₁ r₁
+last-field {o} {at} {t} {v} {w} {o₁} {r₁} e p = first-field (subst (λ (i : ℕ). Says o at (field t (unbe i v)) o₁ r₁) e p) no-fields
 
 writes-append : (ts us vs ws : List ℕ) → length ts ≡ length vs → writes (ts ++ us) (vs ++ ws) ≡ writes ts vs ++ writes us ws
 unfolding writes

@@ -9,7 +9,7 @@ ghost use Prim.Native.Nat.{_+_, _^_, _<_, _≤_};
 ghost use lib.ListN.{length};
 ghost use Rattle.fields.specs.Names.{nameOf};
 ghost use Rattle.rules.specs.Lists.{unbe};
-ghost use Rattle.rules.specs.Messages.{field, write, vote, blame, blameSet, status};
+ghost use Rattle.rules.specs.Messages.{width as widthOf, field, write, vote, blame, blameSet, status};
 ghost use Rattle.rules.specs.Words.{message};
 ghost use Rattle.wire.specs.Meaning.{statementOf};
 ghost use Rattle.outgoing.specs.Wrote.{Says, SaysFields};
@@ -56,6 +56,16 @@ fn ending(out: &mut [u8], at: usize, mask: u16, author: u8) -> usize
     number_field(out, eight, 8, 1, author as u64)
 }
 
+// The fields 1, 2 and one more: kind, view, and a number.
+fn short(out: &mut [u8], at: usize, kind: u8, view: u32, tag: u8, width: usize, value: u64) -> usize
+    requires { ⌜ (at + 14 + width ≤ length (now out)) × (width ≤ 8) × (value < 256 ^ width) × (width ≡ widthOf tag) ⌝ }
+    ensures { λ r. ⌜ SaysFields (now (out .entry)) at (1 ∷ 2 ∷ tag ∷ []) (kind ∷ view ∷ value ∷ []) (now (out .exit)) r ⌝ }
+{
+    let two = number_field(out, at, 1, 1, kind as u64);
+    let last = number_field(out, two, 2, 4, view as u64);
+    number_field(out, last, tag, width, value)
+}
+
 // Kind 1, new-view.
 pub fn new_view_out(out: &mut [u8], at: usize, x: Statement) -> usize
     requires { ⌜ (x .«is_new_view» ≡ true) × (nameOf (x .link) < 256 ^ 4) × (at + 69 ≤ length (now out)) ⌝ }
@@ -94,9 +104,7 @@ pub fn blame_out(out: &mut [u8], at: usize, view: u32, author: u8) -> usize
     requires { ⌜ at + 15 ≤ length (now out) ⌝ }
     ensures { λ r. ⌜ Says (now (out .entry)) at (write (blame view author)) (now (out .exit)) r ⌝ }
 {
-    let two = number_field(out, at, 1, 1, 4);
-    let eight = number_field(out, two, 2, 4, view as u64);
-    number_field(out, eight, 8, 1, author as u64)
+    short(out, at, 4, view, 8, 1, author as u64)
 }
 
 // Kind 5, blame set.
@@ -104,9 +112,7 @@ pub fn blame_set_out(out: &mut [u8], at: usize, view: u32, mask: u16) -> usize
     requires { ⌜ at + 16 ≤ length (now out) ⌝ }
     ensures { λ r. ⌜ Says (now (out .entry)) at (write (blameSet view mask)) (now (out .exit)) r ⌝ }
 {
-    let two = number_field(out, at, 1, 1, 5);
-    let seven = number_field(out, two, 2, 4, view as u64);
-    number_field(out, seven, 7, 2, mask as u64)
+    short(out, at, 5, view, 7, 2, mask as u64)
 }
 
 // Kind 6, status.

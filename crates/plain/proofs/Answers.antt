@@ -5,36 +5,33 @@ use mathlib.Core.Bool.{Bool, true, false, _&&_}
 use mathlib.Core.List.{List, [], _∷_}
 use mathlib.Core.Option.{Option, none, some}
 use native.Mathlib.Omega.{arith}
-use lib.ListN.{length, take, drop}
+use lib.ListN.{length, take}
 use lib.Seq.{length-take-le}
 use lib.Dec.{leb, eqb}
-use borrow.Author.Tests.{leb-true, eq-eqb, ne-eqb}
+use borrow.Author.Tests.{leb-true, eqb-true, eq-eqb, ne-eqb}
 use Rattle.rules.specs.Limits.{Size, small, leastOut, leastOutSmall}
 use Rattle.rules.specs.Lists.{be}
 use Rattle.rules.specs.Messages.{outgoing}
-use Rattle.rules.specs.Words as words
 use Rattle.rules.specs.Words.{State}
 use Rattle.rules.specs.Refusals as rules
-use Rattle.rules.specs.Refusals.{Outcome}
-use Rattle.rules.specs.WellFormed.{wellFormed}
-use Rattle.rules.proofs.Tests.{by-bool, no-some}
-use Rattle.rules.proofs.Truths.{and-2}
-use Rattle.rules.proofs.Bytes as bytes
+use Rattle.laws.proofs.Tests.{by-bool}
+use Rattle.laws.proofs.Truths.{and-2}
+use Rattle.laws.proofs.Bytes as bytes
 use Rattle.fields.specs.Places.{number, Bytes}
-use Rattle.wire.proofs.Reading.{be-number}
-use Rattle.kept.proofs.Outs.{step-room, offer-room, tick-room}
-use Rattle.lent_list.specs.Lists.{Input, tick, offer, message, kindOf, bytesOf, hasLength, hasForm, settingsIn, inputsOf}
+use Rattle.lent_list.specs.Lists.{Input, offer, kindOf, bytesOf, inputOf, hasLength, hasForm}
 use Rattle.settings.specs.Made.{sizeFrom}
 use Rattle.slots.specs.Slots.{isInput}
+use Rattle.lent_list.proofs.Rooms.{answer-room}
 use Rattle.lent_list.proofs.Kept.{Handed, kept-input, most-number}
 use Rattle.lent_list.specs.Plain.{answerTo, isKept, folded, held, Answer, refusal, entering, kept, plainly, plainOffer, Gives}
 use Rattle.plain_tables.specs.Meaning.{state}
 use Rattle.plain_messages.specs.Whole.{Whole}
 use Rattle.plain_turns.specs.Turns.{Answered}
-use Rattle.plain.specs.Meaning.{foldOf, FoldedTo, bar}
+use Rattle.plain.specs.Meaning.{FoldedTo, bar}
 use Rattle.plain.specs.declared.Folded.{Folded}
 use Rattle.plain_turns.specs.declared.Turn.{Turn}
 use Rattle.plain_tables.specs.declared.Engine.{Engine}
+use Rattle.plain.proofs.Folding.{formless, came}
 
 -- the bytes of a slice, as a list's
 pub plain-bytes : (s : List ℕ) → Bytes s → bytes.Bytes s
@@ -45,12 +42,6 @@ plain-bytes (x ∷ s) h = bytes.one (h 0 .fits) (plain-bytes s (λ i. h (suc i))
 small-group : {e : Engine} → Whole e → state e .settings .size ≡ small
 unfolding state
 small-group w = ap sizeFrom (w .sized .small)
-
-answer-room : (s : State) → wellFormed s ≡ true → (x : Input) → length (outgoing (answerTo x s .out)) ≤ leastOut (s .settings .size)
-unfolding answerTo
-answer-room s w tick = tick-room s w
-answer-room s w (offer name) = offer-room s (be name)
-answer-room s w (message bs) = step-room s bs
 
 module _ (l o : List ℕ) where
   abbrev lengths-good : Bool
@@ -96,13 +87,6 @@ module _ (l o : List ℕ) where
     unfolding plainly
     plain-by e = ap judged e
 
-    abbrev gives : Bool → Option State
-    gives z = elim z [ false ↦ none | true ↦ folded (words.fresh (settingsIn l)) (inputsOf l) ]
-
-    formless : hasForm l ≡ false → held l ≡ none
-    unfolding held
-    formless f = ap gives f
-
     refused-by : (k : ℕ) {r : ℕ} → plainly x l o ≡ refusal k l o → r ≡ k * 2 ^ 32 → Gives (plainly x l o) r l o
     refused-by k e d = rw e (unfold refusal in record { result = d; list = refl; out = refl })
 
@@ -111,22 +95,15 @@ module _ (l o : List ℕ) where
         by-bool lengths-good
         (λ p.
         by-bool (hasForm l) (λ f. absurd (n (e ∙ bar-form p f)))
-        (λ f. refused-by 2 (plain-by p ∙ ap looked (formless f)) (d ∙ ap (_* 2 ^ 32) (e ∙ bar-form p f))))
+        (λ f. refused-by 2 (plain-by p ∙ ap looked (formless l f)) (d ∙ ap (_* 2 ^ 32) (e ∙ bar-form p f))))
         (λ p. refused-by 1 (plain-by p) (d ∙ ap (_* 2 ^ 32) (e ∙ bar-short p)))
 
     module _ {q : ℕ} (e : q ≡ bar l o) (z : q ≡ 0) {f : Folded} (g : FoldedTo (held l) f) where
       passes : lengths-good ≡ true
       passes = not-barred (sym e ∙ z) .0
 
-      abbrev fold-to : Bool → Option State
-      fold-to w = elim w [ true ↦ some (state (f .engine)) | false ↦ none ]
-
-      came : {w : Bool} → f .good ≡ w → fold-to w ≡ held l
-      unfolding foldOf
-      came u = sym (ap fold-to u) ∙ g .is
-
       pub no-state : {r : ℕ} → f .good ≡ false → r ≡ 2 * 2 ^ 32 → Gives (plainly x l o) r l o
-      no-state u d = refused-by 2 (plain-by passes ∙ ap looked (sym (came u))) d
+      no-state u d = refused-by 2 (plain-by passes ∙ ap looked (sym (came g u))) d
 
       module _ (u : f .good ≡ true) {t : Turn} {o₁ : List ℕ} (y : Answered (answerTo x (state (f .engine))) t o₁) where
         said-is : take (t .count - 0) o₁ ≡ take (t .count) o₁
@@ -138,7 +115,7 @@ module _ (l o : List ℕ) where
         answered-by {k} {bs} {said} {r} {l′} {o′} a b c h =
             let s : said ≡ outgoing (answerTo x (state (f .engine)) .out) = c ∙ said-is ∙ y .turned .out in
             let i : entering k bs (t .number) said l o ≡ plainly x l o =
-            (λ j. entering (a j) (b j) (y .turned .number j) (s j) l o) ∙ sym (plain-by passes ∙ ap looked (sym (came u))) in
+            (λ j. entering (a j) (b j) (y .turned .number j) (s j) l o) ∙ sym (plain-by passes ∙ ap looked (sym (came g u))) in
             subst (λ (v : Answer). Gives v r l′ o′) i h
 
         module _ (whole : length o₁ ≡ leastOutSmall) where
@@ -157,17 +134,29 @@ module _ (l o : List ℕ) where
           part-length = ap length said-is ∙ length-take-le (t .count) o₁ count-fits
 
           -- what entering the answer asks for
-          pub may-enter : bytes.Bytes (bytesOf x) → Handed x
-              → ((hasLength l ≡ true) × (isKept (t .number) ≡ true → isInput (kindOf x) (bytesOf x) ≡ true))
+          pub may-enter : {k : ℕ} {bs : List ℕ} → k ≡ kindOf x → bs ≡ bytesOf x → bytes.Bytes bs → Handed x
+              → ((hasLength l ≡ true) × (isKept (t .number) ≡ true → isInput k bs ≡ true))
               × ((t .number < 256) × (length (take (t .count - 0) o₁) < 2 ^ 32) × (length (take (t .count - 0) o₁) ≤ length o))
-          may-enter b n = (
-            (open-list e z .0, λ k. kept-input (state (f .engine)) x b n (ap isKept (sym (y .turned .number)) ∙ k)),
+          may-enter {k} {bs} a d b n = (
+            (
+              open-list e z .0,
+              λ m. ap₂ isInput a d ∙ kept-input (state (f .engine)) x (subst bytes.Bytes d b) n (ap isKept (sym (y .turned .number)) ∙ m),
+            ),
             (
               omega (arith, most-number (state (f .engine)) x, y .turned .number),
               omega (arith, part-length, count-few),
               omega (arith, part-length, count-few, open-out e z),
             ),
           )
+
+-- ---- an input by its kind
+
+-- a name that comes is handed over whole
+pub handed : (k : ℕ) (bs : List ℕ) → (k ≡ 2 → length bs ≡ 32) → Handed (inputOf k bs)
+unfolding inputOf
+handed k bs h =
+    by-bool (eqb k 1) (λ e. rw (e, inputOf) tt)
+    (λ e. by-bool (eqb k 2) (λ f. rw (e, inputOf, f) (h (eqb-true k 2 f))) (λ f. rw (e, inputOf, f) tt))
 
 -- ---- an offered name
 
@@ -184,9 +173,3 @@ module _ (name l o : List ℕ) where
 
   pub name-good : {r : ℕ} {l′ o′ : List ℕ} → length name ≡ 32 → Gives (plainly (offer name) l o) r l′ o′ → Gives (plainOffer name l o) r l′ o′
   name-good n h = rw (named (eq-eqb (length name) 32 n)) h
-
-  -- the name as the code reads it
-  pub name-read : (s : State) {b : ℕ} {t : Turn} {o₁ : List ℕ} → length name ≡ 32 → b ≡ number name 0 32 → Answered (rules.offer b s) t o₁ → Answered (answerTo (offer name) s) t o₁
-  unfolding answerTo
-  name-read s {b} {t} {o₁} n e h =
-      subst (λ (v : ℕ). Answered (rules.offer v s) t o₁) (e ∙ ap (number name 0) (sym n) ∙ sym (be-number name)) h

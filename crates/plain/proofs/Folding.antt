@@ -2,21 +2,20 @@
 use Prim.Native.Nat.{ℕ, _+_, _-_, _<_, _≤_}
 use mathlib.Core.Path.{_≡_, refl, sym, ap, ap₂, _∙_, subst}
 use mathlib.Core.Bool.{Bool, true, false, _&&_, and-false}
-use mathlib.Core.List.{List, [], _∷_, _++_}
+use mathlib.Core.List.{List, _∷_, _++_}
 use mathlib.Core.Option.{Option, none, some}
 use native.Mathlib.Omega.{arith}
 use lib.ListN.{length}
 use lib.Dec.{leb, eqb}
 use borrow.Author.Tests.{eqb-true, eq-eqb, ne-eqb, le-leb, lt-leb}
-use Rattle.rules.specs.Limits.{small, leastOut, leastOutSmall}
+use Rattle.rules.specs.Limits.{leastOut, leastOutSmall}
 use Rattle.rules.specs.Lists.{be}
 use Rattle.rules.specs.Sizes.{goodSettings}
 use Rattle.rules.specs.Words as words
 use Rattle.rules.specs.Words.{State}
 use Rattle.rules.specs.Refusals as rules
-use Rattle.rules.specs.Refusals.{Outcome}
 use Rattle.rules.specs.WellFormed.{wellFormed}
-use Rattle.rules.proofs.Truths.{and-3}
+use Rattle.laws.proofs.Truths.{and-3}
 use Rattle.kept.proofs.WellFormed.{fresh-whole}
 use Rattle.fields.specs.Places.{number}
 use Rattle.wire.proofs.Reading.{be-number}
@@ -37,9 +36,19 @@ use Rattle.plain_messages.specs.Whole.{Whole}
 use Rattle.plain_turns.specs.Turns.{Answered}
 use Rattle.plain.specs.Meaning.{foldOf, FoldedTo, bar}
 use Rattle.plain_tables.specs.declared.Engine.{Engine}
+use Rattle.plain.specs.declared.Folded.{Folded}
 use Rattle.plain_turns.specs.declared.Turn.{Turn}
 
 -- ---- the fold
+
+module _ {s : Option State} {f : Folded} (g : FoldedTo s f) where
+  abbrev fold-to : Bool → Option State
+  fold-to w = elim w [ true ↦ some (state (f .engine)) | false ↦ none ]
+
+  -- what a fold came to, by whether it is good
+  pub came : {w : Bool} → f .good ≡ w → fold-to w ≡ s
+  unfolding foldOf
+  came u = sym (ap fold-to u) ∙ g .is
 
 module _ (l : List ℕ) where
   pub good-head : (g : Settings) → hasForm l ≡ true → settingsOf g ≡ settingsIn l → goodSettings (settingsOf g) ≡ true
@@ -51,6 +60,10 @@ module _ (l : List ℕ) where
 
   abbrev gives : Bool → Option State
   gives z = elim z [ false ↦ none | true ↦ folded (words.fresh (settingsIn l)) (inputsOf l) ]
+
+  pub formless : hasForm l ≡ false → held l ≡ none
+  unfolding held
+  formless f = ap gives f
 
   pub fold-starts : (g : Settings) (e : Engine) → hasForm l ≡ true → settingsOf g ≡ settingsIn l → Gives e (words.fresh (settingsOf g)) → folded (state e) (inputsAfter l 0) ≡ held l
   unfolding held
@@ -103,10 +116,10 @@ module _ (k : ℕ) (bs : List ℕ) (s : State) {t : Turn} {o : List ℕ} where
   unfolding answerTo inputOf
   by-tick e h = rw (eq-eqb k 1 e, inputOf) h
 
-  pub by-offer : {b : ℕ} → (k ≡ 1 → ⊥) → k ≡ 2 → isInput k bs ≡ true → b ≡ number bs 0 32 → Answered (rules.offer b s) t o → Answered (answerTo (inputOf k bs) s) t o
+  pub by-offer : {b : ℕ} → (k ≡ 1 → ⊥) → k ≡ 2 → length bs ≡ 32 → b ≡ number bs 0 32 → Answered (rules.offer b s) t o → Answered (answerTo (inputOf k bs) s) t o
   unfolding answerTo inputOf
   by-offer {b} d e i n h =
-      let c : be bs ≡ b = be-number bs ∙ ap (number bs 0) (name-long k bs i e) ∙ sym n in
+      let c : be bs ≡ b = be-number bs ∙ ap (number bs 0) i ∙ sym n in
       rw (ne-eqb k 1 d, inputOf, eq-eqb k 2 e, c) h
 
   pub by-step : (k ≡ 1 → ⊥) → (k ≡ 2 → ⊥) → Answered (rules.step bs s) t o → Answered (answerTo (inputOf k bs) s) t o

@@ -7,24 +7,24 @@ use mathlib.Core.Option.{Option, none, some}
 use native.Mathlib.Omega.{arith}
 use lib.ListN.{length, drop, getD, length-append}
 use lib.Dec.{leb}
-use Rattle.rules.specs.Limits.{small, leastOut, leastOutSmall}
+use Rattle.rules.specs.Limits.{small, leastOut}
 use Rattle.rules.specs.Lists.{unbe}
-use Rattle.rules.specs.Words as words
 use Rattle.rules.specs.Words.{State}
-use Rattle.rules.proofs.Bytes.{length-unbe}
-use Rattle.rules.proofs.Tests.{by-bool}
+use Rattle.laws.proofs.Bytes.{length-unbe}
+use Rattle.laws.proofs.Tests.{by-bool}
 use Rattle.fields.specs.Names.{nameOf}
 use Rattle.fields.specs.declared.Name.{Name}
 use Rattle.outgoing.specs.Wrote.{wrote}
 use Rattle.outgoing.proofs.Writing.{wrote-append, wrote-prefix}
-use Rattle.lent_list.specs.Lists.{hasLength, hasForm, settingsIn, inputsOf}
-use Rattle.lent_list.specs.Plain.{folded, held, Left, left, logBytes, logged, plainLog}
+use Rattle.lent_list.specs.Lists.{hasLength, hasForm}
+use Rattle.lent_list.specs.Plain.{held, Left, left, logBytes, logged, plainLog}
 use Rattle.plain_words.specs.Places.{Within}
 use Rattle.plain_words.proofs.Firsts.{firsts-long, firsts-done, firsts-next}
 use Rattle.plain_tables.specs.Meaning.{names, room, state}
 use Rattle.plain_tables.specs.declared.Names.{Names}
-use Rattle.plain.specs.Meaning.{foldOf, FoldedTo, bar}
+use Rattle.plain.specs.Meaning.{FoldedTo, bar}
 use Rattle.plain.specs.declared.Folded.{Folded}
+use Rattle.plain.proofs.Folding.{formless, came}
 use Rattle.plain.proofs.Answers.{bar-form, bar-short, not-barred, open-out}
 
 bytes-long : (bs : List ℕ) → length (logBytes bs) ≡ 32 * length bs
@@ -72,34 +72,20 @@ module _ (l o : List ℕ) where
   unfolding plainLog
   log-by e = sym (ap tested e)
 
-  abbrev gives : Bool → Option State
-  gives z = elim z [ false ↦ none | true ↦ folded (words.fresh (settingsIn l)) (inputsOf l) ]
-
-  formless : hasForm l ≡ false → held l ≡ none
-  unfolding held
-  formless f = ap gives f
-
   pub log-barred : {q r : ℕ} → q ≡ bar l o → (q ≡ 0 → ⊥) → r ≡ q * 2 ^ 32 → left r o ≡ plainLog l o
   log-barred {q} {r} e n d =
       by-bool lengths-good
       (λ p.
       by-bool (hasForm l) (λ f. absurd (n (e ∙ bar-form l o p f)))
-      (λ f. ap (λ (k : ℕ). left k o) (d ∙ ap (_* 2 ^ 32) (e ∙ bar-form l o p f)) ∙ sym (ap looked (formless f)) ∙ log-by p))
+      (λ f. ap (λ (k : ℕ). left k o) (d ∙ ap (_* 2 ^ 32) (e ∙ bar-form l o p f)) ∙ sym (ap looked (formless l f)) ∙ log-by p))
       (λ p. ap (λ (k : ℕ). left k o) (d ∙ ap (_* 2 ^ 32) (e ∙ bar-short l o p)) ∙ log-by p)
 
   module _ {q : ℕ} (e : q ≡ bar l o) (z : q ≡ 0) {f : Folded} (g : FoldedTo (held l) f) where
     passes : lengths-good ≡ true
     passes = not-barred l o (sym e ∙ z) .0
 
-    abbrev fold-to : Bool → Option State
-    fold-to w = elim w [ true ↦ some (state (f .engine)) | false ↦ none ]
-
-    came : {w : Bool} → f .good ≡ w → fold-to w ≡ held l
-    unfolding foldOf
-    came u = sym (ap fold-to u) ∙ g .is
-
     pub log-none : {r : ℕ} → f .good ≡ false → r ≡ 2 * 2 ^ 32 → left r o ≡ plainLog l o
-    log-none u d = ap (λ (k : ℕ). left k o) d ∙ ap looked (came u) ∙ log-by passes
+    log-none u d = ap (λ (k : ℕ). left k o) d ∙ ap looked (came g u) ∙ log-by passes
 
     -- the log fits the least out buffer
     pub log-fits : 32 * room ≤ length o
@@ -111,4 +97,4 @@ module _ (l o : List ℕ) where
         let bs = logBytes (names (f .engine .log)) in
         let w = g .whole .sized .log in
         let h : length bs ≤ length o = omega (arith, log-long (f .engine .log) w, w .most, log-fits) in
-        ap₂ left d (p ∙ wrote-prefix o bs h) ∙ ap looked (came u) ∙ log-by passes
+        ap₂ left d (p ∙ wrote-prefix o bs h) ∙ ap looked (came g u) ∙ log-by passes

@@ -7,14 +7,13 @@ ghost use Rattle.rules.specs.Limits.{leastOutSmall};
 ghost use Rattle.rules.specs.Lists.{unbe};
 ghost use Rattle.fields.specs.Names.{nameOf};
 ghost use Rattle.outgoing.specs.Wrote.{wrote};
-ghost use Rattle.slots.specs.Slots.{isInput};
 ghost use Rattle.lent_list.specs.Lists.{hasLength, hasForm, inputOf};
-ghost use Rattle.lent_list.specs.Plain.{answerTo, held, plainStep, plainTick, plainOffer, Gives as Answers, left, logBytes, plainLog};
+ghost use Rattle.lent_list.specs.Plain.{answerTo, held, plainly, plainStep, plainTick, plainOffer, Gives as Answers, left, logBytes, plainLog};
 ghost use Rattle.plain_words.specs.Places.{Within};
 ghost use Rattle.plain_tables.specs.Meaning.{names, room, state};
 ghost use Rattle.plain_messages.specs.Whole.{Whole};
 ghost use Rattle.plain_turns.specs.Turns.{Answered};
-ghost use Rattle.plain.specs.Meaning.{FoldedTo, bar};
+ghost use Rattle.plain.specs.Meaning.{FoldedTo, bar, Comes};
 use fields::Name;
 use lent_list::Held;
 use plain_tables::Engine;
@@ -22,7 +21,6 @@ use plain_tables::Names;
 use plain_turns::Turn;
 use settings::Settings;
 
-// STUB: `plain_ticks::tick` takes its place; the only function here that is not proved.
 // A state that a fold came to, or that it came to none.
 struct Folded {
     good: bool,
@@ -31,7 +29,7 @@ struct Folded {
 
 // What an input of a list makes of a station.
 fn turn_by(e: Engine, kind: u64, input: &[u8], out: &mut [u8]) -> Turn
-    requires { ⌜ (Whole e) × (isInput kind (now input) ≡ true) × (leastOutSmall ≤ length (now out)) ⌝ }
+    requires { ⌜ (Whole e) × (kind ≡ 2 → length (now input) ≡ 32) × (leastOutSmall ≤ length (now out)) ⌝ }
     ensures { λ r. ⌜ Answered (answerTo (inputOf kind (now (input .entry))) (state e)) r (now (out .exit)) ⌝ }
 {
     if kind == 1 {
@@ -93,10 +91,10 @@ fn barred(list: &[u8], out: &[u8]) -> u64
     1
 }
 
-// A tick.
-#[no_mangle]
-pub extern "C" fn plain_tick(list: &mut [u8], out: &mut [u8]) -> u64
-    ensures { λ r. ⌜ Answers (plainTick (now (list .entry)) (now (out .entry))) r (now (list .exit)) (now (out .exit)) ⌝ }
+// An input comes: barred, or what the rules say of the state that the whole list gives, which then keeps the input.
+fn answered(list: &mut [u8], out: &mut [u8], kind: u64, input: &[u8]) -> u64
+    requires { ⌜ Comes kind (now input) ⌝ }
+    ensures { λ r. ⌜ Answers (plainly (inputOf kind (now (input .entry))) (now (list .entry)) (now (out .entry))) r (now (list .exit)) (now (out .exit)) ⌝ }
 {
     let number = barred(list, out);
     if number != 0 {
@@ -106,11 +104,19 @@ pub extern "C" fn plain_tick(list: &mut [u8], out: &mut [u8]) -> u64
     if folded.good {
         let mut said = [0u8; Settings::LEAST_OUT];
         let engine = folded.engine;
-        let t = plain_ticks::tick(engine, &mut said);
+        let t = turn_by(engine, kind, input, &mut said);
         let count = t.count;
-        return lent_list::enter(list, out, 1, b"", t.number, &said[0..count]);
+        return lent_list::enter(list, out, kind, input, t.number, &said[0..count]);
     }
     slots::refuse(2)
+}
+
+// A tick.
+#[no_mangle]
+pub extern "C" fn plain_tick(list: &mut [u8], out: &mut [u8]) -> u64
+    ensures { λ r. ⌜ Answers (plainTick (now (list .entry)) (now (out .entry))) r (now (list .exit)) (now (out .exit)) ⌝ }
+{
+    answered(list, out, 1, b"")
 }
 
 // A message.
@@ -118,19 +124,7 @@ pub extern "C" fn plain_tick(list: &mut [u8], out: &mut [u8]) -> u64
 pub extern "C" fn plain_step(list: &mut [u8], message: &[u8], out: &mut [u8]) -> u64
     ensures { λ r. ⌜ Answers (plainStep (now (message .entry)) (now (list .entry)) (now (out .entry))) r (now (list .exit)) (now (out .exit)) ⌝ }
 {
-    let number = barred(list, out);
-    if number != 0 {
-        return slots::refuse(number);
-    }
-    let folded = fold(list);
-    if folded.good {
-        let mut said = [0u8; Settings::LEAST_OUT];
-        let engine = folded.engine;
-        let t = plain_turns::step(engine, message, &mut said);
-        let count = t.count;
-        return lent_list::enter(list, out, 3, message, t.number, &said[0..count]);
-    }
-    slots::refuse(2)
+    answered(list, out, 3, message)
 }
 
 // An offered name.
@@ -141,20 +135,7 @@ pub extern "C" fn plain_offer(list: &mut [u8], name: &[u8], out: &mut [u8]) -> u
     if name.len() != 32 {
         return slots::refuse(1);
     }
-    let number = barred(list, out);
-    if number != 0 {
-        return slots::refuse(number);
-    }
-    let folded = fold(list);
-    if folded.good {
-        let mut said = [0u8; Settings::LEAST_OUT];
-        let engine = folded.engine;
-        let block = fields::get_name(name, 0);
-        let t = plain_offers::offer(engine, block, &mut said);
-        let count = t.count;
-        return lent_list::enter(list, out, 2, name, t.number, &said[0..count]);
-    }
-    slots::refuse(2)
+    answered(list, out, 2, name)
 }
 
 // Writes a name at a place.

@@ -16,7 +16,7 @@ use Rattle.rules.specs.Messages.{Effect, toAll, blameSet, effect, outgoing}
 use Rattle.rules.specs.Words as words
 use Rattle.rules.specs.Words.{sameStatement, ownBlock, certificate, join, joinCertificate}
 use Rattle.rules.specs.Inputs as inputs
-use Rattle.rules.proofs.Allowed.{sizes}
+use Rattle.laws.proofs.Allowed.{sizes}
 use Rattle.settings.specs.Made.{settingsOf}
 use Rattle.outgoing.specs.Wrote.{Says}
 use Rattle.outgoing.proofs.Writing.{says-none, says-one, says-outgoing}

@@ -15,15 +15,15 @@ use Rattle.rules.specs.Words.{Statement, message, ofBlock, ownBlock, State}
 use Rattle.rules.specs.Inputs as inputs
 use Rattle.rules.specs.Inputs.{pair, inOrder, votingAll, arrive, entersNow, nextLock, report, entered, enter}
 use Rattle.rules.specs.WellFormed.{isName, statementGood, talliesThere}
-use Rattle.rules.proofs.Tests.{by-bool}
-use Rattle.rules.proofs.Truths.{and-2, and-4}
-use Rattle.rules.proofs.Searches.{mem-keep}
-use Rattle.rules.proofs.Statements.{pair-some, mem-order}
-use Rattle.rules.proofs.Allowed.{view-within}
-use Rattle.rules.proofs.Kept.{enters-at}
+use Rattle.laws.proofs.Tests.{by-bool}
+use Rattle.laws.proofs.Truths.{and-2, and-4}
+use Rattle.laws.proofs.Searches.{mem-keep}
+use Rattle.laws.proofs.Statements.{pair-some, mem-order}
+use Rattle.laws.proofs.Allowed.{view-within}
+use Rattle.laws.proofs.Kept.{enters-at}
 use Rattle.kept.specs.Parts.{Formed}
 use Rattle.kept.proofs.Lists.{all-mem, mem-each}
-use Rattle.rules.proofs.Lengths.{bytes, bytes-cons, bytes-none, length-effect}
+use Rattle.laws.proofs.Lengths.{bytes, bytes-cons, bytes-none, length-effect}
 use Rattle.kept.proofs.Tallies.{highest-good}
 use Rattle.kept.proofs.Phases.{entering-formed}
 use Rattle.settings.specs.Made.{settingsOf}

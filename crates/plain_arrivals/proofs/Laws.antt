@@ -13,8 +13,8 @@ use Rattle.rules.specs.Words as words
 use Rattle.rules.specs.Words.{Statement, Moment, Certificate, Tally, ofBlock, ownBlock, sameBlock, join, message, moment, State}
 use Rattle.rules.specs.Inputs as inputs
 use Rattle.rules.specs.Inputs.{_▸_, voting, votingAll}
-use Rattle.rules.proofs.Tests.{by-bool, no-bool}
-use Rattle.rules.proofs.Lengths.{weight, bytes, bytes-cons, bytes-none, size-most}
+use Rattle.laws.proofs.Tests.{by-bool, no-bool}
+use Rattle.laws.proofs.Lengths.{weight, bytes, bytes-cons, bytes-none, size-most}
 use Rattle.kept.proofs.Tallies.{join-any}
 use Rattle.wire.specs.Meaning.{statementOf, Linked}
 use Rattle.outgoing.proofs.Writing.{says-none, says-outgoing, says-length}

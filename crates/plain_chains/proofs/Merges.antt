@@ -17,7 +17,7 @@ use Rattle.plain_words.proofs.Firsts.{firsts-long, firsts-at}
 use Rattle.plain_tables.specs.Meaning.{names, room}
 use Rattle.plain_tables.specs.declared.Names.{Names}
 use Rattle.rules.specs.Inputs.{merge}
-use Rattle.rules.proofs.Tests.{by-bool, no-bool}
+use Rattle.laws.proofs.Tests.{by-bool, no-bool}
 
 -- the first k names of both are there and the same
 pub agree : ℕ → List ℕ → List ℕ → Bool

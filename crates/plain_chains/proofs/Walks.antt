@@ -13,9 +13,9 @@ use Rattle.fields.specs.declared.Name.{Name}
 use Rattle.rules.specs.Lists.{first, keep}
 use Rattle.rules.specs.Words.{Statement}
 use Rattle.rules.specs.Inputs.{isBlock, chainTo, chain}
-use Rattle.rules.proofs.Tests.{by-option, no-some}
-use Rattle.rules.proofs.Truths.{and-2, both}
-use Rattle.rules.proofs.Searches.{first-any, first-mem}
+use Rattle.laws.proofs.Tests.{by-option, no-some}
+use Rattle.laws.proofs.Truths.{and-2, both}
+use Rattle.laws.proofs.Searches.{first-any, first-mem}
 use Rattle.kept.proofs.Lists.{keep-length, keep-fewer-by}
 use Rattle.kept.proofs.Logs.{block-parts}
 use Rattle.plain_words.specs.Places.{firsts, Within}

@@ -82,23 +82,11 @@ fn entering(e: Engine, lock: Certificate) -> Engine
     requires { ⌜ e .view ≤ lastViewSmall ⌝ }
     ensures { λ r. ⌜ r ≡ nextView lock e ⌝ }
 {
-    let settings = e.settings;
-    let statements = e.statements;
-    let tallies = e.tallies;
-    let blames = e.blames;
-    let log = e.log;
-    Engine {
-        settings,
-        phase: Phase::InView,
-        view: e.view + 1,
-        entry: e.clock,
-        clock: e.clock,
-        lock,
-        statements,
-        tallies,
-        blames,
-        log,
-    }
+    let mut next = e.with_phase(Phase::InView);
+    next.view = e.view + 1;
+    next.entry = e.clock;
+    next.lock = lock;
+    next
 }
 
 // The next view is entered: what is locked on, and what is said of it.

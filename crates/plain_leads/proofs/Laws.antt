@@ -13,8 +13,8 @@ use Rattle.rules.specs.Words as words
 use Rattle.rules.specs.Words.{State, highest, message}
 use Rattle.rules.specs.Inputs as inputs
 use Rattle.rules.specs.Inputs.{leads, leadsNow, ownNewView, lead, handled, saying}
-use Rattle.rules.proofs.Truths.{and-2, both}
-use Rattle.rules.proofs.Allowed.{sizes, view-within}
+use Rattle.laws.proofs.Truths.{and-2, both}
+use Rattle.laws.proofs.Allowed.{sizes, view-within}
 use Rattle.kept.specs.Parts.{Formed}
 use Rattle.kept.proofs.Tallies.{highest-good}
 use Rattle.kept.proofs.Ticks.{leads-own}

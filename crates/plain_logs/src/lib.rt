@@ -46,27 +46,11 @@ fn reports(log: Names, from: usize, out: &mut [u8], at: usize) -> usize
 }
 
 // The station with another log.
-fn with_log(e: Engine, log: Names) -> Engine
+fn with_log(mut e: Engine, log: Names) -> Engine
     ensures { λ r. ⌜ r ≡ logged log e ⌝ }
 {
-    let settings = e.settings;
-    let phase = e.phase;
-    let lock = e.lock;
-    let statements = e.statements;
-    let tallies = e.tallies;
-    let blames = e.blames;
-    Engine {
-        settings,
-        phase,
-        view: e.view,
-        entry: e.entry,
-        clock: e.clock,
-        lock,
-        statements,
-        tallies,
-        blames,
-        log,
-    }
+    e.log = log;
+    e
 }
 
 // The new log is kept, and what it gained is reported.

@@ -14,10 +14,10 @@ use Rattle.rules.specs.Words as words
 use Rattle.rules.specs.Words.{message, sameStatement, conflict, joinCertificate, join, ownBlock, certificate}
 use Rattle.rules.specs.Inputs as inputs
 use Rattle.rules.specs.WellFormed.{isName, statementGood}
-use Rattle.rules.proofs.Tests.{by-bool}
-use Rattle.rules.proofs.Truths.{and-4}
-use Rattle.rules.proofs.Searches.{first-mem}
-use Rattle.rules.proofs.Allowed.{sizes, view-within, allowed-rights}
+use Rattle.laws.proofs.Tests.{by-bool}
+use Rattle.laws.proofs.Truths.{and-4}
+use Rattle.laws.proofs.Searches.{first-mem}
+use Rattle.laws.proofs.Allowed.{sizes, view-within, allowed-rights}
 use Rattle.fields.specs.Names.{nameOf}
 use Rattle.settings.specs.Made.{settingsOf}
 use Rattle.fields.specs.declared.Name.{Name}

@@ -14,7 +14,7 @@ use Rattle.rules.specs.Words as words
 use Rattle.rules.specs.Inputs as inputs
 use Rattle.rules.specs.Refusals as refusals
 use Rattle.rules.specs.WellFormed.{wellFormed}
-use Rattle.rules.proofs.Allowed.{sizes}
+use Rattle.laws.proofs.Allowed.{sizes}
 use Rattle.settings.specs.Made.{settingsOf}
 use Rattle.wire.specs.Meaning.{statementOf}
 use Rattle.kept.proofs.WellFormed.{parts}

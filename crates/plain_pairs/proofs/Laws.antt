@@ -10,18 +10,11 @@ use Rattle.rules.specs.Words.{Statement, conflict, sameStatement, against}
 use Rattle.rules.specs.Inputs.{pair}
 use Rattle.wire.specs.Meaning.{statementOf}
 use Rattle.plain_words.specs.Places.{firsts}
-use Rattle.plain_words.specs.Meaning.{notedOf}
 use Rattle.plain_words.proofs.Firsts.{firsts-next, firsts-done}
-use Rattle.plain_words.proofs.Statements.{conflict-unvoted}
 use Rattle.plain_statements.specs.Meaning.{heldOf}
 use Rattle.plain_statements.specs.declared.Held.{Held}
-use Rattle.wire.specs.declared.Statement as wire
 
 -- no vote matters
-pub conflict-held : (x : wire.Statement) (y : Held) → conflict (statementOf x none) (heldOf y) ≡ conflict (statementOf x none) (statementOf (y .statement) none)
-unfolding heldOf
-conflict-held x y = conflict-unvoted x (y .statement) (notedOf (y .voted))
-
 conflict-own : (x : Held) → conflict (statementOf (x .statement) none) ≡ conflict (heldOf x)
 unfolding conflict sameStatement against heldOf statementOf
 conflict-own x = refl

@@ -11,12 +11,14 @@ use Rattle.wire.specs.declared.Statement as wire
 use Rattle.plain_words.specs.Meaning.{notedOf}
 use Rattle.plain_words.specs.declared.Noted.the-variants.{At}
 use Rattle.plain_words.proofs.Statements.{same-unvoted, conflict-unvoted}
+use Rattle.plain_statements.specs.declared.Ask.{Ask}
+use Rattle.plain_statements.specs.declared.Ask.the-variants.{Same, Conflict, Opens, Uses}
 use Rattle.plain_statements.specs.declared.Held.{Held}
-use Rattle.plain_statements.specs.Meaning.{heldOf, uses, over}
+use Rattle.plain_statements.specs.Meaning.{heldOf, asked, over}
 
 -- no vote matters to a search
 module _ (x : wire.Statement) (h : Held) where
-  pub same-held : words.sameStatement (statementOf x none) (heldOf h) ≡ words.sameStatement (statementOf x none) (statementOf (h .statement) none)
+  same-held : words.sameStatement (statementOf x none) (heldOf h) ≡ words.sameStatement (statementOf x none) (statementOf (h .statement) none)
   unfolding heldOf
   same-held = same-unvoted x (h .statement) (notedOf (h .voted))
 
@@ -24,9 +26,12 @@ module _ (x : wire.Statement) (h : Held) where
   unfolding heldOf
   conflict-held = conflict-unvoted x (h .statement) (notedOf (h .voted))
 
-pub uses-held : (h : Held) (b : ℕ) → uses b (heldOf h) ≡ uses b (statementOf (h .statement) none)
+pub asked-held : (a : Ask) (h : Held) → asked a (heldOf h) ≡ asked a (statementOf (h .statement) none)
 unfolding heldOf statementOf
-uses-held h b = refl
+asked-held (Same x) h = same-held x h
+asked-held (Conflict x) h = conflict-held x h
+asked-held (Opens v) h = refl
+asked-held (Uses b) h = refl
 
 -- a vote that is noted
 pub noted-held : (clock : ℕ) (h : Held) → heldOf (record { statement = h .statement; voted = At clock }) ≡ inputs.noted clock (heldOf h)

@@ -11,6 +11,9 @@ use Rattle.wire.specs.Meaning.{statementOf}
 use Rattle.plain_words.specs.Meaning.{notedOf}
 use Rattle.plain_words.specs.declared.Noted.the-variants.{Never}
 use Rattle.plain_words.specs.Places.{firsts, Within}
+use Rattle.fields.specs.Names.{nameOf}
+use Rattle.plain_statements.specs.declared.Ask.{Ask}
+use Rattle.plain_statements.specs.declared.Ask.the-variants.{Same, Conflict, Opens, Uses}
 use Rattle.plain_statements.specs.declared.Held.{Held}
 use Rattle.plain_statements.specs.declared.Statements.{Statements}
 use Rattle.plain_statements.specs.declared.Found.{Found}
@@ -62,6 +65,13 @@ opens v x = x .isNewView && eqb (x .view) v
 
 abbrev pub uses : ℕ → words.Statement → Bool
 uses b x = eqb b (x .name) || not (x .isNewView) && eqb b (x .link)
+
+-- what a search asks of a statement
+abbrev pub asked : Ask → words.Statement → Bool
+asked (Same x) = words.sameStatement (statementOf x none)
+asked (Conflict x) = words.conflict (statementOf x none)
+asked (Opens v) = opens v
+asked (Uses b) = uses (nameOf b)
 
 -- the step of `top`: a statement, and the top of those behind it
 unfoldable pub over : ℕ → words.Statement → Option words.Statement → Option words.Statement

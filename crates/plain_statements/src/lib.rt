@@ -14,7 +14,7 @@ ghost use Rattle.rules.specs.Inputs as inputs;
 ghost use Rattle.fields.specs.Names.{nameOf};
 ghost use Rattle.wire.specs.Meaning.{statementOf};
 ghost use Rattle.plain_words.specs.Places.{Within, place};
-ghost use Rattle.plain_statements.specs.Meaning.{heldOf, statements, foundOf, room, Holds, opens, uses, over};
+ghost use Rattle.plain_statements.specs.Meaning.{heldOf, statements, foundOf, room, Holds, opens, uses, asked, over};
 
 // The room of the table.
 pub const ROOM: usize = Settings::MOST_STATEMENTS + 1;
@@ -28,6 +28,15 @@ pub struct Held {
 pub struct Statements {
     pub items: [Held; ROOM],
     pub count: usize,
+}
+
+// What a search of the statements asks for: the same one, one that conflicts, a new-view of a view, or one with a name as its own
+// or its parent's.
+enum Ask {
+    Same(Statement),
+    Conflict(Statement),
+    Opens(u32),
+    Uses(Name),
 }
 
 // What a search of the statements finds.
@@ -75,16 +84,37 @@ impl Statements {
         self
     }
 
-    // Where the same statement is stored first.
-    fn place_of_same(self, x: Statement) -> usize
+    // Whether a name is a statement's, or its parent's.
+    fn uses(x: Statement, name: Name) -> bool
+        ensures { λ r. ⌜ r ≡ uses (nameOf name) (statementOf x none) ⌝ }
+    {
+        let own = name.same(x.name);
+        let link = name.same(x.link);
+        own | (!x.is_new_view & link)
+    }
+
+    // Whether a statement is one that is asked for.
+    fn is_asked(ask: Ask, x: Statement) -> bool
+        ensures { λ r. ⌜ r ≡ asked ask (statementOf x none) ⌝ }
+    {
+        match ask {
+            Ask::Same(y) => plain_words::same_statement(y, x),
+            Ask::Conflict(y) => plain_words::conflict(y, x),
+            Ask::Opens(view) => x.is_new_view & (x.view == view),
+            Ask::Uses(name) => Statements::uses(x, name),
+        }
+    }
+
+    // Where the first that is asked for is stored.
+    fn place_of(self, ask: Ask) -> usize
         requires { ⌜ Within room (self .items) (self .count) ⌝ }
-        ensures { λ r. ⌜ r ≡ place (words.sameStatement (statementOf x none)) (statements self) ⌝ }
+        ensures { λ r. ⌜ r ≡ place (asked ask) (statements self) ⌝ }
     {
         let n = self.count;
         let mut i: usize = 0;
         while i < n {
             let held = self.items[i];
-            if plain_words::same_statement(x, held.statement) {
+            if Statements::is_asked(ask, held.statement) {
                 return i;
             }
             i += 1;
@@ -92,13 +122,37 @@ impl Statements {
         n
     }
 
+    // Whether one that is asked for is stored.
+    fn is_any(self, ask: Ask) -> bool
+        requires { ⌜ Within room (self .items) (self .count) ⌝ }
+        ensures { λ r. ⌜ r ≡ any (asked ask) (statements self) ⌝ }
+    {
+        let i = self.place_of(ask);
+        i < self.count
+    }
+
     // Whether the same statement is stored.
     pub fn any_same(self, x: Statement) -> bool
         requires { ⌜ Within room (self .items) (self .count) ⌝ }
         ensures { λ r. ⌜ r ≡ any (words.sameStatement (statementOf x none)) (statements self) ⌝ }
     {
-        let i = self.place_of_same(x);
-        i < self.count
+        self.is_any(Ask::Same(x))
+    }
+
+    // "Has a new-view of that view stored".
+    pub fn is_opened(self, view: u32) -> bool
+        requires { ⌜ Within room (self .items) (self .count) ⌝ }
+        ensures { λ r. ⌜ r ≡ any (opens view) (statements self) ⌝ }
+    {
+        self.is_any(Ask::Opens(view))
+    }
+
+    // "The name or parent of any stored statement".
+    pub fn is_used(self, name: Name) -> bool
+        requires { ⌜ Within room (self .items) (self .count) ⌝ }
+        ensures { λ r. ⌜ r ≡ any (uses (nameOf name)) (statements self) ⌝ }
+    {
+        self.is_any(Ask::Uses(name))
     }
 
     // "Notes the clock" of the vote for a statement.
@@ -106,7 +160,7 @@ impl Statements {
         requires { ⌜ Within room (self .items) (self .count) ⌝ }
         ensures { λ r. ⌜ Holds r (alter (words.sameStatement (statementOf x none)) (inputs.noted clock) (statements self)) ⌝ }
     {
-        let i = self.place_of_same(x);
+        let i = self.place_of(Ask::Same(x));
         if i < self.count {
             let held = self.items[i];
             let statement = held.statement;
@@ -119,79 +173,17 @@ impl Statements {
         self
     }
 
-    // Where the first that conflicts is stored.
-    fn place_of_conflict(self, x: Statement) -> usize
-        requires { ⌜ Within room (self .items) (self .count) ⌝ }
-        ensures { λ r. ⌜ r ≡ place (words.conflict (statementOf x none)) (statements self) ⌝ }
-    {
-        let n = self.count;
-        let mut i: usize = 0;
-        while i < n {
-            let held = self.items[i];
-            if plain_words::conflict(x, held.statement) {
-                return i;
-            }
-            i += 1;
-        }
-        n
-    }
-
     // "The earliest stored conflicting one".
     pub fn first_conflict(self, x: Statement) -> Found
         requires { ⌜ Within room (self .items) (self .count) ⌝ }
         ensures { λ r. ⌜ foundOf r ≡ first (words.conflict (statementOf x none)) (statements self) ⌝ }
     {
-        let i = self.place_of_conflict(x);
+        let i = self.place_of(Ask::Conflict(x));
         if i < self.count {
             let held = self.items[i];
             return Found::Here(held);
         }
         Found::Nowhere
-    }
-
-    // "Has a new-view of that view stored".
-    pub fn is_opened(self, view: u32) -> bool
-        requires { ⌜ Within room (self .items) (self .count) ⌝ }
-        ensures { λ r. ⌜ r ≡ any (opens view) (statements self) ⌝ }
-    {
-        let n = self.count;
-        let mut i: usize = 0;
-        while i < n {
-            let held = self.items[i];
-            let x = held.statement;
-            if x.is_new_view & (x.view == view) {
-                return true;
-            }
-            i += 1;
-        }
-        false
-    }
-
-    // "The name or parent of any stored statement".
-    pub fn is_used(self, name: Name) -> bool
-        requires { ⌜ Within room (self .items) (self .count) ⌝ }
-        ensures { λ r. ⌜ r ≡ any (uses (nameOf name)) (statements self) ⌝ }
-    {
-        let n = self.count;
-        let mut i: usize = 0;
-        while i < n {
-            let held = self.items[i];
-            let x = held.statement;
-            if Statements::uses(x, name) {
-                return true;
-            }
-            i += 1;
-        }
-        false
-    }
-
-    // Whether a name is a statement's, or its parent's.
-    fn uses(x: Statement, name: Name) -> bool
-        ensures { λ r. ⌜ r ≡ uses (nameOf name) (statementOf x none) ⌝ }
-    {
-        let own = name.same(x.name);
-        let link = name.same(x.link);
-        own | (!x.is_new_view & link)
     }
 
     // "The greatest-height statement of the view", the first of several.

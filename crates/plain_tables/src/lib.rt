@@ -111,49 +111,19 @@ impl Engine {
     }
 
     // The station with other tables.
-    pub fn with_tables(self, statements: Statements, tallies: Tallies) -> Engine
+    pub fn with_tables(mut self, statements: Statements, tallies: Tallies) -> Engine
         ensures { λ r. ⌜ r ≡ tabled statements tallies self ⌝ }
     {
-        let settings = self.settings;
-        let phase = self.phase;
-        let lock = self.lock;
-        let blames = self.blames;
-        let log = self.log;
-        Engine {
-            settings,
-            phase,
-            view: self.view,
-            entry: self.entry,
-            clock: self.clock,
-            lock,
-            statements,
-            tallies,
-            blames,
-            log,
-        }
+        self.statements = statements;
+        self.tallies = tallies;
+        self
     }
 
     // The station with other blame masks.
-    pub fn with_blames(self, blames: [u16; VIEWS]) -> Engine
+    pub fn with_blames(mut self, blames: [u16; VIEWS]) -> Engine
         ensures { λ r. ⌜ r ≡ blaming blames self ⌝ }
     {
-        let settings = self.settings;
-        let phase = self.phase;
-        let lock = self.lock;
-        let statements = self.statements;
-        let tallies = self.tallies;
-        let log = self.log;
-        Engine {
-            settings,
-            phase,
-            view: self.view,
-            entry: self.entry,
-            clock: self.clock,
-            lock,
-            statements,
-            tallies,
-            blames,
-            log,
-        }
+        self.blames = blames;
+        self
     }
 }

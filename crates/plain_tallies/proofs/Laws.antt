@@ -14,7 +14,7 @@ use Rattle.rules.specs.Lists.{keep}
 use Rattle.rules.specs.Sizes.{Settings, quorum}
 use Rattle.rules.specs.Words as words
 use Rattle.rules.specs.Words.{Certificate, Moment, reachedAt, certificateOf, ofBlock, sameBlock, opened, grown, join, joinCertificate, voters, isAuthor, openedBy, certified, higher, highest}
-use Rattle.rules.proofs.Tests.{by-bool}
+use Rattle.laws.proofs.Tests.{by-bool}
 use Rattle.plain_words.specs.Places.{firsts, Within, place}
 use Rattle.plain_words.proofs.Firsts.{firsts-more}
 use Rattle.plain_words.proofs.Tables.{counted, inside, outside, item, changed}

@@ -14,9 +14,9 @@ use Rattle.rules.specs.Words.{State}
 use Rattle.rules.specs.Inputs as inputs
 use Rattle.rules.specs.Refusals as refusals
 use Rattle.rules.specs.WellFormed.{wellFormed}
-use Rattle.rules.proofs.Bounds.{out-enough}
-use Rattle.rules.proofs.Commits.{commits-some}
-use Rattle.rules.proofs.Moves.{counted, ticked-none, ticked-some}
+use Rattle.laws.proofs.Bounds.{out-enough}
+use Rattle.laws.proofs.Commits.{commits-some}
+use Rattle.laws.proofs.Moves.{counted, ticked-none, ticked-some}
 use Rattle.kept.proofs.WellFormed.{parts, whole}
 use Rattle.kept.proofs.Phases.{clocks-parts, clock-formed}
 use Rattle.kept.proofs.Logs.{commits-linked}

@@ -13,10 +13,10 @@ use Rattle.rules.specs.Words as words
 use Rattle.rules.specs.Words.{Statement, ofBlock, ownBlock, certificate, sameStatement, conflict, joinCertificate, moment, State}
 use Rattle.rules.specs.Inputs as inputs
 use Rattle.rules.specs.Inputs.{_▸_, logging, complain, lead, enter}
-use Rattle.rules.proofs.Tests.{by-bool, by-option}
+use Rattle.laws.proofs.Tests.{by-bool, by-option}
 use Rattle.kept.specs.Parts.{Formed, WellFormed}
 use Rattle.kept.proofs.WellFormed.{parts, whole}
-use Rattle.rules.proofs.Lengths.{reports-bytes}
+use Rattle.laws.proofs.Lengths.{reports-bytes}
 use Rattle.kept.proofs.Tallies.{block-self, join-there}
 use Rattle.kept.proofs.Ticks.{logging-keeps, complain-keeps, lead-keeps}
 use Rattle.kept.proofs.Room.{complain-bytes, lead-bytes}

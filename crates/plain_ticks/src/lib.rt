@@ -19,28 +19,11 @@ ghost use Rattle.plain_turns.specs.Turns.{Turned, Answered};
 ghost use Rattle.plain_ticks.specs.Ticks.{clocked, halting, Keepable, turning, ticking};
 
 // The station at another clock.
-fn with_clock(e: Engine, clock: u32) -> Engine
+fn with_clock(mut e: Engine, clock: u32) -> Engine
     ensures { λ r. ⌜ r ≡ clocked clock e ⌝ }
 {
-    let settings = e.settings;
-    let phase = e.phase;
-    let lock = e.lock;
-    let statements = e.statements;
-    let tallies = e.tallies;
-    let blames = e.blames;
-    let log = e.log;
-    Engine {
-        settings,
-        phase,
-        view: e.view,
-        entry: e.entry,
-        clock,
-        lock,
-        statements,
-        tallies,
-        blames,
-        log,
-    }
+    e.clock = clock;
+    e
 }
 
 // "Phase: stopped".

@@ -17,8 +17,8 @@ use Rattle.rules.specs.Words.{message}
 use Rattle.rules.specs.Inputs as inputs
 use Rattle.rules.specs.Refusals as refusals
 use Rattle.rules.specs.WellFormed.{wellFormed}
-use Rattle.rules.proofs.Bytes as bytes
-use Rattle.rules.proofs.Tests.{by-bool}
+use Rattle.laws.proofs.Bytes as bytes
+use Rattle.laws.proofs.Tests.{by-bool}
 use Rattle.fields.specs.Places.{Bytes}
 use Rattle.wire.specs.Meaning.{statementOf, messageOf}
 use Rattle.wire.specs.declared.Statement as wire

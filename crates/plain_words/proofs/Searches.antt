@@ -8,7 +8,7 @@ use native.Mathlib.Omega.{arith}
 use native.Mathlib.Nat.{le-of-suc-le-suc}
 use lib.ListN.{length, getD, set, drop}
 use Rattle.rules.specs.Lists.{first, any, alter}
-use Rattle.rules.proofs.Tests.{by-bool}
+use Rattle.laws.proofs.Tests.{by-bool}
 use Rattle.plain_words.specs.Places.{firsts, place}
 use Rattle.plain_words.proofs.Firsts.{firsts-next, firsts-done}
 
@@ -27,18 +27,6 @@ module _ {A B : Type 0} (f : A → B) (d : A) (p : B → Bool) (xs : List A) (n 
       → place p (firsts f xs n) ≡ i + 1 + place p (drop (i + 1) (firsts f xs n))
   unfolding place
   place-next i l h e t = e ∙ ap (λ (l : List B). i + place p l) (firsts-next f d xs n i l h) ∙ rw (t, place) (omega arith)
-
-  pub any-done : (i : ℕ) → n ≤ i → any p (drop i (firsts f xs n)) ≡ false
-  unfolding any
-  any-done i h = rw (firsts-done f xs n i h)
-
-  pub any-here : (i : ℕ) → n ≤ length xs → i < n → p (f (getD xs i d)) ≡ true → any p (drop i (firsts f xs n)) ≡ true
-  unfolding any
-  any-here i l h t = ap (any p) (firsts-next f d xs n i l h) ∙ rw (t, any)
-
-  pub any-next : (i : ℕ) → n ≤ length xs → i < n → p (f (getD xs i d)) ≡ false → any p (drop i (firsts f xs n)) ≡ any p (drop (i + 1) (firsts f xs n))
-  unfolding any
-  any-next i l h t = ap (any p) (firsts-next f d xs n i l h) ∙ rw (t, any)
 
 -- what the place says
 module _ {A : Type 0} (p : A → Bool) where

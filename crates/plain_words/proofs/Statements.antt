@@ -6,7 +6,7 @@ use mathlib.Core.Option.{Option, none}
 use native.Mathlib.Omega.{arith}
 use lib.Dec.{eqb}
 use Rattle.rules.specs.Words.{sameStatement, against, conflict}
-use Rattle.rules.proofs.Truths.{beq-iff}
+use Rattle.laws.proofs.Truths.{beq-iff}
 use Rattle.fields.specs.Names.{nameOf}
 use Rattle.wire.specs.Meaning.{statementOf}
 use Rattle.wire.specs.declared.Statement.{Statement}

@@ -10,7 +10,7 @@ use lib.ListN.{length, getD, set, length-set}
 use lib.Dec.{ltb}
 use borrow.Author.Tests.{ltb-true, ltb-false}
 use Rattle.rules.specs.Lists.{any, first, alter}
-use Rattle.rules.proofs.Tests.{by-bool}
+use Rattle.laws.proofs.Tests.{by-bool}
 use Rattle.plain_words.specs.Places.{firsts, Within, place}
 use Rattle.plain_words.proofs.Firsts.{firsts-long, firsts-at, firsts-set}
 use Rattle.plain_words.proofs.Searches.{any-at, any-nowhere, first-at, first-nowhere, alter-at, alter-nowhere}

@@ -1,4 +1,4 @@
 // Plays a script from standard input to one station.
 fn main() {
-    script::run();
+    script::run(false);
 }

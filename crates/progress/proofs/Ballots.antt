@@ -7,10 +7,10 @@ use mathlib.Core.Logic.{_⊎_, inl, inr}
 use Rattle.rules.specs.Messages.{Message, newView, propose, vote, blame, blameSet, status, Effect, toAll, toOne, committed}
 use Rattle.rules.specs.Words.{Statement, message, State}
 use Rattle.rules.specs.Inputs.{saying, _▸_, belowLock, votedFor, ballot, report, current, inOrder, votingAll}
-use Rattle.rules.proofs.Tests.{by-bool}
-use Rattle.rules.proofs.Searches.{All, all-append, all-of}
-use Rattle.rules.proofs.Moves.{Outside, arrived, Move, joins, stores, passes, casts, clashes, accuses, fills, complains, entersFull, entersPair, enters, Moves, here, more, voting-low, voting-high}
-use Rattle.rules.proofs.Held.{report-all}
+use Rattle.laws.proofs.Tests.{by-bool}
+use Rattle.laws.proofs.Searches.{All, all-append, all-of}
+use Rattle.laws.proofs.Moves.{Outside, arrived, Move, joins, stores, passes, casts, clashes, accuses, fills, complains, entersFull, entersPair, enters, Moves, here, more, voting-low, voting-high}
+use Rattle.laws.proofs.Held.{report-all}
 use Rattle.agreement.specs.Schedule.{run, IsSaid, out}
 use Rattle.agreement.proofs.Events.{before, before-all, mem-after}
 use Rattle.agreement.proofs.Group.{Group, st, Ok, moves-of}

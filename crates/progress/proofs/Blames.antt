@@ -17,15 +17,15 @@ use Rattle.rules.specs.Messages.{Message, newView, propose, vote, blame, blameS
 use Rattle.rules.specs.Words.{Statement, message, sameStatement, conflict, highest, State}
 use Rattle.rules.specs.Inputs.{Work, saying, _▸_, withPhase, withTables, entering, isIn, quit, belowLock, votedFor, ballot, voting, certificateJoined, stored, statement, tallied, blamesOf, blamed, blameFull, blaming, handled, above, offered, overdue, complain, leadsNow, ownNewView, lead, entersNow, report, entered, current, pair, inOrder, votingAll, enter}
 use Rattle.rules.specs.Refusals.{done, refused, stopping, hasRoom, ifRoom, running, step, offer, tick}
-use Rattle.rules.proofs.Tests.{by-bool, by-option}
-use Rattle.rules.proofs.Searches.{All, all-append}
-use Rattle.rules.proofs.Masks.{joined-bit}
-use Rattle.rules.proofs.Tallies.{bit-only}
-use Rattle.rules.proofs.Offers.{offer-made}
-use Rattle.rules.proofs.Answers.{by-step, by-offer}
-use Rattle.rules.proofs.Moves.{arrived, fillsNow, news, voting-low, voting-high, arrive-full, arrive-pair, arrive-clean}
-use Rattle.rules.proofs.Kept.{blamed-cases}
-use Rattle.rules.proofs.Held.{report-all, reports-all}
+use Rattle.laws.proofs.Tests.{by-bool, by-option}
+use Rattle.laws.proofs.Searches.{All, all-append}
+use Rattle.laws.proofs.Masks.{joined-bit}
+use Rattle.laws.proofs.Tallies.{bit-only}
+use Rattle.laws.proofs.Offers.{offer-made}
+use Rattle.laws.proofs.Answers.{by-step, by-offer}
+use Rattle.laws.proofs.Moves.{arrived, fillsNow, news, voting-low, voting-high, arrive-full, arrive-pair, arrive-clean}
+use Rattle.laws.proofs.Kept.{blamed-cases}
+use Rattle.laws.proofs.Held.{report-all, reports-all}
 use Rattle.agreement.specs.Schedule.{Event, idle, commonTick, tickOf, given, offeredTo, happens, IsCommon}
 use Rattle.agreement.proofs.Events.{begun, begun-same, mem-after}
 use Rattle.progress.proofs.Tick.{stated, tick-whole}

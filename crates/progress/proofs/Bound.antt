@@ -17,12 +17,12 @@ use Rattle.rules.specs.Sizes.{Settings, leader}
 use Rattle.rules.specs.Messages.{Message, propose, vote, blame, toAll}
 use Rattle.rules.specs.Words.{Statement, message, State}
 use Rattle.rules.specs.Inputs.{votes, overdue}
-use Rattle.rules.proofs.Tests.{by-bool}
-use Rattle.rules.proofs.Searches.{keep-mem, all-of}
-use Rattle.rules.proofs.Statements.{same-like, In}
-use Rattle.rules.proofs.Allowed.{sizes}
-use Rattle.rules.proofs.Held.{held-stored}
-use Rattle.rules.proofs.Leads.{overdue-at}
+use Rattle.laws.proofs.Tests.{by-bool}
+use Rattle.laws.proofs.Searches.{keep-mem, all-of}
+use Rattle.laws.proofs.Statements.{same-like, In}
+use Rattle.laws.proofs.Allowed.{sizes}
+use Rattle.laws.proofs.Held.{held-stored}
+use Rattle.laws.proofs.Leads.{overdue-at}
 use Rattle.agreement.specs.Schedule.{Event, commonTick, at, out, run, IsSaid, NoForgery}
 use Rattle.agreement.proofs.Events.{begun, begun-same}
 use Rattle.agreement.proofs.Clock.{clock-mono, one-tick, last-of}

@@ -11,12 +11,12 @@ use Rattle.rules.specs.Sizes.{Settings, leader, bit}
 use Rattle.rules.specs.Messages.{Message, newView, propose, vote, blame, blameSet, status, allowed, toAll}
 use Rattle.rules.specs.Words.{Statement, message, inView, fresh}
 use Rattle.rules.specs.Inputs.{blamesOf}
-use Rattle.rules.proofs.Tests.{no-bool}
-use Rattle.rules.proofs.Tallies.{no-bit}
-use Rattle.rules.proofs.Statements.{In, conflict-view}
-use Rattle.rules.proofs.Kept.{by-phase}
-use Rattle.rules.proofs.Orderly.{Told, full, two, past-told}
-use Rattle.rules.proofs.Held.{held-stored}
+use Rattle.laws.proofs.Tests.{no-bool}
+use Rattle.laws.proofs.Tallies.{no-bit}
+use Rattle.laws.proofs.Statements.{In, conflict-view}
+use Rattle.laws.proofs.Kept.{by-phase}
+use Rattle.laws.proofs.Orderly.{Told, full, two, past-told}
+use Rattle.laws.proofs.Held.{held-stored}
 use Rattle.kept.proofs.Blames.{blamesOf-mask}
 use Rattle.agreement.specs.Schedule.{at, out, run, IsSaid, Genuine, NoForgery}
 use Rattle.agreement.proofs.Clock.{clock-mono, last-of}

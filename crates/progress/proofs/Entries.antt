@@ -8,9 +8,9 @@ use mathlib.Core.Logic.{_⊎_, inl, inr}
 use Rattle.rules.specs.Messages.{Effect}
 use Rattle.rules.specs.Words.{Statement, State}
 use Rattle.rules.specs.Inputs.{saying, _▸_, withPhase, withClock, withTables, withBlames, withLog, entering, belowLock, votedFor, stored, blamed, current, inOrder, votingAll}
-use Rattle.rules.proofs.Tests.{by-bool}
-use Rattle.rules.proofs.Moves.{Outside, arrived, counted, Move, joins, stores, passes, casts, clashes, accuses, fills, complains, entersFull, entersPair, enters, Moves, here, more, voting-low, voting-high}
-use Rattle.rules.proofs.Kept.{votingAll-fixed, move-fixed}
+use Rattle.laws.proofs.Tests.{by-bool}
+use Rattle.laws.proofs.Moves.{Outside, arrived, counted, Move, joins, stores, passes, casts, clashes, accuses, fills, complains, entersFull, entersPair, enters, Moves, here, more, voting-low, voting-high}
+use Rattle.laws.proofs.Kept.{votingAll-fixed, move-fixed}
 use Rattle.agreement.specs.Schedule.{Event, idle, commonTick, tickOf, given, offeredTo}
 use Rattle.agreement.proofs.Events.{begun, begun-same}
 use Rattle.agreement.proofs.Clock.{clock-mono}

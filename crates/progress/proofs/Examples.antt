@@ -12,7 +12,7 @@ use Rattle.rules.specs.Limits.{Size, small}
 use Rattle.rules.specs.Sizes.{leader}
 use Rattle.rules.specs.Messages.{vote, blame, toAll}
 use Rattle.rules.specs.Words.{waiting}
-use Rattle.rules.proofs.Truths.{both}
+use Rattle.laws.proofs.Truths.{both}
 use Rattle.agreement.specs.Schedule.{Event, commonTick, settingsOf, at, out, clock, run, IsSaid, Schedule}
 use Rattle.agreement.specs.Checks.{inTime, noForgery, premises, other, AllBut, listed, verdict}
 use Rattle.agreement.specs.Examples.{heightOf, parentOf}

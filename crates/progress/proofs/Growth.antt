@@ -7,9 +7,9 @@ use mathlib.Core.List.{List, [], IsPrefix, append-nil}
 use mathlib.Core.Logic.{_⊎_, inl, inr}
 use Rattle.rules.specs.Inputs.{due}
 use Rattle.rules.specs.Words.{State}
-use Rattle.rules.proofs.Moves.{counted, logAfter}
-use Rattle.rules.proofs.Kept.{moves-fixed}
-use Rattle.rules.proofs.Commits.{begins-trans, commits-some}
+use Rattle.laws.proofs.Moves.{counted, logAfter}
+use Rattle.laws.proofs.Kept.{moves-fixed}
+use Rattle.laws.proofs.Commits.{begins-trans, commits-some}
 use Rattle.agreement.specs.Schedule.{Event, idle, commonTick, tickOf, given, offeredTo}
 use Rattle.agreement.proofs.Events.{begun}
 use Rattle.agreement.proofs.Group.{Group, st, Ok, moves-of}

@@ -14,14 +14,14 @@ use Rattle.rules.specs.Sizes.{Settings, leader}
 use Rattle.rules.specs.Messages.{Message, kind, values, read, allowed}
 use Rattle.rules.specs.Words.{Statement, message, sameStatement, against, conflict, State, fresh}
 use Rattle.rules.specs.Inputs.{isIn, leads, top, above, offered, leadsNow, ownNewView}
-use Rattle.rules.proofs.Tests.{by-bool, by-option, no-bool}
-use Rattle.rules.proofs.Truths.{and-2, or-2}
-use Rattle.rules.proofs.Searches.{any-append, first-any, first-mem}
-use Rattle.rules.proofs.Statements.{like, same-like, same-refl, In, mem-in, in-cong, Clean, clean-append, no-conflict-against}
-use Rattle.rules.proofs.Allowed.{allowed-rights}
-use Rattle.rules.proofs.Offers.{top-mem, offer-made}
-use Rattle.rules.proofs.Made.{made-clean, led-clean}
-use Rattle.rules.proofs.Leads.{leads-at}
+use Rattle.laws.proofs.Tests.{by-bool, by-option, no-bool}
+use Rattle.laws.proofs.Truths.{and-2, or-2}
+use Rattle.laws.proofs.Searches.{any-append, first-any, first-mem}
+use Rattle.laws.proofs.Statements.{like, same-like, same-refl, In, mem-in, in-cong, Clean, clean-append, no-conflict-against}
+use Rattle.laws.proofs.Allowed.{allowed-rights}
+use Rattle.laws.proofs.Offers.{top-mem, offer-made}
+use Rattle.laws.proofs.Made.{made-clean, led-clean}
+use Rattle.laws.proofs.Leads.{leads-at}
 use Rattle.agreement.specs.Schedule.{Event, commonTick, given, ticks, at, run, Genuine, NoForgery}
 use Rattle.agreement.proofs.Events.{begun, begun-same}
 use Rattle.agreement.proofs.Clock.{clock-suc, clock-mono}

@@ -13,12 +13,12 @@ use Rattle.rules.specs.Sizes.{Settings, leader, only, quorum}
 use Rattle.rules.specs.Messages.{status, Effect, toOne}
 use Rattle.rules.specs.Words.{Statement, Certificate, Tally, Moment, certificateOf, opened, ownBlock, certificate, sameBlock, grown, join, joinCertificate, certified, higher, highest, genesis, State, moment, fresh}
 use Rattle.rules.specs.Inputs.{saying, _▸_, withPhase, withTables, withBlames, withLog, entering, belowLock, votedFor, stored, tallied, blamed, handled, nextLock, report, current, inOrder, votingAll}
-use Rattle.rules.proofs.Tests.{by-bool}
-use Rattle.rules.proofs.Truths.{and-2}
-use Rattle.rules.proofs.Searches.{All, all-split}
-use Rattle.rules.proofs.Tallies.{block-eq, Above, at-least-trans, higher-true, higher-false, highest-tally}
-use Rattle.rules.proofs.Moves.{Outside, arrived, Move, joins, stores, passes, casts, clashes, accuses, fills, complains, entersFull, entersPair, enters, Moves, here, more, voting-low, voting-high}
-use Rattle.rules.proofs.Kept.{quorum-left, quorum-right, votingAll-fixed, moves-fixed}
+use Rattle.laws.proofs.Tests.{by-bool}
+use Rattle.laws.proofs.Truths.{and-2}
+use Rattle.laws.proofs.Searches.{All, all-split}
+use Rattle.laws.proofs.Tallies.{block-eq, Above, at-least-trans, higher-true, higher-false, highest-tally}
+use Rattle.laws.proofs.Moves.{Outside, arrived, Move, joins, stores, passes, casts, clashes, accuses, fills, complains, entersFull, entersPair, enters, Moves, here, more, voting-low, voting-high}
+use Rattle.laws.proofs.Kept.{quorum-left, quorum-right, votingAll-fixed, moves-fixed}
 use Rattle.progress.proofs.Entries.{votingAll-entry}
 
 -- a tally of the rank of c is a quorum

@@ -12,9 +12,9 @@ use Rattle.rules.specs.Messages.{Message, read, allowed}
 use Rattle.rules.specs.Words.{Statement, message, State}
 use Rattle.rules.specs.Inputs.{Work, saying, handled, offered, complain, leadsNow, ownNewView, lead, enter}
 use Rattle.rules.specs.Refusals.{done, refused, hasRoom, ifRoom, running, tick}
-use Rattle.rules.proofs.Tests.{by-bool, no-bool}
-use Rattle.rules.proofs.Statements.{In}
-use Rattle.rules.proofs.Answers.{by-step, by-offer}
+use Rattle.laws.proofs.Tests.{by-bool, no-bool}
+use Rattle.laws.proofs.Statements.{In}
+use Rattle.laws.proofs.Answers.{by-step, by-offer}
 use Rattle.agreement.specs.Schedule.{Event, idle, commonTick, tickOf, given, offeredTo, happens, IsCommon}
 use Rattle.agreement.proofs.Events.{begun, begun-same}
 use Rattle.progress.proofs.Tick.{tick-whole, Same, complain-same, NoMore, Adds, handled-adds, lead-adds, enter-adds}

@@ -9,9 +9,9 @@ use lib.Dec.{eqb}
 use Rattle.rules.specs.Messages.{Message}
 use Rattle.rules.specs.Words.{State}
 use Rattle.rules.specs.Inputs.{leads, isOpened, isUsed, top, extendable, above, offered}
-use Rattle.rules.proofs.Tests.{by-bool, by-option, no-bool}
-use Rattle.rules.proofs.Truths.{and-2, both}
-use Rattle.rules.proofs.Offers.{offer-made}
+use Rattle.laws.proofs.Tests.{by-bool, by-option, no-bool}
+use Rattle.laws.proofs.Truths.{and-2, both}
+use Rattle.laws.proofs.Offers.{offer-made}
 use Rattle.agreement.specs.Schedule.{commonTick, offeredTo, ticks, Run}
 use Rattle.progress.specs.Progress.{possible, Concerns, chief, AtOnce}
 

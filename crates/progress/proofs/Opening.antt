@@ -16,14 +16,14 @@ use Rattle.rules.specs.Messages.{status, viewOf, write, toOne}
 use Rattle.rules.specs.Words.{Statement, Certificate, Tally, highest, inView, State}
 use Rattle.rules.specs.Inputs.{leads, handled, votes, overdue, complain, leadsNow, lead, enter}
 use Rattle.rules.specs.Refusals.{Outcome, done, running, step, tick}
-use Rattle.rules.proofs.Tests.{by-bool}
-use Rattle.rules.proofs.Truths.{both}
-use Rattle.rules.proofs.Tallies.{Above, AtLeast}
-use Rattle.rules.proofs.Statements.{In}
-use Rattle.rules.proofs.Allowed.{sizes, mask-parts, certificate-cases, allowed-rights}
-use Rattle.rules.proofs.Kept.{true-in}
-use Rattle.rules.proofs.Held.{step-done}
-use Rattle.rules.proofs.Leads.{at-leads, newViewOf, overdue-at}
+use Rattle.laws.proofs.Tests.{by-bool}
+use Rattle.laws.proofs.Truths.{both}
+use Rattle.laws.proofs.Tallies.{Above, AtLeast}
+use Rattle.laws.proofs.Statements.{In}
+use Rattle.laws.proofs.Allowed.{sizes, mask-parts, certificate-cases, allowed-rights}
+use Rattle.laws.proofs.Kept.{true-in}
+use Rattle.laws.proofs.Held.{step-done}
+use Rattle.laws.proofs.Leads.{at-leads, newViewOf, overdue-at}
 use Rattle.agreement.specs.Schedule.{Event, commonTick, happens, at, run, IsSaid, NoForgery}
 use Rattle.agreement.proofs.Events.{begun, begun-same, happens-given}
 use Rattle.agreement.proofs.Whole.{sent-allowed}

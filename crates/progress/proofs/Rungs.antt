@@ -17,17 +17,17 @@ use Rattle.rules.specs.Sizes.{Settings, leader, quorum}
 use Rattle.rules.specs.Messages.{vote}
 use Rattle.rules.specs.Words.{Statement, message, sameStatement, voters, ownBlock}
 use Rattle.rules.specs.Inputs.{belowLock, isBlock, leads, isOpened, top, extendable}
-use Rattle.rules.proofs.Tests.{by-bool, by-option, no-bool}
-use Rattle.rules.proofs.Truths.{both}
-use Rattle.rules.proofs.Bounds.{statements-most}
-use Rattle.rules.proofs.Searches.{any-mem, first-any, first-mem, first-none}
-use Rattle.rules.proofs.Statements.{same-like, In, mem-in, in-cong, no-conflict-level}
-use Rattle.rules.proofs.Tallies.{sound-quorum, count-quorum}
-use Rattle.rules.proofs.Offers.{top-some, top-mem}
-use Rattle.rules.proofs.Kept.{true-in}
-use Rattle.rules.proofs.Orderly.{propose-high, Voted}
-use Rattle.rules.proofs.Held.{block, held-stored}
-use Rattle.rules.proofs.Leads.{new-view-high}
+use Rattle.laws.proofs.Tests.{by-bool, by-option, no-bool}
+use Rattle.laws.proofs.Truths.{both}
+use Rattle.laws.proofs.Bounds.{statements-most}
+use Rattle.laws.proofs.Searches.{any-mem, first-any, first-mem, first-none}
+use Rattle.laws.proofs.Statements.{same-like, In, mem-in, in-cong, no-conflict-level}
+use Rattle.laws.proofs.Tallies.{sound-quorum, count-quorum}
+use Rattle.laws.proofs.Offers.{top-some, top-mem}
+use Rattle.laws.proofs.Kept.{true-in}
+use Rattle.laws.proofs.Orderly.{propose-high, Voted}
+use Rattle.laws.proofs.Held.{block, held-stored}
+use Rattle.laws.proofs.Leads.{new-view-high}
 use Rattle.kept.proofs.Logs.{block-parts}
 use Rattle.agreement.specs.Schedule.{commonTick, run, NoForgery}
 use Rattle.agreement.proofs.Lineage.{up}

@@ -11,10 +11,10 @@ use mathlib.Core.List.{IsPrefix}
 use Rattle.rules.specs.Limits.{Size}
 use Rattle.rules.specs.Messages.{propose, vote, blame, toAll}
 use Rattle.rules.specs.Words.{inView, State}
-use Rattle.rules.proofs.Statements.{Clean}
-use Rattle.rules.proofs.Allowed.{sizes}
-use Rattle.rules.proofs.Kept.{moves-kept}
-use Rattle.rules.proofs.Commits.{begins-trans}
+use Rattle.laws.proofs.Statements.{Clean}
+use Rattle.laws.proofs.Allowed.{sizes}
+use Rattle.laws.proofs.Kept.{moves-kept}
+use Rattle.laws.proofs.Commits.{begins-trans}
 use Rattle.agreement.specs.Schedule.{Event, idle, commonTick, settingsOf, until, at, clock, Run, run, IsSaid, Sound, RoomTo, Premises, Schedule, lineage}
 use Rattle.agreement.proofs.Events.{never-idle}
 use Rattle.agreement.proofs.Clock.{clock-before, last-of, clock-alike}

@@ -11,12 +11,12 @@ use Rattle.rules.specs.Messages.{Message, newView, propose, vote, blame, blameS
 use Rattle.rules.specs.Words.{Statement, message, sameStatement, conflict, State}
 use Rattle.rules.specs.Inputs.{saying, _▸_, withPhase, withClock, withTables, withBlames, entering, isIn, quit, belowLock, votedFor, voting, certificateJoined, stored, statement, tallied, blamed, blameFull, blaming, handled, logging, overdue, complain, leadsNow, ownNewView, lead, entersNow, entered, current, pair, votingAll, enter}
 use Rattle.rules.specs.Refusals.{done, running, tick}
-use Rattle.rules.proofs.Tests.{by-bool, by-option}
-use Rattle.rules.proofs.Statements.{In, in-append, in-noted}
-use Rattle.rules.proofs.Moves.{Outside, arrived, fillsNow, counted, logAfter, news, voting-low, voting-high, arrive-full, arrive-pair, arrive-clean, message-newView, message-propose, ticked-some, tick-done, enter-moves, tick-moves}
-use Rattle.rules.proofs.Kept.{moves-kept}
-use Rattle.rules.proofs.Held.{statement-held}
-use Rattle.rules.proofs.Leads.{newViewOf, own-message}
+use Rattle.laws.proofs.Tests.{by-bool, by-option}
+use Rattle.laws.proofs.Statements.{In, in-append, in-noted}
+use Rattle.laws.proofs.Moves.{Outside, arrived, fillsNow, counted, logAfter, news, voting-low, voting-high, arrive-full, arrive-pair, arrive-clean, message-newView, message-propose, ticked-some, tick-done, enter-moves, tick-moves}
+use Rattle.laws.proofs.Kept.{moves-kept}
+use Rattle.laws.proofs.Held.{statement-held}
+use Rattle.laws.proofs.Leads.{newViewOf, own-message}
 use Rattle.agreement.specs.Schedule.{commonTick}
 use Rattle.agreement.proofs.Events.{begun}
 

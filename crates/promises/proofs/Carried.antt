@@ -15,8 +15,8 @@ use Rattle.rules.specs.Words.{State, fresh}
 use Rattle.rules.specs.Inputs.{saying}
 use Rattle.rules.specs.Refusals.{Outcome, done, step, offer, tick, result}
 use Rattle.rules.specs.WellFormed.{wellFormed}
-use Rattle.rules.proofs.Bytes.{length-unbe, be-unbe}
-use Rattle.rules.proofs.Tests.{by-bool}
+use Rattle.laws.proofs.Bytes.{length-unbe, be-unbe}
+use Rattle.laws.proofs.Tests.{by-bool}
 use borrow.Author.Tests.{eq-eqb, le-leb}
 use Rattle.kept.proofs.Outs.{step-room, offer-room, tick-room}
 use Rattle.kept.specs.Said.{Each, Sayable}

@@ -10,9 +10,9 @@ use borrow.Author.Tests.{eq-eqb}
 use Rattle.rules.specs.Lists.{be, unbe}
 use Rattle.rules.specs.Sizes.{Settings}
 use Rattle.rules.specs.Messages.{Message, field, read, write, Effect, toAll, toOne, committed, effect, outgoing}
-use Rattle.rules.proofs.Bytes.{length-unbe, be-unbe}
+use Rattle.laws.proofs.Bytes.{length-unbe, be-unbe}
 use Rattle.kept.specs.Said.{Each, Sayable}
-use Rattle.rules.proofs.Lengths.{length-write, size-most, bytes-cons, weight}
+use Rattle.laws.proofs.Lengths.{length-write, size-most, bytes-cons, weight}
 use Rattle.kept.proofs.Calls.{sent-read}
 use Rattle.promises.specs.Heard.{oneIn, committedIn, effectIn, ifSaid, heardIn, heard}
 

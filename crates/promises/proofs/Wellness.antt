@@ -9,11 +9,11 @@ use Rattle.rules.specs.Limits.{leastOut}
 use Rattle.rules.specs.Words.{State}
 use Rattle.rules.specs.Refusals.{Outcome, step, tick, offer}
 use Rattle.rules.specs.WellFormed.{wellFormed}
-use Rattle.rules.proofs.Bytes.{Bytes}
+use Rattle.laws.proofs.Bytes.{Bytes}
 use Rattle.fields.specs.Places as places
 use Rattle.kept.proofs.Calls.{step-whole, offer-whole, tick-whole}
 use Rattle.store.specs.Decode.{decode, encode}
-use Rattle.store.proofs.OneForm.{decoded-bytes}
+use Rattle.oneform.proofs.Held.{decoded-bytes}
 use Rattle.oneform.proofs.OneForm.{encoded}
 use Rattle.calls.specs.Calls.{called, stepCalled, tickCalled}
 use Rattle.promises.proofs.Carried.{called-encoded, answered-store}

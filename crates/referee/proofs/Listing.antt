@@ -13,9 +13,9 @@ use borrow.Author.Tests.{eq-eqb, leb-true, leb-false, le-leb, lt-ltb}
 use Rattle.rules.specs.Limits.{small}
 use Rattle.rules.specs.Lists.{unbe}
 use Rattle.rules.specs.Sizes.{Settings, goodSettings}
-use Rattle.rules.proofs.Bytes.{length-unbe, be-unbe}
-use Rattle.rules.proofs.Tests.{eqb-self}
-use Rattle.rules.proofs.Truths.{both}
+use Rattle.laws.proofs.Bytes.{length-unbe, be-unbe}
+use Rattle.laws.proofs.Tests.{eqb-self}
+use Rattle.laws.proofs.Truths.{both}
 use Rattle.fields.specs.Places.{number, put}
 use Rattle.fields.proofs.Laws.{length-put, number-put-before, number-put-after, number-put-same}
 use Rattle.fields.proofs.Lists.{number-drop, number-take, number-piece, number-append-left, number-append-right}

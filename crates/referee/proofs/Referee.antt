@@ -14,8 +14,8 @@ use borrow.Author.Tests.{eq-eqb, le-leb}
 use Rattle.rules.specs.Limits.{Size, small, leastOut}
 use Rattle.rules.specs.Sizes.{Settings, goodSettings}
 use Rattle.rules.specs.Words.{State, fresh}
-use Rattle.rules.proofs.Bytes.{Bytes}
-use Rattle.rules.proofs.Tests.{by-bool, no-bool}
+use Rattle.laws.proofs.Bytes.{Bytes}
+use Rattle.laws.proofs.Tests.{by-bool, no-bool}
 use Rattle.kept.proofs.WellFormed.{whole, fresh-formed}
 use Rattle.store.specs.Layout.{storeLength, sizeIn}
 use Rattle.store.specs.Decode.{stateOf, encode}

@@ -7,24 +7,23 @@ use mathlib.Core.List.{List, [], _∷_, _++_}
 use mathlib.Core.Option.{Option, none, some}
 use native.Mathlib.Omega.{arith}
 use native.Mathlib.Nat.{add-zero}
-use lib.ListN.{length, drop}
+use lib.ListN.{length}
 use lib.Dec.{leb, eqb}
-use borrow.Author.Tests.{eqb-true, eq-eqb, leb-true, le-leb}
-use Rattle.rules.specs.Limits.{Size, small, leastOut, lastClock}
+use borrow.Author.Tests.{eqb-true, eq-eqb, leb-true}
+use Rattle.rules.specs.Limits.{Size, small, leastOut}
 use Rattle.rules.specs.Lists.{be}
 use Rattle.rules.specs.Sizes.{Settings}
-use Rattle.rules.specs.Messages.{read, allowed, outgoing}
+use Rattle.rules.specs.Messages.{outgoing}
 use Rattle.rules.specs.Words.{State, split, clock as late, fresh}
-use Rattle.rules.specs.Inputs.{Work, handled, offered, ticked}
+use Rattle.rules.specs.Inputs.{Work, handled}
 use Rattle.rules.specs.Refusals as rules
-use Rattle.rules.specs.Refusals.{Outcome, done, refused, stopping, hasRoom, ifRoom, running, ahead, usedUp, heard, result}
+use Rattle.rules.specs.Refusals.{Outcome, done, refused, stopping, hasRoom, ifRoom, result}
 use Rattle.rules.specs.WellFormed.{wellFormed}
-use Rattle.rules.proofs.Answers.{by-step, by-offer, by-tick}
-use Rattle.rules.proofs.Bytes.{Bytes, be-lt}
-use Rattle.rules.proofs.Tests.{by-bool, by-option, no-bool, no-some}
+use Rattle.laws.proofs.Answers.{by-step, by-offer, by-tick}
+use Rattle.laws.proofs.Bytes.{Bytes, be-lt}
+use Rattle.laws.proofs.Tests.{by-bool, no-bool, no-some}
 use Rattle.kept.specs.Parts.{WellFormed}
 use Rattle.kept.proofs.WellFormed.{whole}
-use Rattle.kept.proofs.Outs.{step-room, offer-room, tick-room}
 use Rattle.kept.proofs.Calls.{Kept, step-kept, offer-kept, tick-kept}
 use Rattle.store.specs.Layout.{storeLength, sizeIn}
 use Rattle.store.specs.Decode.{decode, stateFrom, stateOf, encode}
@@ -33,7 +32,8 @@ use Rattle.oneform.proofs.OneForm.{encoded-left}
 use Rattle.calls.specs.Calls as calls
 use Rattle.calls.specs.Calls.{Called, answered, called, stepCalled, tickCalled, offerCalled}
 use Rattle.promises.proofs.Carried.{called-encoded}
-use Rattle.lent_list.specs.Lists.{Input, tick, offer, message, kindOf, bytesOf, hasLength, hasForm, settingsIn, inputsOf, isFull, added}
+use Rattle.lent_list.proofs.Rooms.{answer-room}
+use Rattle.lent_list.specs.Lists.{Input, tick, offer, message, kindOf, bytesOf, hasLength, settingsIn, inputsOf, isFull, added}
 use Rattle.lent_list.specs.Plain.{answerTo, isKept, folded, held, Answer, refusal, entered, entering, kept, plainly, plainStep, plainTick, plainOffer}
 use Rattle.lent_list.proofs.Kept.{Handed, kept-input, most-number}
 use Rattle.referee.specs.Runs.{plainCall, stationCall, Same}
@@ -74,13 +74,6 @@ unfolding answerTo bytesOf
 answer-kept s w tick b h = tick-kept w
 answer-kept s w (offer name) b h = offer-kept w (be name) (subst (λ (k : ℕ). be name < 256 ^ k) h (be-lt b))
 answer-kept s w (message bs) b h = step-kept w bs b
-
--- what is said fits the least out buffer
-answer-room : (s : State) → wellFormed s ≡ true → (x : Input) → length (outgoing (answerTo x s .out)) ≤ leastOut (s .settings .size)
-unfolding answerTo
-answer-room s w tick = tick-room s w
-answer-room s w (offer name) = offer-room s (be name)
-answer-room s w (message bs) = step-room s bs
 
 -- ---- the inputs of a list, and one more
 

@@ -11,7 +11,7 @@ use Rattle.rules.specs.Refusals.{Outcome, refused, result}
 use Rattle.outgoing.specs.Wrote.{wrote}
 use Rattle.outgoing.proofs.Writing.{wrote-prefix}
 use Rattle.store.specs.Decode.{stateOf, Form, Left}
-use Rattle.store.proofs.OneForm.{left-bytes}
+use Rattle.oneform.proofs.Held.{left-bytes}
 use Rattle.calls.specs.Calls.{answered, Gives}
 use Rattle.refusals.specs.Answers.{Answers, Mutely}
 

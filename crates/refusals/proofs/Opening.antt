@@ -13,8 +13,8 @@ use Rattle.rules.specs.Words as words
 use Rattle.rules.specs.Words.{State}
 use Rattle.rules.specs.Refusals.{Outcome, refused, running}
 use Rattle.rules.specs.WellFormed.{wellFormed}
-use Rattle.rules.proofs.Tests.{by-bool, and-left}
-use Rattle.rules.proofs.Truths.{and-2, both}
+use Rattle.laws.proofs.Tests.{by-bool, and-left}
+use Rattle.laws.proofs.Truths.{and-2, both}
 use Rattle.fields.specs.Places.{Bytes}
 use Rattle.store.specs.Layout.{storeLength, sizeIn}
 use Rattle.store.specs.Decode.{stateOf, hasForm, Form}
@@ -27,7 +27,7 @@ use Rattle.formed.proofs.Whole.{formed-decoded, unformed-decoded}
 use Rattle.calls.specs.Calls.{Called, refusal, answered, called, Gives}
 use Rattle.acts.specs.Works.{Formed}
 use Rattle.acts.proofs.Works.{state-size}
-use Rattle.refusals.specs.Answers.{barred, Answers}
+use Rattle.refusals.specs.Answers.{barred, Bars, Answers}
 use Rattle.refusals.proofs.Answers.{answers-is, answers-gives, refused-short, refused-answers}
 
 -- ---- the phase
@@ -100,6 +100,10 @@ module _ (b o : List ℕ) where
 
   pub good-form : Bytes b → good ≡ true → Form b
   good-form h g = record { bytes = h; form = and-left (hasForm b) (wellFormed (stateOf b)) g }
+
+-- where something bars it nothing is told
+pub bars-untold : {b o t : List ℕ} {r : ℕ} → 0 < r → r ≡ barred b o → Bars b o r t
+bars-untold l e = record { is = e; told = λ z. absurd (omega arith) }
 
 -- nothing bars it
 pub record Opened (b o : List ℕ) : Type 0 where

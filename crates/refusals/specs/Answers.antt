@@ -12,6 +12,7 @@ use Rattle.rules.specs.WellFormed.{wellFormed}
 use Rattle.outgoing.specs.Wrote.{wrote}
 use Rattle.store.specs.Layout.{storeLength, sizeIn}
 use Rattle.store.specs.Decode.{stateOf, hasForm, Left}
+use Rattle.linked.specs.Told.{Told}
 
 -- the number of what is refused before any input is looked at, in 01's order; 0 if nothing is
 unfoldable pub barred : List ℕ → List ℕ → ℕ
@@ -21,6 +22,11 @@ barred b o =
       | false ↦ 1
       | true ↦ elim (hasForm b && wellFormed (stateOf b)) [ false ↦ 2 | true ↦ elim (running (stateOf b)) [ false ↦ 3 | true ↦ 0 ] ]
     ]
+
+-- that number, and what the log tells, where it is 0
+pub record Bars (b o : List ℕ) (r : ℕ) (t : List ℕ) : Type 0 where
+  pub is : r ≡ barred b o
+  pub told : r ≡ 0 → Told b t
 
 -- an outcome: the store holds what is left, its words are written from the start on, and the result is what a host is told
 pub record Answers (x : Outcome) (o b′ o′ : List ℕ) (r : ℕ) : Type 0 where

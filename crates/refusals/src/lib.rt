@@ -1,10 +1,13 @@
 // What bars every call alike, and how a refusal is told.
 ghost use mathlib.Core.Path.{_≡_};
 ghost use Prim.Native.Nat.{_*_, _^_, _<_};
+ghost use lib.ListN.{replicate};
+ghost use Rattle.rules.specs.Limits.{mostStatementsLarge};
 ghost use Rattle.rules.specs.Refusals.{stopping, running};
 ghost use Rattle.store.specs.Decode.{stateOf, Form};
 ghost use Rattle.store.specs.Meaning.{causeOf};
-ghost use Rattle.refusals.specs.Answers.{barred, Mutely};
+ghost use Rattle.refusals.specs.Answers.{barred, Bars, Mutely};
+use settings::Settings;
 use store::Cause;
 use store::Phase;
 use store::Station;
@@ -30,9 +33,14 @@ fn is_running(store: &[u8]) -> bool
     }
 }
 
-// What bars every call alike: 1 for the lengths, 2 for a store not well formed, 3 for a station that stopped; else 0.
-pub fn barred(store: &[u8], out: &[u8]) -> u64
-    ensures { λ r. ⌜ r ≡ barred (now (store .entry)) (now (out .entry)) ⌝ }
+// What bars every call alike: 1 for the lengths, 2 for a store not well formed, 3 for a station that stopped; else 0, and what the log tells.
+pub fn barred_told(
+    store: &[u8],
+    out: &[u8],
+    told: &mut [u16; Settings::MOST_STATEMENTS_LARGE],
+) -> u64
+    requires { ⌜ now told ≡ replicate mostStatementsLarge 0 ⌝ }
+    ensures { λ r. ⌜ Bars (now (store .entry)) (now (out .entry)) r (now (told .exit)) ⌝ }
 {
     if !store::is_whole(store) {
         return 1;
@@ -40,7 +48,7 @@ pub fn barred(store: &[u8], out: &[u8]) -> u64
     if out.len() < store::least_out_in(store) {
         return 1;
     }
-    if !formed::well_formed(store) {
+    if !formed::well_formed_told(store, told) {
         return 2;
     }
     if !is_running(store) {
@@ -49,11 +57,19 @@ pub fn barred(store: &[u8], out: &[u8]) -> u64
     0
 }
 
+// The same for a call that wants nothing of the log.
+pub fn barred(store: &[u8], out: &[u8]) -> u64
+    ensures { λ r. ⌜ r ≡ barred (now (store .entry)) (now (out .entry)) ⌝ }
+{
+    let mut told = [0u16; Settings::MOST_STATEMENTS_LARGE];
+    barred_told(store, out, &mut told)
+}
+
 // The station stops for a cause.
 pub fn stop(store: &mut [u8], number: u64, cause: Cause) -> u64
     requires { ⌜ (Form (now store)) × (number < 2 ^ 32) ⌝ }
     ensures { λ r. ⌜ Mutely (stopping number (causeOf cause) (stateOf (now (store .entry)))) (now (store .exit)) r ⌝ }
 {
-    store::set_phase(store, Phase::Stopped(cause));
+    records::set_phase(store, Phase::Stopped(cause));
     refuse(number)
 }

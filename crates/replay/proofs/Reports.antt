@@ -14,8 +14,8 @@ use Rattle.rules.specs.Limits.{leastOut}
 use Rattle.rules.specs.Lists.{unbe}
 use Rattle.rules.specs.Words.{State}
 use Rattle.rules.specs.WellFormed.{wellFormed}
-use Rattle.rules.proofs.Bytes.{length-unbe}
-use Rattle.rules.proofs.Truths.{and-4}
+use Rattle.laws.proofs.Bytes.{length-unbe}
+use Rattle.laws.proofs.Truths.{and-4}
 use Rattle.fields.specs.Places.{put}
 use Rattle.outgoing.specs.Wrote.{wrote}
 use Rattle.outgoing.proofs.Writing.{wrote-append, wrote-prefix, put-wrote, length-wrote}

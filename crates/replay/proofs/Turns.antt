@@ -11,8 +11,8 @@ use lib.Seq.{take-add, take-all, drop-at, take-take, drop-drop, length-take-le}
 use lib.Dec.{leb, eqb}
 use borrow.Author.Tests.{eq-eqb, ne-eqb, leb-true, leb-false}
 use Rattle.rules.specs.Lists.{unbe}
-use Rattle.rules.proofs.Bytes.{length-unbe}
-use Rattle.rules.proofs.Tests.{by-bool}
+use Rattle.laws.proofs.Bytes.{length-unbe}
+use Rattle.laws.proofs.Tests.{by-bool}
 use Rattle.fields.specs.Places.{put}
 use Rattle.outgoing.specs.Wrote.{wrote}
 use Rattle.outgoing.proofs.Writing.{wrote-append, put-wrote}

@@ -16,8 +16,8 @@ use Rattle.rules.specs.Words.{State, Cause, full, split, clock}
 use Rattle.rules.specs.Inputs.{Work, handled, offered, ticked}
 use Rattle.rules.specs.Refusals.{Outcome, done, refused, stopping, hasRoom, ifRoom, running, step, offer, tick, result}
 use Rattle.rules.specs.WellFormed.{wellFormed}
-use Rattle.rules.proofs.Answers.{by-step}
-use Rattle.rules.proofs.Tests.{by-bool, by-option, no-bool}
+use Rattle.laws.proofs.Answers.{by-step}
+use Rattle.laws.proofs.Tests.{by-bool, by-option, no-bool}
 use Rattle.fields.specs.Places.{Bytes}
 use Rattle.kept.proofs.Outs.{step-room, offer-room, tick-room}
 use Rattle.store.specs.Layout.{storeLength, sizeIn}

@@ -1,12 +1,12 @@
 // A script from standard input, played to one station; docs/SCRIPT.md has its form.
+use crate::engine::List;
 use crate::stored::Store;
 use libc::STDIN_FILENO;
+use said::show;
 
+mod engine;
 mod play;
 mod relay;
-mod sent;
-mod show;
-mod spell;
 mod stored;
 
 // The most bytes of a line, without its end.
@@ -38,18 +38,31 @@ fn kept(line: &mut [u8; LONGEST], so_far: Progress, byte: u8) -> Progress {
 }
 
 // Plays the first bytes of a line's buffer, and says whether they were a line.
-fn played(store: &mut Store, line: &[u8], used: usize, number: u64) -> bool {
+fn played(
+    store: &mut Store,
+    list: &mut List,
+    is_plain: bool,
+    line: &[u8],
+    used: usize,
+    number: u64,
+) -> bool {
     if line.len() < used {
         show::long(number);
         return false;
     }
-    play::line(store, &line[..used], number)
+    play::line(store, list, is_plain, &line[..used], number)
 }
 
 // The line ends.
-fn ended(store: &mut Store, line: &[u8; LONGEST], so_far: Progress) -> Progress {
+fn ended(
+    store: &mut Store,
+    list: &mut List,
+    is_plain: bool,
+    line: &[u8; LONGEST],
+    so_far: Progress,
+) -> Progress {
     let number = next(so_far.lines);
-    let bad = if played(store, line, so_far.used, number) {
+    let bad = if played(store, list, is_plain, line, so_far.used, number) {
         so_far.bad
     } else {
         next(so_far.bad)
@@ -64,6 +77,8 @@ fn ended(store: &mut Store, line: &[u8; LONGEST], so_far: Progress) -> Progress 
 // A piece of the script: lines, and parts of lines.
 fn read_on(
     store: &mut Store,
+    list: &mut List,
+    is_plain: bool,
     line: &mut [u8; LONGEST],
     piece: &[u8],
     so_far: Progress,
@@ -72,7 +87,7 @@ fn read_on(
     let mut i = 0;
     while i < piece.len() {
         if piece[i] == b'\n' {
-            progress = ended(store, line, progress);
+            progress = ended(store, list, is_plain, line, progress);
         } else {
             progress = kept(line, progress, piece[i]);
         }
@@ -81,8 +96,10 @@ fn read_on(
     progress
 }
 
-// The whole script, a piece at a time. The turns are counted down from a number that no input uses up.
-pub fn run() {
+// The whole script, played to the working station or to the plain engine, a piece at a time. The turns are counted down from a
+// number that no input uses up.
+pub fn run(is_plain: bool) {
+    let mut list = engine::no_list();
     let mut store = stored::no_store();
     let mut line = io::buffer();
     let mut progress = Progress {
@@ -98,11 +115,18 @@ pub fn run() {
         if n == 0 {
             break;
         }
-        progress = read_on(&mut store, &mut line, &piece[..n], progress);
+        progress = read_on(
+            &mut store,
+            &mut list,
+            is_plain,
+            &mut line,
+            &piece[..n],
+            progress,
+        );
         turns -= 1;
     }
     if progress.used != 0 {
-        progress = ended(&mut store, &line, progress);
+        progress = ended(&mut store, &mut list, is_plain, &line, progress);
     }
     show::end_of_script(progress.lines, progress.bad);
 }

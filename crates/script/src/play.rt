@@ -1,33 +1,36 @@
 // What each line does to the station.
+use crate::engine;
+use crate::engine::List;
 use crate::relay;
-use crate::show;
-use crate::show::Out;
-use crate::spell;
 use crate::stored;
 use crate::stored::Store;
 use lines::Line;
 use lines::What;
 use page::Page;
+use said::show;
+use said::show::Out;
+use said::spell;
 
 // Plays a line, and says whether it was one. The bytes of any line of 4,096 have room.
-pub fn line(store: &mut Store, line: &[u8], number: u64) -> bool {
+pub fn line(store: &mut Store, list: &mut List, is_plain: bool, line: &[u8], number: u64) -> bool {
+    engine::look(store, list, is_plain);
     let mut bytes = io::buffer();
     match lines::read_line(line, &mut bytes) {
         Line::Blank => true,
         Line::Fresh { n, delay, own } => {
-            fresh(store, number, n, delay, own);
+            fresh(store, list, is_plain, number, n, delay, own);
             true
         }
         Line::Tick { count } => {
-            ticks(store, number, count);
+            ticks(store, list, is_plain, number, count);
             true
         }
         Line::Bytes { what, len } => {
-            given(store, number, what, &bytes[..len]);
+            given(store, list, is_plain, number, what, &bytes[..len]);
             true
         }
         Line::Log => {
-            stored::log(number, store);
+            engine::log(store, list, is_plain, number);
             true
         }
         Line::State => {
@@ -53,19 +56,34 @@ fn answered(number: u64, what: &[u8], answer: u64, out: &Out) {
     page::finish(&page, end);
 }
 
-// A fresh store, which writes nothing out.
-fn fresh(store: &mut Store, number: u64, n: u64, delay: u64, own: u64) {
-    let answer = station::station_fresh(store, n, delay, own);
+// A fresh station, which writes nothing out.
+fn fresh(
+    store: &mut Store,
+    list: &mut List,
+    is_plain: bool,
+    number: u64,
+    n: u64,
+    delay: u64,
+    own: u64,
+) {
+    let answer = engine::fresh(store, list, is_plain, n, delay, own);
     let out = show::out_buffer();
     answered(number, b"fresh", answer, &out);
 }
 
 // A line with bytes, by what they are.
-fn given(store: &mut Store, number: u64, what: What, bytes: &[u8]) {
+fn given(
+    store: &mut Store,
+    list: &mut List,
+    is_plain: bool,
+    number: u64,
+    what: What,
+    bytes: &[u8],
+) {
     match what {
-        What::Message => message(store, number, bytes),
-        What::Offer => offer(store, number, bytes),
-        What::Envelope => relay::hand_over(store, number, bytes),
+        What::Message => message(store, list, is_plain, number, bytes),
+        What::Offer => offer(store, list, is_plain, number, bytes),
+        What::Envelope => relay::hand_over(store, list, is_plain, number, bytes),
         What::Slip => slip(store, number, bytes),
         What::Certified { view, height } => certified(store, number, view, height, bytes),
         What::Choose { first } => choose(store, number, bytes, first),
@@ -116,16 +134,16 @@ fn chosen(page: &mut Page, at: usize, n: u64, bytes: &[u8], first: usize) -> usi
 }
 
 // A message is handed over.
-pub fn message(store: &mut Store, number: u64, message: &[u8]) {
+pub fn message(store: &mut Store, list: &mut List, is_plain: bool, number: u64, message: &[u8]) {
     let mut out = show::out_buffer();
-    let answer = station::station_step(store, message, &mut out);
+    let answer = engine::step(store, list, is_plain, message, &mut out);
     answered(number, b"message", answer, &out);
 }
 
 // A name is offered.
-fn offer(store: &mut Store, number: u64, name: &[u8]) {
+fn offer(store: &mut Store, list: &mut List, is_plain: bool, number: u64, name: &[u8]) {
     let mut out = show::out_buffer();
-    let answer = station::station_offer(store, name, &mut out);
+    let answer = engine::offer(store, list, is_plain, name, &mut out);
     answered(number, b"offer", answer, &out);
 }
 
@@ -136,60 +154,67 @@ fn wall_display(store: &Store, number: u64) {
     answered(number, b"display", answer, &out);
 }
 
-// How far a line of ticks is: what the page has, the clock up to which ticks are told, and whether one was refused.
+// How far a line of ticks is: what the page has, the clock, the one up to which ticks are told, and whether one was refused.
 struct Ticking {
     at: usize,
+    clock: u64,
     told: u64,
     refused: bool,
 }
 
 // Ticks, until one is refused.
-fn ticks(store: &mut Store, number: u64, count: u64) {
+fn ticks(store: &mut Store, list: &mut List, is_plain: bool, number: u64, count: u64) {
+    let clock = stored::clock(store);
     let mut page = io::buffer();
     let mut out = show::out_buffer();
     let mut so_far = Ticking {
         at: 0,
-        told: stored::clock(store),
+        clock,
+        told: clock,
         refused: false,
     };
     let mut left = count;
     while left > 0 {
-        so_far = tick(store, &mut out, &mut page, number, so_far);
+        so_far = tick(store, list, is_plain, &mut out, &mut page, number, so_far);
         if so_far.refused {
             break;
         }
         left -= 1;
     }
-    let end = quiet(
-        &mut page,
-        so_far.at,
-        number,
-        so_far.told,
-        stored::clock(store),
-    );
+    let end = quiet(&mut page, so_far.at, number, so_far.told, so_far.clock);
     page::finish(&page, end);
 }
 
 // One tick. What it says is told at once, and before it the ticks that said nothing.
 fn tick(
     store: &mut Store,
+    list: &mut List,
+    is_plain: bool,
     out: &mut Out,
     page: &mut Page,
     number: u64,
     so_far: Ticking,
 ) -> Ticking {
-    let before = stored::clock(store);
-    let answer = station::station_tick(store, out);
+    let answer = engine::tick(store, list, is_plain, out);
+    let after = crate::next(so_far.clock);
     if answer == 0 {
-        return so_far;
+        return Ticking {
+            at: so_far.at,
+            clock: after,
+            told: so_far.told,
+            refused: false,
+        };
     }
-    let caught_up = quiet(page, so_far.at, number, so_far.told, before);
-    let named = name_tick(page, caught_up, number, before + 1);
+    let caught_up = quiet(page, so_far.at, number, so_far.told, so_far.clock);
+    let named = name_tick(page, caught_up, number, after);
     let at = show::answer(page, named, answer, out);
+    let refused = show::refusal(answer) != 0;
+    let clock = if refused { so_far.clock } else { after };
     Ticking {
         at,
-        told: stored::clock(store),
-        refused: show::refusal(answer) != 0,
+        clock,
+        told: clock,
+        refused,
     }
 }
 

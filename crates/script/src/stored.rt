@@ -1,12 +1,13 @@
 // The log and the state, as the store has them.
 ghost use mathlib.Core.Path.{_≡_};
 ghost use lib.ListN.{length};
-ghost use Prim.Native.Nat.{_^_, _<_};
-ghost use Rattle.rules.specs.Limits.{mostStatements};
-ghost use Rattle.store.specs.Layout.{smallLength, sizeIn};
-use crate::show;
-use crate::spell;
+ghost use Prim.Native.Nat.{_/_, _<_};
+ghost use Rattle.store.specs.Layout.{smallLength};
+use crate::engine::List;
 use page::Page;
+use said::show;
+use said::spell;
+use settings::Settings;
 use store::Cause;
 use store::Phase;
 use store::Station;
@@ -27,19 +28,10 @@ fn is_good(store: &Store) -> bool {
     formed::well_formed(store)
 }
 
-// A clock as a word, with its bound.
-fn wide(clock: u32) -> u64
-    ensures { λ r. ⌜ r < 2 ^ 32 ⌝ }
-{
-    clock as u64
-}
-
 // The clock of a store.
-pub fn clock(store: &Store) -> u64
-    ensures { λ r. ⌜ r < 2 ^ 32 ⌝ }
-{
+pub fn clock(store: &Store) -> u64 {
     let station = Station::load(store);
-    wide(station.clock)
+    station.clock as u64
 }
 
 // How many stations the group of a store has.
@@ -48,46 +40,66 @@ pub fn stations(store: &Store) -> u64 {
     station.settings.n
 }
 
-// The log, lowest height first.
+// The bytes of a name, and where the log's names begin in a store.
+const NAME: usize = 32;
+
+const LOG: usize = store::LENGTH - NAME * Settings::MOST_STATEMENTS;
+
+// The log of a store.
 pub fn log(line: u64, store: &Store) {
+    if !is_good(store) {
+        names(line, 2, 0, store);
+        return;
+    }
+    let station = Station::load(store);
+    let bytes = &store[..];
+    names(line, 0, station.logged, &bytes[LOG..]);
+}
+
+// The log, as the plain engine tells it.
+pub fn plain_log(line: u64, list: &List) {
+    let mut out = show::out_buffer();
+    let answer = plain::plain_log(list, &mut out);
+    names(line, show::refusal(answer), answer as usize / NAME, &out);
+}
+
+// A refusal, or so many names that stand one behind another, lowest height first.
+fn names(line: u64, refusal: u64, count: usize, names: &[u8]) {
     let mut page = io::buffer();
     let started = show::start(&mut page, 0, line, b"log");
-    let end = logged(&mut page, started, store);
+    let end = logged(&mut page, started, refusal, count, names);
     page::finish(&page, end);
 }
 
-// The log of a store that is well formed.
-fn logged(page: &mut Page, at: usize, store: &Store) -> usize {
-    if !is_good(store) {
-        return show::refused(page, at, 2);
+fn logged(page: &mut Page, at: usize, refusal: u64, count: usize, names: &[u8]) -> usize {
+    if refusal != 0 {
+        return show::refused(page, at, refusal);
     }
-    let station = Station::load(store);
-    let count = station.logged;
     let counted = spell::number(page, at, b": ", count as u64);
     let told = page::say(page, counted, b" logged\n");
-    entries(page, told, store, count)
+    entries(page, told, names, count)
 }
 
 // The entries of the log.
-fn entries(page: &mut Page, at: usize, store: &Store, count: usize) -> usize {
+fn entries(page: &mut Page, at: usize, names: &[u8], count: usize) -> usize {
     let mut end = at;
     let mut i: usize = 0;
     while i < count {
-        if store::most_statements_in(store) <= i {
+        if names.len() / NAME <= i {
             break;
         }
-        end = entry(page, end, store, i);
+        end = entry(page, end, names, i);
         i += 1;
     }
     end
 }
 
 // The entry at height i + 1.
-fn entry(page: &mut Page, at: usize, store: &Store, i: usize) -> usize
-    requires { ⌜ i < mostStatements (sizeIn (now store)) ⌝ }
+fn entry(page: &mut Page, at: usize, names: &[u8], i: usize) -> usize
+    requires { ⌜ i < length (now names) / 32 ⌝ }
 {
     let indented = page::say(page, at, b"  ");
-    let name = store::name_at(store, i);
+    let name = fields::get_name(names, NAME * i);
     let said = spell::committed(page, indented, i as u64 + 1, name);
     page::put(page, said, b'\n')
 }

@@ -10,7 +10,7 @@ use lib.ListN.{length}
 use borrow.Author.Tests.{eq-eqb, ne-eqb}
 use Rattle.rules.specs.Lists.{keep}
 use Rattle.rules.specs.Words.{Tally, isAuthor, openedBy}
-use Rattle.rules.proofs.Tests.{by-bool}
+use Rattle.laws.proofs.Tests.{by-bool}
 use Rattle.store.specs.Layout.{sizeIn}
 use Rattle.store.specs.Decode.{rows, tallyAt, openerAt}
 use Rattle.store.proofs.Rows.{rows-from, rows-length}

@@ -10,10 +10,10 @@ use borrow.Author.Tests.{eq-eqb, ne-eqb, eqb-true, eqb-false}
 use Rattle.rules.specs.Lists.{first, keep}
 use Rattle.rules.specs.Words.{Statement, conflict, Certificate, Tally, ofBlock, voters}
 use Rattle.rules.specs.Inputs.{pair}
-use Rattle.rules.proofs.Tests.{by-bool}
+use Rattle.laws.proofs.Tests.{by-bool}
 use Rattle.words.proofs.Statements.{other-view}
 use Rattle.store.specs.Decode.{rows}
-use Rattle.store.specs.Changes.{firstFrom}
+use Rattle.store.specs.Searches.{firstFrom}
 use Rattle.store.specs.declared.Found.{Found}
 use Rattle.store.specs.declared.Found.the-variants.{At, Nothing}
 use Rattle.store.proofs.Rows.{rows-from}

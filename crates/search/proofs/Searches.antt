@@ -2,15 +2,16 @@
 use Prim.Native.Nat.{ℕ, zero, suc, _+_, _-_, _<_, _≤_}
 use mathlib.Core.Path.{_≡_, refl, ap, _∙_, subst}
 use mathlib.Core.Bool.{Bool, true, false}
-use mathlib.Core.List.{[], _∷_}
+use mathlib.Core.List.{List, [], _∷_}
 use mathlib.Core.Option.{Option}
 use native.Mathlib.Omega.{arith}
 use Rattle.rules.specs.Lists.{first, any}
-use Rattle.rules.proofs.Tests.{by-bool}
+use Rattle.laws.proofs.Tests.{by-bool}
 use Rattle.store.specs.Decode.{rows}
 use Rattle.store.specs.declared.Found.{Found}
+use Rattle.store.specs.declared.Found.the-variants.{At, Nothing}
 use Rattle.store.proofs.Rows.{rows-from}
-use Rattle.store.specs.Changes.{firstFrom}
+use Rattle.store.specs.Searches.{firstFrom}
 use Rattle.search.specs.Finds.{Finds}
 
 module _ {A : Type 0} (f : ℕ → A) (n : ℕ) where
@@ -31,19 +32,18 @@ module _ {A : Type 0} (f : ℕ → A) (n : ℕ) where
       let e : i - 1 + 1 ≡ i = omega arith in
       rows-from f (i - 1) n (omega arith) ∙ ap (λ (k : ℕ). f (i - 1) ∷ rows f k (n - k)) e
 
--- a loop upward: the rest decides
-module _ {A : Type 0} (f : ℕ → A) (p : A → Bool) (n : ℕ) where
-  pub any-none : (i : ℕ) → n ≤ i → any p (rows f i (n - i)) ≡ false
-  unfolding any
-  any-none i h = rw (rows-end f n i h)
+-- whether a search found one
+abbrev pub isAt : Found → Bool
+isAt (At i) = true
+isAt Nothing = false
 
-  pub any-here : (i : ℕ) → i < n → p (f i) ≡ true → any p (rows f i (n - i)) ≡ true
-  unfolding any
-  any-here i h t = rw (rows-from f i n h, t, any)
+found-any : {A : Type 0} (p : A → Bool) (i : ℕ) (xs : List A) → isAt (firstFrom p i xs) ≡ any p xs
+unfolding any firstFrom
+found-any p i [] = refl
+found-any p i (x ∷ xs) = by-bool (p x) (λ q. rw (q, any)) (λ q. rw (q, any) (found-any p (suc i) xs))
 
-  pub any-next : (i : ℕ) → i < n → p (f i) ≡ false → any p (rows f i (n - i)) ≡ any p (rows f (i + 1) (n - (i + 1)))
-  unfolding any
-  any-next i h t = rw (rows-from f i n h, t, any)
+pub any-found : {A : Type 0} (f : ℕ → A) (p : A → Bool) (n : ℕ) {r : Found} → r ≡ firstFrom p 0 (rows f 0 (n - 0)) → isAt r ≡ any p (rows f 0 n)
+any-found f p n e = ap isAt (e ∙ ap (firstFrom p 0) (rows-whole f n 0 (omega arith))) ∙ found-any p 0 (rows f 0 n)
 
 -- what was found is the first that matches
 module _ {A : Type 0} (f : ℕ → A) (p : A → Bool) where

@@ -12,7 +12,7 @@ use Rattle.rules.specs.Messages.{allowed}
 use Rattle.rules.specs.Words.{Statement, message, conflict, State}
 use Rattle.rules.specs.Inputs.{isUsed, isOpened, current}
 use Rattle.rules.specs.WellFormed.{isName, statementGood}
-use Rattle.rules.proofs.Tests.{and-left}
+use Rattle.laws.proofs.Tests.{and-left}
 use Rattle.fields.specs.Names.{nameOf}
 use Rattle.wire.specs.Meaning.{statementOf}
 use Rattle.wire.specs.declared.Statement as code
@@ -28,10 +28,6 @@ module _ (x : code.Statement) (y : Statement) (e : statementOf x (y .voted) ≡ 
   pub read-height : x .height ≡ y .height
   unfolding statementOf
   read-height = ap (λ (z : Statement). z .height) e
-
-  pub read-view : x .view ≡ y .view
-  unfolding statementOf
-  read-view = ap (λ (z : Statement). z .view) e
 
   pub read-conflict : (w : code.Statement) → conflict (statementOf w none) (statementOf x none) ≡ conflict (statementOf w none) y
   read-conflict w = sym (conflict-unvoted w x none (y .voted)) ∙ ap (conflict (statementOf w none)) e
@@ -52,27 +48,12 @@ module _ (x : code.Statement) (y : Statement) (e : statementOf x (y .voted) ≡ 
   unfolding statementOf
   read-uses b = ap (uses b) e
 
--- the stored statements of a well-formed state carry certificates that fit
-pub certifies-stored : (b : List ℕ) → all (statementGood (stateOf b)) (statements b) ≡ true → (i : ℕ) → i < countOf statementTable b → Certifies (statementAt b i)
-unfolding statements statementGood
-certifies-stored b h i l =
-    let x = statementAt b i in
-    let s = stateOf b in
-    let good = rows-all (statementGood s) (statementAt b) 0 (countOf statementTable b) h i (omega arith) (omega arith) in
-    let voted : Bool = elim (x .voted) [ none ↦ true | some c ↦ leb c (s .clock) ] in
-    let ok = allowed (s .settings) (message x) in
-    certifies-allowed (s .settings) x (and-left ok (isName (x .name)) (and-left (ok && isName (x .name)) (isName (x .link)) (and-left (ok && isName (x .name) && isName (x .link)) voted good)))
-
 -- ---- rules' names of what is looked up in a state
 
 module _ (s : State) where
   pub used-is : (b : ℕ) → isUsed b s ≡ any (uses b) (s .statements)
   unfolding isUsed
   used-is b = refl
-
-  pub opened-is : isOpened s ≡ any (opens (s .view)) (s .statements)
-  unfolding isOpened
-  opened-is = refl
 
   pub current-is : current s ≡ ofView (s .view) (s .statements)
   unfolding current ofView

@@ -9,7 +9,7 @@ use lib.Dec.{ltb}
 use borrow.Author.Tests.{eq-eqb, ne-eqb, lt-ltb, le-ltb}
 use Rattle.rules.specs.Sizes.{Settings, quorum}
 use Rattle.rules.specs.Words.{Statement, Certificate, Tally, certificateOf, genesis, certified, higher, highest}
-use Rattle.rules.proofs.Tests.{by-bool}
+use Rattle.laws.proofs.Tests.{by-bool}
 use Rattle.rules.specs.Inputs.{top}
 use Rattle.fields.specs.Names.{nameOf}
 use Rattle.fields.specs.declared.Name.{Name}

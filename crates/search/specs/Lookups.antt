@@ -8,6 +8,10 @@ use lib.Dec.{ltb, eqb}
 use Rattle.rules.specs.Lists.{first, keep}
 use Rattle.rules.specs.Sizes.{Settings, quorum}
 use Rattle.rules.specs.Words.{Statement, conflict, Certificate, Tally, certificateOf, certificate, certified, below, higher}
+use Rattle.fields.specs.Names.{nameOf}
+use Rattle.wire.specs.Meaning.{statementOf}
+use Rattle.search.specs.declared.Ask.{Ask}
+use Rattle.search.specs.declared.Ask.the-variants.{Conflict, Opens, Uses}
 
 -- one step of rules' `highest`
 unfoldable pub chosen : Settings → ℕ → Certificate → Certificate → Certificate
@@ -21,6 +25,12 @@ opens v x = x .isNewView && eqb (x .view) v
 -- "the name or parent" of a statement
 abbrev pub uses : ℕ → Statement → Bool
 uses b x = eqb b (x .name) || not (x .isNewView) && eqb b (x .link)
+
+-- what a search asks of a statement
+abbrev pub asked : Ask → Statement → Bool
+asked (Conflict x) = conflict (statementOf x none)
+asked (Opens v) = opens v
+asked (Uses b) = uses (nameOf b)
 
 -- what a statement of a view conflicts with among those that follow it
 unfoldable pub rivalIn : ℕ → List Statement → Statement → Option Statement

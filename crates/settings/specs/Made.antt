@@ -6,6 +6,7 @@ use Rattle.rules.specs.Limits as limits
 use Rattle.rules.specs.Limits.{small, large}
 use Rattle.rules.specs.Sizes as sizes
 use Rattle.rules.specs.Sizes.{goodSettings}
+use Rattle.rules.specs.Refusals.{freshNumber}
 use Rattle.settings.specs.declared.Size.{Size}
 use Rattle.settings.specs.declared.Size.the-variants.{Small, Large}
 use Rattle.settings.specs.declared.Settings.{Settings}
@@ -41,3 +42,10 @@ unfoldable pub made : ℕ → ℕ → ℕ → Size → Made
 unfolding goodSettings
 made n delay own z =
     pick (goodSettings (record { n = n; D = delay; own = own; size = sizeFrom z })) (Good (record { n = n; delay = delay; own = own; size = z })) Bad
+
+-- what the rules answer to the settings of a fresh store, and the settings where they are good
+unfoldable pub answered : ℕ → ℕ → ℕ → Size → Answer
+unfolding goodSettings freshNumber
+answered n delay own z =
+    let g : sizes.Settings = record { n = n; D = delay; own = own; size = sizeFrom z } in
+    record { number = freshNumber g; settings = elim (goodSettings g) [ true ↦ some g | false ↦ none ] }

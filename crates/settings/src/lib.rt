@@ -3,7 +3,7 @@ ghost use mathlib.Core.Path.{_≡_};
 ghost use Prim.Native.Nat.{_<_, _^_};
 ghost use Rattle.rules.specs.Limits.{maskBits, lastView, mostStatements, mostTallies};
 ghost use Rattle.rules.specs.Sizes.{leader, quorum, only, joined, holds};
-ghost use Rattle.settings.specs.Made.{made, sizeFrom, settingsOf};
+ghost use Rattle.settings.specs.Made.{made, answerOf, answered, sizeFrom, settingsOf};
 
 // Which limits a group goes by.
 pub enum Size {
@@ -58,7 +58,7 @@ impl Settings {
 
     // The settings, or that they are bad.
     pub fn new(n: u64, delay: u64, own: u64, size: Size) -> Made
-        ensures { λ r. ⌜ r ≡ made n delay own size ⌝ }
+        ensures { λ r. ⌜ (r ≡ made n delay own size) × (answerOf r ≡ answered n delay own size) ⌝ }
     {
         if n % 2 != 1 {
             return Made::Bad;

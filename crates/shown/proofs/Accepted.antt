@@ -16,10 +16,10 @@ use Rattle.rules.specs.Messages.{Message, newView, propose, vote, blame, blameS
 use Rattle.rules.specs.Sizes.{Settings, goodSettings, leader, quorum}
 use Rattle.rules.specs.Words.{Statement, message, State}
 use Rattle.rules.specs.WellFormed.{isName, statementGood, linked, wellFormed}
-use Rattle.rules.proofs.Allowed.{sizes, le-within, name-lt}
-use Rattle.rules.proofs.Searches.{first-any, first-none, first-mem}
-use Rattle.rules.proofs.Tests.{by-bool, by-option, no-bool, no-some, and-left, and-right}
-use Rattle.rules.proofs.Truths.{and-2}
+use Rattle.laws.proofs.Allowed.{sizes, le-within, name-lt}
+use Rattle.laws.proofs.Searches.{first-any, first-none, first-mem}
+use Rattle.laws.proofs.Tests.{by-bool, by-option, no-bool, no-some, and-left, and-right}
+use Rattle.laws.proofs.Truths.{and-2}
 use Rattle.kept.specs.Parts.{WellFormed}
 use Rattle.kept.proofs.WellFormed.{parts}
 use Rattle.kept.proofs.Logs.{linked-cons}

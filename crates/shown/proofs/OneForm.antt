@@ -13,9 +13,9 @@ use Rattle.rules.specs.Lists.{be, unbe}
 use Rattle.rules.specs.Messages.{Message, field, write}
 use Rattle.rules.specs.Sizes.{Settings, goodSettings}
 use Rattle.rules.specs.Words.{Statement, message}
-use Rattle.rules.proofs.Bytes.{length-unbe, be-unbe}
-use Rattle.rules.proofs.Tests.{no-bool, and-left, and-right}
-use Rattle.rules.proofs.Lengths.{length-field}
+use Rattle.laws.proofs.Bytes.{length-unbe, be-unbe}
+use Rattle.laws.proofs.Tests.{no-bool, and-left, and-right}
+use Rattle.laws.proofs.Lengths.{length-field}
 use Rattle.slip.specs.Slips.{isEntry, isChain, isSlip, entryBytes, entriesBytes, slipBytes, entryAt}
 use Rattle.shown.proofs.Passing.{Named, bare, message-is, length-entry, entries-cons, slip-cons, entry-parts, entry-back, fits, chain-entry, chain-next}
 

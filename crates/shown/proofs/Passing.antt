@@ -16,14 +16,14 @@ use Rattle.rules.specs.Lists.{be, unbe}
 use Rattle.rules.specs.Messages.{Message, propose, field, width, write, Fitting, read, allowed, size}
 use Rattle.rules.specs.Sizes.{Settings, goodSettings}
 use Rattle.rules.specs.Words.{Statement, message}
-use Rattle.rules.proofs.Allowed.{sizes}
-use Rattle.rules.proofs.Bytes.{length-unbe, be-unbe}
-use Rattle.rules.proofs.Written.{read-write}
-use Rattle.rules.proofs.Tests.{and-left, and-right, eqb-self, no-bool}
+use Rattle.laws.proofs.Allowed.{sizes}
+use Rattle.laws.proofs.Bytes.{length-unbe, be-unbe}
+use Rattle.laws.proofs.Written.{read-write}
+use Rattle.laws.proofs.Tests.{and-left, and-right, eqb-self, no-bool}
 use Rattle.kept.proofs.Sendable.{sendable}
 use Rattle.wire.specs.Fields.{head, isField}
 use Rattle.wire.proofs.Reading.{field-test, be-number}
-use Rattle.rules.proofs.Lengths.{length-write, length-field}
+use Rattle.laws.proofs.Lengths.{length-write, length-field}
 use Rattle.slip.specs.Slips.{isEntry, certifies, follows, isChain, isSlip, entryBytes, entriesBytes, slipBytes, proposeOf, proposeIn, nameEnd, entryPlace, entryAt, parentIn, Verdict, accepted, judgeFrom, topHeight, judged}
 use Rattle.slip.proofs.Judging.{parent-here, top-here}
 

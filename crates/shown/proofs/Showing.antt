@@ -17,13 +17,13 @@ use Rattle.rules.specs.Lists.{unbe}
 use Rattle.rules.specs.Messages.{Message, propose, field, write, read, allowed}
 use Rattle.rules.specs.Sizes.{Settings, goodSettings, quorum}
 use Rattle.rules.specs.Words.{Statement, message, Certificate, certificate, sameBlock}
-use Rattle.rules.proofs.Allowed.{allowed-rights, mask-parts, genesis-zero}
-use Rattle.rules.proofs.Bytes.{length-unbe}
-use Rattle.rules.proofs.ReadBack.{write-read}
-use Rattle.rules.proofs.Tests.{by-bool, by-option, no-bool, and-left, and-right, eqb-self}
+use Rattle.laws.proofs.Allowed.{allowed-rights, mask-parts, genesis-zero}
+use Rattle.laws.proofs.Bytes.{length-unbe}
+use Rattle.laws.proofs.ReadBack.{write-read}
+use Rattle.laws.proofs.Tests.{by-bool, by-option, no-bool, and-left, and-right, eqb-self}
 use Rattle.wire.specs.Fields.{head, isField}
 use Rattle.wire.proofs.Reading.{field-room}
-use Rattle.rules.proofs.Lengths.{length-field}
+use Rattle.laws.proofs.Lengths.{length-field}
 use Rattle.slip.specs.Slips.{isEntry, certifies, follows, isChain, isSlip, entryBytes, entriesBytes, slipBytes, nameEnd, entryPlace, entryAt, parentIn, Verdict, accepted, refused, judgeFrom, topHeight, judged}
 use Rattle.slip.proofs.Reading.{bytes-all, piece, propose-read, entry-framed, entry-room}
 use Rattle.slip.proofs.Judging.{countOf, Leads, leads, top-here, top-unread}

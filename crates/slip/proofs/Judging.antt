@@ -14,8 +14,8 @@ use Rattle.rules.specs.Limits.{lastHeight}
 use Rattle.rules.specs.Messages.{newView, propose, allowed}
 use Rattle.rules.specs.Sizes.{Settings}
 use Rattle.rules.specs.Words.{Statement, message}
-use Rattle.rules.proofs.Allowed.{height-le, allowed-rights}
-use Rattle.rules.proofs.Tests.{by-bool, by-option, no-some, and-left, and-right}
+use Rattle.laws.proofs.Allowed.{height-le, allowed-rights}
+use Rattle.laws.proofs.Tests.{by-bool, by-option, no-some, and-left, and-right}
 use Rattle.wire.specs.Fields.{head, isField}
 use Rattle.wire.proofs.Reading.{field-test, field-short}
 use Rattle.groups.specs.Groups.{group}

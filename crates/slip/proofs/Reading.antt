@@ -16,11 +16,11 @@ use Rattle.fields.proofs.Lists.{number-piece, bytes-take, bytes-drop}
 use Rattle.rules.specs.Lists.{be, unbe}
 use Rattle.rules.specs.Messages.{Message, newView, propose, vote, blame, blameSet, status, field, width, table, rowOf, tagsOf, kind, values, writes, write, Fitting, read}
 use Rattle.rules.specs.Words.{Statement, message}
-use Rattle.rules.proofs.Bytes as rules
-use Rattle.rules.proofs.Bytes.{length-unbe, be-unbe, unbe-be}
-use Rattle.rules.proofs.ReadBack.{write-read}
-use Rattle.rules.proofs.Written.{read-write}
-use Rattle.rules.proofs.Tests.{by-bool, by-option, no-some, no-bool, and-left, and-right}
+use Rattle.laws.proofs.Bytes as rules
+use Rattle.laws.proofs.Bytes.{length-unbe, be-unbe, unbe-be}
+use Rattle.laws.proofs.ReadBack.{write-read}
+use Rattle.laws.proofs.Written.{read-write}
+use Rattle.laws.proofs.Tests.{by-bool, by-option, no-some, no-bool, and-left, and-right}
 use Rattle.wire.specs.Fields.{head, isField}
 use Rattle.wire.proofs.Reading.{be-number, field-test, field-short}
 use Rattle.slip.specs.Slips.{entryBytes, proposeOf, proposeIn, entryAt}

@@ -13,14 +13,14 @@ use Rattle.rules.specs.Limits.{leastOut}
 use Rattle.rules.specs.Lists.{be}
 use Rattle.rules.specs.WellFormed.{wellFormed}
 use Rattle.rules.specs.Words.{State}
-use Rattle.rules.proofs.Tests.{and-left}
+use Rattle.laws.proofs.Tests.{and-left}
 use Rattle.fields.specs.Places.{number, Bytes}
 use Rattle.wire.proofs.Reading.{be-number}
 use Rattle.outgoing.specs.Wrote.{Says}
 use Rattle.outgoing.proofs.Writing.{wrote-prefix}
 use Rattle.store.specs.Layout.{storeLength, sizeIn, logTable, countOf}
 use Rattle.store.specs.Decode.{statements, names, stateFrom, stateOf, hasForm, Form}
-use Rattle.store.specs.Changes.{firstFrom}
+use Rattle.store.specs.Searches.{firstFrom}
 use Rattle.store.specs.declared.Found.{Found}
 use Rattle.store.specs.declared.Found.the-variants.{At, Nothing}
 use Rattle.formed.proofs.Whole.{formed-decoded, unformed-decoded}

@@ -14,19 +14,19 @@ use Rattle.rules.specs.Lists.{unbe, first}
 use Rattle.rules.specs.Messages.{field, write, size}
 use Rattle.rules.specs.Words.{Statement, message}
 use Rattle.rules.specs.Inputs.{isBlock}
-use Rattle.rules.proofs.Searches.{first-any}
-use Rattle.rules.proofs.Tests.{by-bool, by-option, no-bool, and-left, and-right}
-use Rattle.rules.proofs.Bytes.{length-unbe}
+use Rattle.laws.proofs.Searches.{first-any}
+use Rattle.laws.proofs.Tests.{by-bool, by-option, no-bool, and-left, and-right}
+use Rattle.laws.proofs.Bytes.{length-unbe}
 use Rattle.fields.specs.Places.{put}
 use Rattle.wire.specs.Fields.{head}
 use Rattle.wire.specs.Meaning.{statementOf}
 use Rattle.wire.specs.declared.Statement as code
 use Rattle.outgoing.specs.Wrote.{Says}
-use Rattle.rules.proofs.Lengths.{length-field, length-write}
+use Rattle.laws.proofs.Lengths.{length-field, length-write}
 use Rattle.outgoing.proofs.Writing.{says-none, says-both, says-length, put-says, field-says}
 use Rattle.store.specs.Layout.{statementTable, logTable, countOf}
 use Rattle.store.specs.Decode.{rows, statementAt, nameAt, statements, names}
-use Rattle.store.specs.Changes.{pick, firstFrom}
+use Rattle.store.specs.Searches.{pick, firstFrom}
 use Rattle.store.specs.declared.Found.{Found}
 use Rattle.store.specs.declared.Found.the-variants.{At, Nothing}
 use Rattle.store.proofs.Rows.{rows-at, rows-length}

@@ -9,7 +9,7 @@ ghost use Rattle.fields.specs.Names.{nameOf};
 ghost use Rattle.outgoing.specs.Wrote.{Says};
 ghost use Rattle.store.specs.Layout.{sizeIn, statementTable, logTable, countOf};
 ghost use Rattle.store.specs.Decode.{statementAt, statements, names, Form};
-ghost use Rattle.store.specs.Changes.{firstFrom};
+ghost use Rattle.store.specs.Searches.{firstFrom};
 ghost use Rattle.linked.specs.Links.{isLink};
 ghost use Rattle.calls.specs.Calls.{Gives};
 ghost use Rattle.slip.specs.Slips.{entryBytes, entriesBytes, slipBytes};

@@ -10,9 +10,9 @@ use lib.Dec.{leb, eqb}
 use borrow.Author.Tests.{eqb-true, ne-eqb, leb-true, le-leb, lt-leb}
 use Rattle.rules.specs.Messages as messages
 use Rattle.rules.specs.Messages.{read}
-use Rattle.rules.proofs.Bytes.{Bytes}
-use Rattle.rules.proofs.ReadBack.{write-read}
-use Rattle.rules.proofs.Tests.{by-bool, and-left, and-right}
+use Rattle.laws.proofs.Bytes.{Bytes}
+use Rattle.laws.proofs.ReadBack.{write-read}
+use Rattle.laws.proofs.Tests.{by-bool, and-left, and-right}
 use Rattle.outgoing.proofs.Writing.{length-write-most}
 use Rattle.wire.specs.Meaning.{readOf, messageOf}
 use Rattle.wire.specs.declared.Message.{Message}

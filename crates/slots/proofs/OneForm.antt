@@ -10,14 +10,14 @@ use lib.Dec.{eqb, lit<, lit≤}
 use borrow.Author.Tests.{eqb-true, eq-eqb, ne-eqb}
 use Rattle.rules.specs.Lists.{unbe}
 use Rattle.rules.specs.Messages.{field}
-use Rattle.rules.proofs.Bytes.{be-unbe, length-unbe}
-use Rattle.rules.proofs.Tests.{by-bool, no-bool, eqb-self, and-left, and-right}
+use Rattle.laws.proofs.Bytes.{be-unbe, length-unbe}
+use Rattle.laws.proofs.Tests.{by-bool, no-bool, eqb-self, and-left, and-right}
 use Rattle.fields.specs.Places.{number, put, Bytes}
 use Rattle.fields.proofs.Laws.{number-lt, bytes-put, bytes-set}
 use Rattle.fields.proofs.Lists.{number-tail, number-append-left, number-append-right, bytes-take, bytes-drop, same-list}
 use Rattle.wire.proofs.Reading.{be-number}
 use Rattle.outgoing.specs.Wrote.{wrote}
-use Rattle.rules.proofs.Lengths.{length-field}
+use Rattle.laws.proofs.Lengths.{length-field}
 use Rattle.slots.specs.Slots.{slotLength, mostInput, isInput, recordBytes, isBlank, isEnded, sequenceIn, valueIn, kindIn, inputIn, isRecord, recordIn, judged, blank, torn, bad, whole}
 use Rattle.slots.proofs.Inputs.{input-fits}
 use Rattle.slots.proofs.Records.{length-record, record-wrote}
@@ -38,6 +38,26 @@ judged-record s e f = ap₂ (sorted s) e f
 chosen-is : (s : List ℕ) (x : Bool) → isRecord s ≡ x → recordIn s ≡ chosen s x
 unfolding recordIn
 chosen-is s x u = ap (chosen s) u
+
+-- a slot that is judged whole is a record, with these parts
+pub whole-only : (s : List ℕ) (q k : ℕ) (bs : List ℕ) → judged s ≡ whole q k bs → (isRecord s ≡ true) × (whole (sequenceIn s) (kindIn s) (inputIn s) ≡ whole q k bs)
+whole-only s q k bs e =
+    by-bool (isBlank s) (λ p. absurd (blank-whole (sym (judged-blank s p) ∙ e)))
+    (λ p.
+    by-bool (isEnded s)
+    (λ t.
+    let r = sym (judged-record s p t) ∙ e in
+    by-bool (isRecord s) (λ u. (u, sym (chosen-is s true u) ∙ r)) (λ u. absurd (bad-whole (sym (chosen-is s false u) ∙ r))))
+    (λ t. absurd (torn-whole (sym (judged-torn s p t) ∙ e))))
+  where
+    blank-whole : blank ≡ whole q k bs → ⊥
+    blank-whole r = let z : _≡_ {A = ℕ} 0 1 = cc in omega arith
+
+    torn-whole : torn ≡ whole q k bs → ⊥
+    torn-whole r = let z : _≡_ {A = ℕ} 0 1 = cc in omega arith
+
+    bad-whole : bad ≡ whole q k bs → ⊥
+    bad-whole r = let z : _≡_ {A = ℕ} 0 1 = cc in omega arith
 
 -- a slot that is judged blank is zeros
 pub blank-only : (s : List ℕ) → judged s ≡ blank → isBlank s ≡ true
@@ -202,23 +222,7 @@ module _ (s : List ℕ) (b : Bytes s) (n : length s ≡ slotLength) where
 
   -- a slot that holds a whole record is that record's bytes, and no others
   pub one-form : (q k : ℕ) (bs : List ℕ) → judged s ≡ whole q k bs → s ≡ recordBytes q k bs
-  one-form q k bs e =
-      by-bool (isBlank s) (λ p. absurd (blank-whole (sym (judged-blank s p) ∙ e)))
-      (λ p.
-      by-bool (isEnded s)
-      (λ t.
-      let r = sym (judged-record s p t) ∙ e in
-      by-bool (isRecord s) (λ u. record-only u ∙ parts (sym (chosen-is s true u) ∙ r)) (λ u. absurd (bad-whole (sym (chosen-is s false u) ∙ r))))
-      (λ t. absurd (torn-whole (sym (judged-torn s p t) ∙ e))))
+  one-form q k bs e = let w = whole-only s q k bs e in record-only (w .0) ∙ parts (w .1)
     where
-      blank-whole : blank ≡ whole q k bs → ⊥
-      blank-whole r = let z : _≡_ {A = ℕ} 0 1 = cc in omega arith
-
-      torn-whole : torn ≡ whole q k bs → ⊥
-      torn-whole r = let z : _≡_ {A = ℕ} 0 1 = cc in omega arith
-
-      bad-whole : bad ≡ whole q k bs → ⊥
-      bad-whole r = let z : _≡_ {A = ℕ} 0 1 = cc in omega arith
-
       parts : whole (sequenceIn s) (kindIn s) (inputIn s) ≡ whole q k bs → recordBytes (sequenceIn s) (kindIn s) (inputIn s) ≡ recordBytes q k bs
       parts r = cc

@@ -7,7 +7,7 @@ use lib.ListN.{length}
 use lib.Dec.{eqb, ltb}
 use borrow.Author.Tests.{eq-eqb, ne-eqb, lt-ltb, le-ltb, ltb-true}
 use Rattle.fields.specs.Places.{number}
-use Rattle.rules.proofs.Truths.{and-3}
+use Rattle.laws.proofs.Truths.{and-3}
 use Rattle.slots.specs.Slots.{slotLength, mostInput, isInput, isBlank, recordBytes, Written, written, mayPut, putting}
 use Rattle.slots.proofs.Inputs.{input-fits}
 

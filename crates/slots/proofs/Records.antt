@@ -11,10 +11,10 @@ use lib.Dec.{lit<}
 use Rattle.fields.specs.Places.{put}
 use Rattle.rules.specs.Lists.{unbe}
 use Rattle.rules.specs.Messages.{field}
-use Rattle.rules.proofs.Bytes.{pow-pos, length-unbe}
+use Rattle.laws.proofs.Bytes.{pow-pos, length-unbe}
 use Rattle.wire.specs.Fields.{head}
 use Rattle.outgoing.specs.Wrote.{wrote, Says}
-use Rattle.rules.proofs.Lengths.{length-field}
+use Rattle.laws.proofs.Lengths.{length-field}
 use Rattle.outgoing.proofs.Writing.{wrote-prefix, says-both, put-says, byte-says, field-says, number-says}
 use Rattle.slots.specs.Slots.{slotLength, mostInput, recordBytes}
 

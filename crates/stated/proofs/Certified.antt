@@ -1,15 +1,17 @@
 -- The block that a stored statement certifies, by its key and the place of its name. Assumes nothing.
 use Prim.Native.Nat.{ℕ, _+_, _-_, _*_, _^_, _<_, _≤_}
-use mathlib.Core.Path.{_≡_, refl, _∙_}
+use mathlib.Core.Path.{_≡_, refl, sym, _∙_}
 use mathlib.Core.Bool.{true, false}
 use mathlib.Core.List.{List}
 use native.Mathlib.Omega.{arith}
 use borrow.Author.Tests.{eq-eqb, ne-eqb}
 use Rattle.rules.specs.Limits.{small}
-use Rattle.rules.specs.Words.{Statement, ownBlock, certificate}
-use Rattle.rules.proofs.Tests.{by-bool}
+use Rattle.rules.specs.Lists.{any}
+use Rattle.rules.specs.Words.{Statement, Tally, Certificate, ownBlock, certificate, sameBlock, ofBlock}
+use Rattle.laws.proofs.Tests.{by-bool}
 use Rattle.fields.specs.Places.{Bytes, number}
 use Rattle.fields.proofs.Laws.{number-lt, number-split}
+use Rattle.fields.proofs.Differ.{digit-high, digit-low}
 use Rattle.words.specs.Meaning.{Certifies}
 use Rattle.store.specs.Layout.{statementTable, placeOf}
 use Rattle.store.specs.Decode.{statementAt, kindAt}
@@ -84,3 +86,13 @@ module _ (b : List ℕ) (bytes : Bytes b) (i : ℕ) where
 
     pub certified-later : 4_294_967_296 ≤ key → certificate x .view ≡ 0 → ⊥
     certified-later l z = omega (arith, e, low)
+
+-- two blocks with one key and one name are one block
+pub keyed-alike : (b : List ℕ) (ts : List Tally) (key at to : ℕ) (t u : Certificate) → Keyed b key at t → Keyed b key to u → number b at 32 ≡ number b to 32 → any (ofBlock t) ts ≡ any (ofBlock u) ts
+unfolding sameBlock
+keyed-alike b ts key at to t u h k e =
+    let q = sym (h .key-is) ∙ k .key-is in
+    let name : t .name ≡ u .name = sym (h .name-is) ∙ e ∙ k .name-is in
+    let view : t .view ≡ u .view = digit-high (256 ^ 4) (t .view) (u .view) (t .height) (u .height) (h .small) (k .small) q in
+    let height : t .height ≡ u .height = digit-low (256 ^ 4) (t .view) (u .view) (t .height) (u .height) (h .small) (k .small) q in
+    rw (view, height, name)

@@ -1,6 +1,6 @@
 -- Statements on chains: whether statement i is met again behind it. Assumes nothing.
 use Prim.Native.Nat.{ℕ, _+_, _-_, _<_, _≤_}
-use mathlib.Core.Path.{_≡_, refl, sym, _∙_}
+use mathlib.Core.Path.{_≡_, refl, sym, ap, _∙_}
 use mathlib.Core.Bool.{Bool, true, _&&_}
 use mathlib.Core.List.{List}
 use native.Mathlib.Omega.{arith}
@@ -10,12 +10,12 @@ use borrow.Author.Tests.{eqb-true}
 use Rattle.rules.specs.Limits.{small, mostStatementsLarge}
 use Rattle.rules.specs.Lists.{iff, any}
 use Rattle.rules.specs.Words.{Statement, sameStatement}
-use Rattle.rules.proofs.Tests.{and-left, and-right}
+use Rattle.laws.proofs.Tests.{and-left, and-right}
 use Rattle.fields.specs.Places.{Bytes, number}
 use Rattle.store.specs.Layout.{statementTable, placeOf}
 use Rattle.store.specs.Decode.{nth, rows, statementAt}
-use Rattle.chains.specs.Chains.{chains, Chained, behind, Walk}
-use Rattle.chains.proofs.Mixes.{name-stirs}
+use Rattle.chains.specs.Chains.{chains, stir, stirWords, chainOf, Chained, behind, Walk}
+use Rattle.chains.proofs.Mixes.{words-alike, words-first}
 use Rattle.chains.proofs.Walks.{chained-more, walk-start, walk-whole}
 use Rattle.chains.proofs.Apart.{any-same}
 use Rattle.tallied.proofs.Hanging.{key-is}
@@ -66,7 +66,8 @@ module _ (b : List ℕ) (bytes : Bytes b) (salt : ℕ) where
       let x = statementAt b i in
       let y = statementAt b k in
       let key : number b to 8 ≡ number b at 8 = key-is b to ∙ rw (← same-view x y t, ← same-height x y t) (sym (key-is b at)) in
-      rw (key, name-stirs b bytes (to + 8) (at + 8) (sym (same-name x y t)), name-stirs b bytes (to + 44) (at + 44) (sym (same-link x y t)))
+      let own : stirWords b salt to 5 ≡ stirWords b salt at 5 = words-first b salt to 4 ∙ rw (key, words-alike b bytes (to + 8) (at + 8) (stir salt (number b at 8)) 4 (sym (same-name x y t))) (sym (words-first b salt at 4)) in
+      ap chainOf (rw own (words-alike b bytes (to + 44) (at + 44) (stirWords b salt at 5) 4 (sym (same-link x y t))))
 
   -- statement i, with those behind it on their chains
   module _ (n i : ℕ) {heads nexts : List ℕ} (h : Chained (statementChain b salt) (i + 1) n heads nexts) (l : i < n) (c : ℕ) (q : c ≡ statementChain b salt i) (m : c < chains) where

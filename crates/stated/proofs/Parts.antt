@@ -1,30 +1,32 @@
 -- A statement as the code tests it, and its tallies. Assumes nothing.
-use Prim.Native.Nat.{ℕ, zero, suc, _-_}
-use mathlib.Core.Path.{_≡_, refl, ap}
-use mathlib.Core.Bool.{true, false, _&&_, and-true}
+use Prim.Native.Nat.{ℕ, zero, suc, _+_, _-_, _<_, _≤_}
+use mathlib.Core.Path.{_≡_, refl, sym, ap, _∙_}
+use mathlib.Core.Bool.{Bool, true, false, _&&_, and-true, and-false}
 use mathlib.Core.List.{List}
 use native.Mathlib.Omega.{arith}
-use lib.Dec.{leb}
-use borrow.Author.Tests.{lt-ltb, ne-eqb}
-use Rattle.rules.specs.Lists.{any}
-use Rattle.rules.specs.Messages.{allowed}
+use native.Mathlib.Nat.{add-zero}
+use lib.Dec.{leb, ltb, eqb}
+use borrow.Author.Tests.{lt-ltb, le-ltb, le-leb, lt-leb, eq-eqb, ne-eqb}
+use Rattle.rules.specs.Limits.{small, lastHeight}
+use Rattle.rules.specs.Lists.{iff, any}
+use Rattle.rules.specs.Sizes.{Settings, leader}
+use Rattle.rules.specs.Messages.{allowed, viewAllowed, blockAllowed, maskAllowed, certificateAllowed}
 use Rattle.rules.specs.Words as words
 use Rattle.rules.specs.Words.{message, ownBlock, certificate, ofBlock}
 use Rattle.rules.specs.WellFormed.{isName, statementGood, talliesThere}
-use Rattle.rules.proofs.Tests.{and-left}
+use Rattle.laws.proofs.Tests.{by-bool, and-left}
 use Rattle.fields.specs.Places.{Bytes, number}
-use Rattle.fields.proofs.Laws.{number-lt}
+use Rattle.fields.proofs.Laws.{number-lt, number-split}
 use Rattle.settings.specs.Made.{settingsOf}
-use Rattle.wire.specs.Meaning.{statementOf}
-use Rattle.wire.specs.declared.Statement.{Statement}
 use Rattle.words.specs.Meaning.{Certifies}
-use Rattle.words.proofs.Statements.{certifies-allowed, certifies-read}
-use Rattle.store.specs.Decode.{voteOf, statementAt, voteAt, stateFrom}
+use Rattle.words.proofs.Statements.{certifies-allowed}
+use Rattle.store.specs.Layout.{statementTable, placeOf}
+use Rattle.tallies.specs.Values.{voteOf}
+use Rattle.store.specs.Decode.{statementAt, kindAt, voteAt, stateFrom}
 use Rattle.store.specs.Meaning.{headerOf}
 use Rattle.store.specs.declared.Station.{Station}
-use Rattle.store.specs.declared.Tally.{Tally}
 use Rattle.heading.specs.Lent.{alone}
-use Rattle.stated.specs.Stated.{bare, voteInOrder}
+use Rattle.stated.specs.Stated.{voteInOrder, newViewSaid, proposeSaid}
 
 -- ---- a statement
 
@@ -41,26 +43,88 @@ stored-name : (b : List ℕ) → Bytes b → (at : ℕ) → isName (number b at 
 unfolding isName
 stored-name b bytes at = lt-ltb _ _ (number-lt b bytes at 32)
 
-module _ (b : List ℕ) (i : ℕ) (x : Statement) (e : statementOf x (statementAt b i .voted) ≡ statementAt b i) where
-  abbrev y : words.Statement
-  y = statementAt b i
+-- the link of a new-view is a view: below one, it is the number of its last four bytes
+pub new-view-said : (g : Settings) (b : List ℕ) → Bytes b → (at view height mask cert : ℕ) → view ≡ number b at 4 → height ≡ number b (at + 4) 4 → mask ≡ number b (at + 42) 2 → cert ≡ number b (at + 72) 4
+    → (eqb (number b (at + 44) 28) 0 && ltb cert view && certificateAllowed g height cert mask) ≡ newViewSaid g b at
+unfolding newViewSaid
+new-view-said g b bytes at view height mask cert v h m c = rw (v, h, m) (go (number b (at + 44) 28) refl)
+  where
+    go : (k : ℕ) → number b (at + 44) 28 ≡ k
+        → (eqb k 0 && ltb cert (number b at 4) && certificateAllowed g (number b (at + 4) 4) cert (number b (at + 42) 2))
+        ≡ (ltb (number b (at + 44) 32) (number b at 4) && certificateAllowed g (number b (at + 4) 4) (number b (at + 44) 32) (number b (at + 42) 2))
+    go zero e =
+        let w : at + 44 + 28 ≡ at + 72 = omega arith in
+        let low : number b (at + 44 + 28) 4 ≡ cert = rw w (sym c) in
+        let q : number b (at + 44) 32 ≡ cert = omega (arith, number-split b (at + 44) 28 4, e, low) in
+        rw q
+    go (suc k) e =
+        let f : ltb (number b (at + 44) 32) (number b at 4) ≡ false = le-ltb (number b (at + 44) 32) (number b at 4) (omega (arith, number-split b (at + 44) 28 4, e, number-lt b bytes at 4)) in
+        rw (f, ne-eqb (suc k) 0 (λ z. absurd (omega arith)))
 
-  -- the message is the same whatever the vote
-  said : message (bare x) ≡ message y
-  unfolding message statementOf
-  said = ap message e
+pub propose-said : (g : Settings) (b : List ℕ) (at height mask : ℕ) (bare : Bool) → height ≡ number b (at + 4) 4 → mask ≡ number b (at + 42) 2 → bare ≡ eqb (number b (at + 44) 32) 0 → 1 ≤ height
+    → (leb (height - 1) lastHeight && iff (eqb (height - 1) 0) bare && maskAllowed g mask) ≡ proposeSaid g b at
+unfolding proposeSaid blockAllowed
+propose-said g b at height mask bare h m z l = rw (← h, m, z, le-leb 1 height l)
 
-  pub statement-is : (s : Station) → Bytes b
-      → (allowed (settingsOf (s .settings)) (message (bare x)) && voteInOrder (s .clock) (voteOf (voteAt b i))) ≡ statementGood (alone s) y
-  unfolding statementGood voteInOrder statementAt voteAt stateFrom headerOf
-  statement-is s bytes = rw said (simp (stored-name b bytes, and-true))
+pub propose-low : (g : Settings) (b : List ℕ) (at height : ℕ) → height ≡ number b (at + 4) 4 → height < 1 → false ≡ proposeSaid g b at
+unfolding proposeSaid
+propose-low g b at height h l = rw (← h, lt-leb 1 height l)
 
-  pub certifies-bare : Certifies y → Certifies (bare x)
-  certifies-bare = certifies-read x y e
+-- tests in the order of the code and in that of the rules
+new-order : (a b l v p q : Bool) → (a && b && l && v && (p && q)) ≡ (a && b && p && q && l && true && true && v)
+new-order false b l v p q = refl
+new-order true false l v p q = refl
+new-order true true true true p q = sym (and-true _ ∙ and-true _ ∙ and-true _ ∙ and-true _)
+new-order true true true false p q = sym (and-false (p && q && true && true && true))
+new-order true true false v p q = sym (ap (λ (x : Bool). x && true && true && v) (and-false (p && q)))
 
-  pub there-bare : (ts : List words.Tally) → talliesThere ts (bare x) ≡ talliesThere ts y
-  unfolding talliesThere ownBlock certificate statementOf
-  there-bare ts = ap (talliesThere ts) e
+propose-order : (a b l v o p q : Bool) → (a && b && l && v && (o && p && q)) ≡ (a && o && b && p && q && l && true && true && v)
+propose-order false b l v o p q = refl
+propose-order true false l v o p q = sym (ap (λ (x : Bool). x && p && q && l && true && true && v) (and-false o))
+propose-order true true true true o p q = sym (and-true _ ∙ and-true _ ∙ and-true _ ∙ and-true _ ∙ ap (λ (x : Bool). x && p && q) (and-true o))
+propose-order true true true false o p q = sym (and-false (o && true && p && q && true && true && true))
+propose-order true true false v o p q = sym (ap (λ (x : Bool). x && true && true && v) (and-false (o && true && p && q)))
+
+-- by the numbers of its record
+module _ (b : List ℕ) (bytes : Bytes b) (i : ℕ) (s : Station) where
+  abbrev to : ℕ
+  to = placeOf statementTable small i
+
+  abbrev g : Settings
+  g = settingsOf (s .settings)
+
+  abbrev view : ℕ
+  view = number b to 4
+
+  abbrev height : ℕ
+  height = number b (to + 4) 4
+
+  abbrev link : ℕ
+  link = number b (to + 44) 32
+
+  abbrev mask : ℕ
+  mask = number b (to + 42) 2
+
+  abbrev block : Bool
+  block = leb height lastHeight && iff (eqb height 0) (eqb (number b (to + 8) 32) 0)
+
+  abbrev led : Bool
+  led = eqb (number b (to + 41) 1) (leader g view)
+
+  abbrev vote : Bool
+  vote = voteInOrder (s .clock) (voteOf (voteAt b i))
+
+  pub new-view-is : kindAt b i ≡ 1 → (viewAllowed g view && block && led && vote && newViewSaid g b to) ≡ statementGood (alone s) (statementAt b i)
+  unfolding statementGood message allowed blockAllowed newViewSaid voteInOrder statementAt voteAt kindAt stateFrom headerOf
+  new-view-is e =
+      rw (eq-eqb (number b (to + 40) 1) 1 e, stored-name b bytes (to + 8), stored-name b bytes (to + 44), add-zero to)
+      (new-order (viewAllowed g view) block led vote (ltb link view) (certificateAllowed g height link mask))
+
+  pub propose-is : (kindAt b i ≡ 1 → ⊥) → (viewAllowed g view && block && led && vote && proposeSaid g b to) ≡ statementGood (alone s) (statementAt b i)
+  unfolding statementGood message allowed blockAllowed proposeSaid voteInOrder statementAt voteAt kindAt stateFrom headerOf
+  propose-is d =
+      rw (ne-eqb (number b (to + 40) 1) 1 d, stored-name b bytes (to + 8), stored-name b bytes (to + 44), add-zero to)
+      (propose-order (viewAllowed g view) block led vote (leb 1 height) (blockAllowed (height - 1) link) (maskAllowed g mask))
 
 pub good-certifies : (s : words.State) (x : words.Statement) → statementGood s x ≡ true → Certifies x
 unfolding statementGood message
@@ -69,6 +133,10 @@ good-certifies s x e =
     certifies-allowed (s .settings) x (and-left said (isName (x .name)) (and-left (said && isName (x .name)) (isName (x .link)) (and-left (said && isName (x .name) && isName (x .link)) _ e)))
 
 -- ---- its tallies
+
+pub there-own : (ts : List words.Tally) (x : words.Statement) → talliesThere ts x ≡ true → any (ofBlock (ownBlock x 0)) ts ≡ true
+unfolding talliesThere
+there-own ts x e = and-left (any (ofBlock (ownBlock x 0)) ts) _ e
 
 module _ (ts : List words.Tally) (x : words.Statement) (u : words.Certificate) (r : u ≡ ownBlock x 0) where
   pub there-missing : any (ofBlock u) ts ≡ false → talliesThere ts x ≡ false

@@ -14,9 +14,7 @@ use store::STATEMENT_SIZE;
 use store::STATEMENTS;
 use wire::Statement;
 
-// Where a statement's name and link are.
-const NAME: usize = 8;
-
+// Where a statement's link is.
 const LINK: usize = 44;
 
 // Whether one of the last so many statements is the same as this one, on their chain.
@@ -72,10 +70,8 @@ fn repeated(
     ensures { λ r. ⌜ Met (now (store .entry)) salt count i r (now (heads .exit)) (now (nexts .exit)) ⌝ }
 {
     let at = STATEMENTS + STATEMENT_SIZE * i;
-    let key = fields::get(store, at, 8);
-    let block = chains::with_name(store, chains::stirred(salt, key), at + NAME);
-    let mix = chains::with_name(store, block, at + LINK);
-    let chain = chains::chain_of(mix);
+    let block = chains::with_words(store, salt, at, 5);
+    let chain = chains::chain_of(chains::with_words(store, block, at + LINK, 4));
     let left = heads[chain] as usize;
     if met(store, count, nexts, left, i) {
         return true;

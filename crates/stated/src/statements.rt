@@ -1,15 +1,35 @@
 // The statements of a store: each allowed for these settings, and voted for not after the clock.
 ghost use mathlib.Core.Path.{_≡_};
-ghost use Prim.Native.Nat.{_+_, _-_, _<_};
+ghost use Prim.Native.Nat.{_+_, _-_, _≤_, _<_};
 ghost use lib.ListN.{length};
 ghost use Rattle.rules.specs.Limits.{mostStatements};
 ghost use Rattle.rules.specs.Lists.{all};
 ghost use Rattle.rules.specs.WellFormed.{statementGood};
 ghost use Rattle.store.specs.Layout.{sizeIn, storeLength, statementTable};
-ghost use Rattle.store.specs.Decode.{voteOf, statementAt, statements};
+ghost use Rattle.tallies.specs.Values.{voteOf};
+ghost use Rattle.store.specs.Decode.{statementAt, statements};
 ghost use Rattle.heading.specs.Lent.{Counts, alone};
-ghost use Rattle.stated.specs.Stated.{voteInOrder};
+ghost use Rattle.settings.specs.Made.{settingsOf};
+ghost use Rattle.stated.specs.Stated.{voteInOrder, newViewSaid, proposeSaid};
+use allowed::clauses;
+use settings::Settings;
+use store::STATEMENT_SIZE;
+use store::STATEMENTS;
 use store::Station;
+use tallied::block;
+
+// Where a statement's height, name, author, mask and link are, and the last four bytes of the link.
+const HEIGHT: usize = 4;
+
+const NAME: usize = 8;
+
+const AUTHOR: usize = 41;
+
+const MASK: usize = 42;
+
+const LINK: usize = 44;
+
+const CERT: usize = 72;
 
 // Whether a vote, if there is one, was not after the clock.
 fn vote_in_order(vote: u32, clock: u32) -> bool
@@ -21,15 +41,52 @@ fn vote_in_order(vote: u32, clock: u32) -> bool
     vote - 1 <= clock
 }
 
-// Whether statement i is allowed, and was voted for, if ever, not after the clock.
+// Whether what a new-view says of its certificate is allowed: the certificate's view is its link, of which the last four bytes count.
+fn new_view_said(store: &[u8], settings: Settings, at: usize) -> bool
+    requires { ⌜ at + 80 ≤ length (now store) ⌝ }
+    ensures { λ r. ⌜ r ≡ newViewSaid (settingsOf settings) (now (store .entry)) at ⌝ }
+{
+    let view = fields::get(store, at, 4);
+    let height = fields::get(store, at + HEIGHT, 4);
+    let mask = fields::get(store, at + MASK, 2) as u16;
+    let cert = fields::get(store, at + CERT, 4);
+    let low = fields::all_zero(store, at + LINK, 28) & (cert < view);
+    low & clauses::certificate_allowed(settings, height, cert, mask)
+}
+
+// Whether what a propose says of its parent is allowed.
+fn propose_said(store: &[u8], settings: Settings, at: usize) -> bool
+    requires { ⌜ at + 80 ≤ length (now store) ⌝ }
+    ensures { λ r. ⌜ r ≡ proposeSaid (settingsOf settings) (now (store .entry)) at ⌝ }
+{
+    let height = fields::get(store, at + HEIGHT, 4);
+    if height < 1 {
+        return false;
+    }
+    let mask = fields::get(store, at + MASK, 2) as u16;
+    let below = height - 1;
+    let zero = fields::all_zero(store, at + LINK, 32);
+    let parent = (below <= Settings::LAST_HEIGHT) & ((below == 0) == zero);
+    parent & clauses::mask_allowed(settings, mask)
+}
+
+// Whether statement i is allowed, and was voted for, if ever, not after the clock: field by field where it lies.
 fn statement_good(store: &[u8], station: Station, i: usize) -> bool
     requires { ⌜ (length (now store) ≡ storeLength (sizeIn (now store))) × (i < mostStatements (sizeIn (now store))) ⌝ }
     ensures { λ r. ⌜ r ≡ statementGood (alone station) (statementAt (now (store .entry)) i) ⌝ }
 {
     let settings = station.settings;
-    let statement = store::statement_at(store, i);
+    let at = STATEMENTS + STATEMENT_SIZE * i;
+    let view = fields::get(store, at, 4);
+    let zero = fields::all_zero(store, at + NAME, 32);
+    let author = fields::get(store, at + AUTHOR, 1);
     let vote = store::voted_at(store, i);
-    allowed::statement_allowed(settings, statement) & vote_in_order(vote, station.clock)
+    let block = block::view_good(store, settings, at) & block::height_good(store, at, zero);
+    let sound = block & clauses::leads(settings, view, author) & vote_in_order(vote, station.clock);
+    if store::kind_at(store, i) == 1 {
+        return sound & new_view_said(store, settings, at);
+    }
+    sound & propose_said(store, settings, at)
 }
 
 // Whether every statement is good.

@@ -13,7 +13,7 @@ ghost use Rattle.store.specs.Decode.{statementAt, statements, tallies};
 ghost use Rattle.heading.specs.Lent.{Counts};
 ghost use Rattle.chains.specs.Chains.{Chained};
 ghost use Rattle.tallied.specs.Tallies.{tallyChain};
-ghost use Rattle.stated.specs.Stated.{AllCertify};
+ghost use Rattle.stated.specs.Stated.{AllCertify, OwnBefore, Follows};
 use chains::CHAINS;
 use settings::Settings;
 use store::STATEMENT_SIZE;
@@ -52,7 +52,19 @@ fn certified_at(store: &[u8], i: usize) -> usize
     at + LINK
 }
 
-// Whether statement i has its tallies.
+// Whether that block is the own block of the statement right before, as along a chain: its tally was found already.
+fn follows(store: &[u8], i: usize, key: u64, at: usize) -> bool
+    requires { ⌜ (length (now store) ≡ storeLength (sizeIn (now store))) × (i < mostStatements (sizeIn (now store))) × (at + 32 ≤ length (now store)) ⌝ }
+    ensures { λ r. ⌜ Follows (now (store .entry)) i key at r ⌝ }
+{
+    if i == 0 {
+        return false;
+    }
+    let before = STATEMENTS + STATEMENT_SIZE * (i - 1);
+    (key == fields::get(store, before, 8)) & fields::same(store, at, store, before + NAME, 32)
+}
+
+// Whether statement i has its tallies, where the own block of the one before has.
 fn there(
     store: &[u8],
     salt: u64,
@@ -61,12 +73,13 @@ fn there(
     nexts: &[u16; Settings::MOST_TALLIES_LARGE],
     i: usize,
 ) -> bool
-    requires { ⌜ Counts tallyTable (now store) count × Chained (tallyChain (now store) salt) 0 count (now heads) (now nexts) × (i < mostStatements (sizeIn (now store))) × Certifies (statementAt (now store) i) ⌝ }
+    requires { ⌜ Counts tallyTable (now store) count × Chained (tallyChain (now store) salt) 0 count (now heads) (now nexts) × (i < mostStatements (sizeIn (now store))) × Certifies (statementAt (now store) i) × OwnBefore (now store) i ⌝ }
     ensures { λ r. ⌜ r ≡ talliesThere (tallies (now (store .entry))) (statementAt (now (store .entry)) i) ⌝ }
 {
     let at = STATEMENTS + STATEMENT_SIZE * i;
     let own = fields::get(store, at, 8);
-    if !apart::has_tally(store, salt, count, heads, nexts, own, at + NAME) {
+    let mixed = chains::with_words(store, salt, at, 5);
+    if !apart::has_tally(store, mixed, count, heads, nexts, own, at + NAME) {
         return false;
     }
     let key = certified_key(store, i);
@@ -74,7 +87,11 @@ fn there(
         return true;
     }
     let named = certified_at(store, i);
-    apart::has_tally(store, salt, count, heads, nexts, key, named)
+    if follows(store, i, key, named) {
+        return true;
+    }
+    let sought = chains::with_words(store, chains::stirred(salt, key), named, 4);
+    apart::has_tally(store, sought, count, heads, nexts, key, named)
 }
 
 // Whether every statement has its tallies.

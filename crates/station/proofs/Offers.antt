@@ -11,7 +11,7 @@ use Rattle.rules.specs.Lists.{be}
 use Rattle.rules.specs.Words.{message, State}
 use Rattle.rules.specs.Inputs.{offered, statement}
 use Rattle.rules.specs.Refusals.{refused, ifRoom, running, offer}
-use Rattle.rules.proofs.Bounds.{out-least}
+use Rattle.laws.proofs.Bounds.{out-least}
 use Rattle.fields.specs.Places.{Bytes, number}
 use Rattle.kept.specs.Said.{Sendable}
 use Rattle.kept.proofs.Outs.{offer-room}

@@ -13,8 +13,8 @@ use Rattle.rules.specs.Messages as messages
 use Rattle.rules.specs.Messages.{viewOf, read, allowed}
 use Rattle.rules.specs.Words.{State}
 use Rattle.rules.specs.Refusals.{refused, running, ahead, heard, step}
-use Rattle.rules.proofs.Bytes as rules
-use Rattle.rules.proofs.Bounds.{out-least}
+use Rattle.laws.proofs.Bytes as rules
+use Rattle.laws.proofs.Bounds.{out-least}
 use Rattle.fields.specs.Places.{Bytes}
 use Rattle.settings.specs.Made.{settingsOf}
 use Rattle.kept.specs.Said.{Sendable}

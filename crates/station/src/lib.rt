@@ -3,6 +3,7 @@ ghost use mathlib.Core.Path.{_≡_};
 ghost use Rattle.fresh.specs.Fresh.{answer, freshly};
 ghost use Rattle.calls.specs.Calls.{stepCalled, offerCalled, tickCalled, Gives};
 use offers::Offer;
+use settings::Settings;
 use store::Station;
 use wire::Read;
 
@@ -59,9 +60,10 @@ pub extern "C" fn station_offer(store: &mut [u8], name: &[u8], out: &mut [u8]) -
 pub extern "C" fn station_tick(store: &mut [u8], out: &mut [u8]) -> u64
     ensures { λ r. ⌜ Gives (tickCalled (now (store .entry)) (now (out .entry))) r (now (store .exit)) (now (out .exit)) ⌝ }
 {
-    let number = refusals::barred(store, out);
+    let mut told = [0u16; Settings::MOST_STATEMENTS_LARGE];
+    let number = refusals::barred_told(store, out, &mut told);
     if number != 0 {
         return refusals::refuse(number);
     }
-    ticks::ticked(store, out)
+    ticks::ticked(store, out, &told)
 }

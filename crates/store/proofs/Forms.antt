@@ -10,8 +10,8 @@ use borrow.Author.Tests.{eqb-true, leb-true, eq-eqb, ne-eqb, le-leb}
 use Rattle.rules.specs.Limits.{Size, small, large, lastView, mostStatements, mostTallies, mostStatementsLarge, mostTalliesLarge}
 use Rattle.rules.specs.Lists.{all, within}
 use Rattle.rules.specs.Words.{Statement, Tally}
-use Rattle.rules.proofs.Bounds.{statements-most, tallies-most}
-use Rattle.rules.proofs.Tests.{and-left, and-right}
+use Rattle.laws.proofs.Bounds.{statements-most, tallies-most}
+use Rattle.laws.proofs.Tests.{and-left, and-right}
 use Rattle.fields.specs.Places.{Bytes}
 use Rattle.fields.specs.Records.{fields, Ordered}
 use Rattle.store.specs.Layout.{sizeOf, sizeIn, headerFormat, statementFormat, tallyFormat, Table, statementTable, tallyTable, logTable, blameBase, storeLength, countOf, placeOf}

@@ -4,16 +4,4 @@ pub mod Rows
 pub mod Kept
 pub mod Tables
 pub mod Forms
-pub mod Pieces
-pub mod Encoded
-pub mod ReadBack
-pub mod Decoded
-pub mod OneForm
-pub mod Writes
-pub mod Changes
 pub mod Searches
-pub mod OneByOne
-pub mod Joining
-pub mod Entered
-pub mod Sized
-pub mod Compose

@@ -2,16 +2,15 @@
 use Prim.Native.Nat.{ℕ, zero, suc, _+_, _-_, _<_, _≤_}
 use mathlib.Core.Path.{_≡_, refl, sym, ap, ap₂, _∙_}
 use mathlib.Core.Bool.{Bool, true}
-use mathlib.Core.List.{List, [], _∷_, _++_}
+use mathlib.Core.List.{[], _∷_, _++_}
 use native.Mathlib.Omega.{arith}
 use native.Mathlib.Nat.{add-zero, zero-add, add-suc, suc-add}
 use native.Mathlib.Numerals.{add-one}
 use lib.ListN.{length, getD, set}
 use native.Mathlib.Decide.{decLt}
 use Rattle.rules.specs.Lists.{all}
-use Rattle.rules.proofs.Tests.{and-left, and-right}
+use Rattle.laws.proofs.Tests.{and-left, and-right}
 use Rattle.store.specs.Decode.{rows}
-use Rattle.store.specs.Changes.{changeAt}
 
 module _ {A : Type 0} where
   pub rows-append : (f : ℕ → A) (i a b : ℕ) → rows f i (a + b) ≡ rows f i a ++ rows f (i + a) b
@@ -73,17 +72,3 @@ rows-all p f i (suc n) h k a b =
       | yes l ↦ rows-all p f (suc i) n (and-right (p (f i)) _ h) k l (omega arith)
       | no l ↦ (let e : i ≡ k = omega arith in ap (λ (j : ℕ). p (f j)) (sym e) ∙ and-left (p (f i)) _ h)
     ]
-
--- the record at a place, changed
-pub rows-change : {A : Type 0} (g : A → A) (f : ℕ → A) (i n j : ℕ) → j < n → changeAt g j (rows f i n) ≡ set (rows f i n) j (g (f (i + j)))
-unfolding rows changeAt
-rows-change g f i zero j l = absurd (omega arith)
-rows-change g f i (suc n) zero l = ap (λ (k : ℕ). g (f k) ∷ rows f (suc i) n) (sym (add-zero i))
-rows-change g f i (suc n) (suc j) l =
-    ap (f i ∷_) (rows-change g f (suc i) n j (omega arith) ∙ ap (λ (k : ℕ). set (rows f (suc i) n) j (g (f k))) (omega arith))
-
-pub change-none : {A : Type 0} (i : ℕ) (xs : List A) → changeAt (λ x. x) i xs ≡ xs
-unfolding changeAt
-change-none i [] = refl
-change-none zero (x ∷ xs) = refl
-change-none (suc i) (x ∷ xs) = ap (x ∷_) (change-none i xs)

@@ -2,17 +2,15 @@
 use Prim.Native.Nat.{ℕ, zero, suc, _+_, _-_, _*_, _^_, _<_, _≤_}
 use mathlib.Core.Path.{_≡_, refl, sym, ap, _∙_, subst}
 use mathlib.Core.Bool.{Bool, true, false, not, _&&_}
-use mathlib.Core.List.{List, [], _∷_, _++_}
+use mathlib.Core.List.{List}
 use mathlib.Core.Option.{none, some}
 use native.Mathlib.Omega.{arith}
 use native.Mathlib.Numerals.{add-one}
-use native.Mathlib.Nat.{add-zero, zero-add}
+use native.Mathlib.Nat.{add-zero}
 use lib.Dec.{eqb}
-use lib.ListN.{length}
 use borrow.Author.Tests.{not-true, not-false}
-use Rattle.rules.specs.Lists.{iff, first, any, alter}
-use Rattle.rules.specs.Words.{Statement, sameStatement, Certificate, Moment, Tally, certificateOf, opened, sameBlock, ofBlock, grown, join}
-use Rattle.rules.proofs.Tests.{eqb-self}
+use Rattle.rules.specs.Lists.{iff, first, any}
+use Rattle.rules.specs.Words.{Statement, sameStatement, Certificate, sameBlock, ofBlock}
 use Rattle.fields.specs.Places.{number, Bytes}
 use Rattle.fields.proofs.Laws.{number-lt, number-split}
 use Rattle.lookup.proofs.Pairs.{same-pair}
@@ -20,7 +18,7 @@ use Rattle.lookup.specs.Search.{seek, pick as lookup-pick, hasBlock}
 use Rattle.rules.specs.Limits.{small}
 use Rattle.store.specs.Layout.{tallySize, tallyTable, statementTable, sizeIn, placeOf}
 use Rattle.store.specs.Decode.{rows, tallyAt, tallyFor, statementAt}
-use Rattle.store.specs.Changes.{pick, firstFrom, changeAt}
+use Rattle.store.specs.Searches.{pick, firstFrom}
 use Rattle.store.specs.declared.Found.{Found}
 use Rattle.store.specs.declared.Found.the-variants.{At, Nothing}
 use Rattle.store.proofs.Rows.{rows-from}
@@ -101,68 +99,6 @@ module _ {A : Type 0} (p : A → Bool) where
 
     pub missing-first : r ≡ Nothing → first p (rows f 0 n) ≡ none
     missing-first q = subst (Tells f 0 n) q told .1
-
--- ---- the rules that search and change, by the place found
-
-module _ {A : Type 0} (p : A → Bool) (g : A → A) where
-  abbrev Alters : ℕ → List A → Found → Type 0
-  Alters i xs Nothing = alter p g xs ≡ xs
-  Alters i xs (At j) = (i ≤ j) × (alter p g xs ≡ changeAt g (j - i) xs)
-
-  alters : (i : ℕ) (xs : List A) → Alters i xs (firstFrom p i xs)
-  unfolding firstFrom alter changeAt
-  alters i [] = refl
-  alters i (x ∷ xs) = go (p x) (firstFrom p (suc i) xs) refl (alters (suc i) xs)
-    where
-      go : (b : Bool) (r : Found) → p x ≡ b → Alters (suc i) xs r → Alters i (x ∷ xs) (pick b (At i) r)
-      go true r e h = (omega arith, let z : i - i ≡ 0 = omega arith in rw (e, alter, z))
-      go false Nothing e h = rw (e, alter) (ap (x ∷_) h)
-      go false (At j) e h = (omega (arith, h .0), let z : j - i ≡ suc (j - suc i) = omega (arith, h .0) in rw (e, alter, z) (ap (x ∷_) (h .1)))
-
-  pub alter-found : (xs : List A) (j : ℕ) → firstFrom p 0 xs ≡ At j → alter p g xs ≡ changeAt g j xs
-  alter-found xs j q = let z : j - 0 ≡ j = omega arith in subst (Alters 0 xs) q (alters 0 xs) .1 ∙ ap (λ (k : ℕ). changeAt g k xs) z
-
-module _ (k : Moment) (t : Certificate) where
-  abbrev Joins : ℕ → List Tally → Found → Type 0
-  Joins i us Nothing = join k t us ≡ us ++ opened k t ∷ []
-  Joins i us (At j) = (i ≤ j) × (join k t us ≡ changeAt (λ u. grown k u (t .mask)) (j - i) us)
-
-  joins : (i : ℕ) (us : List Tally) → Joins i us (firstFrom (ofBlock t) i us)
-  unfolding firstFrom join changeAt
-  joins i [] = refl
-  joins i (u ∷ us) = go (ofBlock t u) (firstFrom (ofBlock t) (suc i) us) refl (joins (suc i) us)
-    where
-      go : (b : Bool) (r : Found) → ofBlock t u ≡ b → Joins (suc i) us r → Joins i (u ∷ us) (pick b (At i) r)
-      go true r e h = (omega arith, let z : i - i ≡ 0 = omega arith in rw (e, join, z))
-      go false Nothing e h = rw (e, join) (ap (u ∷_) h)
-      go false (At j) e h = (omega (arith, h .0), let z : j - i ≡ suc (j - suc i) = omega (arith, h .0) in rw (e, join, z) (ap (u ∷_) (h .1)))
-
-  pub join-found : (us : List Tally) (j : ℕ) → firstFrom (ofBlock t) 0 us ≡ At j → join k t us ≡ changeAt (λ u. grown k u (t .mask)) j us
-  join-found us j q = let z : j - 0 ≡ j = omega arith in subst (Joins 0 us) q (joins 0 us) .1 ∙ ap (λ (n : ℕ). changeAt (λ u. grown k u (t .mask)) n us) z
-
-  pub join-missing : (us : List Tally) → firstFrom (ofBlock t) 0 us ≡ Nothing → join k t us ≡ us ++ opened k t ∷ []
-  join-missing us q = subst (Joins 0 us) q (joins 0 us)
-
-  -- where a block's tally stands once it is joined: where it was found, or behind the others
-  abbrev Stays : ℕ → List Tally → Found → Type 0
-  Stays i us Nothing = firstFrom (ofBlock t) i (join k t us) ≡ At (i + length us)
-  Stays i us (At j) = firstFrom (ofBlock t) i (join k t us) ≡ At j
-
-  stays : (i : ℕ) (us : List Tally) → Stays i us (firstFrom (ofBlock t) i us)
-  unfolding firstFrom join sameBlock grown
-  stays i [] = rw (eqb-self (t .view), eqb-self (t .height), eqb-self (t .name)) (ap At (sym (add-zero i)))
-  stays i (u ∷ us) = go (ofBlock t u) (firstFrom (ofBlock t) (suc i) us) refl (stays (suc i) us)
-    where
-      go : (b : Bool) (r : Found) → ofBlock t u ≡ b → Stays (suc i) us r → Stays i (u ∷ us) (pick b (At i) r)
-      go true r e h = rw (e, join, e)
-      go false Nothing e h = rw (e, join, e) (h ∙ ap At (omega arith))
-      go false (At j) e h = rw (e, join, e) h
-
-  pub joined-found : (us : List Tally) (j : ℕ) → firstFrom (ofBlock t) 0 us ≡ At j → firstFrom (ofBlock t) 0 (join k t us) ≡ At j
-  joined-found us j q = subst (Stays 0 us) q (stays 0 us)
-
-  pub joined-missing : (us : List Tally) → firstFrom (ofBlock t) 0 us ≡ Nothing → firstFrom (ofBlock t) 0 (join k t us) ≡ At (length us)
-  joined-missing us q = subst (Stays 0 us) q (stays 0 us) ∙ ap At (zero-add (length us))
 
 -- ---- view and height as one number
 

@@ -1,21 +1,20 @@
 -- Each number of the store is one value's, and each value one number's. Assumes nothing.
 use Prim.Native.Nat.{ℕ, zero, suc, _+_, _-_, _≤_}
-use native.Mathlib.Numerals.{add-one}
-use mathlib.Core.Path.{_≡_, refl, sym, ap, _∙_}
+use mathlib.Core.Path.{_≡_, refl, sym, ap}
 use mathlib.Core.Bool.{Bool, true, false}
 use mathlib.Core.List.{List}
-use mathlib.Core.Option.{Option, none, some}
 use native.Mathlib.Omega.{arith}
 use lib.Dec.{leb, eqb}
-use borrow.Author.Tests.{leb-true, eqb-true, eqb-false, eq-eqb, ne-eqb}
+use borrow.Author.Tests.{leb-true}
 use Rattle.rules.specs.Lists.{within}
-use Rattle.rules.proofs.Tests.{by-bool, no-bool, and-right}
+use Rattle.laws.proofs.Tests.{no-bool, and-right}
 use Rattle.rules.specs.Limits.{Size}
-use Rattle.rules.specs.Sizes.{quorum}
 use Rattle.fields.specs.Places.{number}
 use Rattle.store.specs.Layout.{tallyTable, placeOf}
-use Rattle.rules.specs.Words.{Moment, reachedAt, isAuthor, Phase, inView, waiting, stopped, full, split, clock}
-use Rattle.store.specs.Decode.{phaseOf, phaseNumber, voteOf, voteNumber, openerOf, kindNumber, statementAt, tallyFor, openerFor, voteAt}
+use Rattle.rules.specs.Words.{isAuthor, Phase, inView, waiting, stopped, full, split, clock, Statement, Tally}
+use Rattle.store.specs.Decode.{phaseOf, phaseNumber, kindNumber, statementAt, tallyFor, openerFor, voteAt, statementFrom, statementValues, tallyFrom, tallyValues}
+use Rattle.tallies.specs.Values.{voteOf}
+use Rattle.tallies.proofs.Values.{number-vote, author-is}
 
 pub phase-waiting : (k : ℕ) → 4 ≤ k → waiting (k - 4) ≡ phaseOf k
 phase-waiting zero h = absurd (omega arith)
@@ -38,36 +37,6 @@ number-phase (stopped full) = refl
 number-phase (stopped split) = refl
 number-phase (stopped clock) = refl
 
-pub vote-number : (k : ℕ) → voteNumber (voteOf k) ≡ k
-vote-number zero = refl
-vote-number (suc c) = refl
-
-pub number-vote : (v : Option ℕ) → voteOf (voteNumber v) ≡ v
-number-vote none = refl
-number-vote (some c) = refl
-
--- the number of the clock that a tally keeps: it stays, or a quorum sets it, or there is none
-module _ (k : Moment) (m : ℕ) where
-  pub reached-stays : (n : ℕ) → (n ≡ 0 → ⊥) → voteOf n ≡ reachedAt k (voteOf n) m
-  unfolding reachedAt
-  reached-stays zero d = absurd (d refl)
-  reached-stays (suc c) d = refl
-
-  pub reached-set : (n : ℕ) → n ≡ 0 → quorum (k .settings) m ≡ true → voteOf (k .clock + 1) ≡ reachedAt k (voteOf n) m
-  unfolding reachedAt
-  reached-set n z q = rw (z, q, reachedAt, add-one)
-
-  pub reached-unset : (n : ℕ) → n ≡ 0 → quorum (k .settings) m ≡ false → none ≡ reachedAt k (voteOf n) m
-  unfolding reachedAt
-  reached-unset n z q = rw (z, q, reachedAt)
-
--- a tally's opener is an author where the record's number is one more
-pub author-is : (a m : ℕ) → isAuthor a (openerOf m) ≡ eqb (suc a) m
-unfolding isAuthor
-author-is a zero = sym (ne-eqb (suc a) 0 (λ e. omega arith))
-author-is a (suc c) =
-    by-bool (eqb a c) (λ q. q ∙ sym (eq-eqb (suc a) (suc c) (ap suc (eqb-true a c q)))) (λ q. q ∙ sym (ne-eqb (suc a) (suc c) (λ e. eqb-false a c q (omega arith))))
-
 pub opener-is : (z : Size) (b : List ℕ) (a i : ℕ) → isAuthor a (tallyFor z b i .opener) ≡ eqb (suc a) (openerFor z b i)
 unfolding tallyFor openerFor
 opener-is z b a i = author-is a (number b (placeOf tallyTable z i + 42) 1)
@@ -88,3 +57,19 @@ number-kind false = (refl, refl)
 pub voted-is : (b : List ℕ) (i : ℕ) → statementAt b i .voted ≡ voteOf (voteAt b i)
 unfolding statementAt voteAt
 voted-is b i = refl
+
+-- a record's numbers are read back as what they were written for
+pub tally-back : (t : Tally) → tallyFrom (tallyValues t) ≡ t
+tally-back t = λ i. record { view = t .view; height = t .height; name = t .name; mask = t .mask; opener = number-vote (t .opener) i; reached = number-vote (t .reached) i }
+
+pub statement-back : (x : Statement) → statementFrom (statementValues x) ≡ x
+statement-back x = λ i. record {
+  isNewView = number-kind (x .isNewView) .1 i;
+  view = x .view;
+  height = x .height;
+  name = x .name;
+  link = x .link;
+  mask = x .mask;
+  author = x .author;
+  voted = number-vote (x .voted) i;
+}

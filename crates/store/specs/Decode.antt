@@ -8,11 +8,12 @@ use lib.ListN.{length, getD, replicate, drop}
 use lib.Dec.{leb, eqb}
 use Rattle.rules.specs.Limits.{Size, small, lastView}
 use Rattle.rules.specs.Lists.{unbe, all, within}
-use Rattle.rules.specs.Words.{Statement, Certificate, Opener, Tally, Phase, inView, waiting, stopped, full, split, clock, State}
+use Rattle.rules.specs.Words.{Statement, Certificate, Tally, Phase, inView, waiting, stopped, full, split, clock, State}
 use Rattle.rules.specs.WellFormed.{wellFormed}
 use Rattle.fields.specs.Places.{number, Bytes}
 use Rattle.fields.specs.Records.{Format, fields}
 use Rattle.store.specs.Layout.{headerFormat, statementFormat, tallyFormat, maskFormat, nameFormat, Table, statementTable, tallyTable, blameBase, logTable, storeLength, sizeIn, countOf, placeOf, unused}
+use Rattle.tallies.specs.Values.{voteOf, voteNumber, openerOf, openerNumber, reachedFrom, reachedNumber}
 
 abbrev pub nth : List ℕ → ℕ → ℕ
 nth vs i = getD vs i 0
@@ -33,29 +34,6 @@ phaseNumber (stopped full) = 1
 phaseNumber (stopped split) = 2
 phaseNumber (stopped clock) = 3
 phaseNumber (waiting q) = suc (suc (suc (suc q)))
-
--- 0 not voted for; else one more than the clock of the vote
-abbrev pub voteOf : ℕ → Option ℕ
-voteOf zero = none
-voteOf (suc c) = some c
-
-abbrev pub voteNumber : Option ℕ → ℕ
-voteNumber none = 0
-voteNumber (some c) = suc c
-
--- 0 nobody opened the tally by a vote; else one more than the author who did
-abbrev pub openerOf : ℕ → Opener
-openerOf k = voteOf k
-
-abbrev pub openerNumber : Opener → ℕ
-openerNumber k = voteNumber k
-
--- 0 the tally had no quorum yet; else one more than the clock at which it first had one
-abbrev pub reachedFrom : ℕ → Option ℕ
-reachedFrom k = voteOf k
-
-abbrev pub reachedNumber : Option ℕ → ℕ
-reachedNumber r = voteNumber r
 
 -- the kind as on the wire: 1 new-view, 2 propose
 abbrev pub kindNumber : Bool → ℕ

@@ -1,4 +1,4 @@
 pub mod Layout
 pub mod Decode
 pub mod Meaning
-pub mod Changes
+pub mod Searches

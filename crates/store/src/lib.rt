@@ -1,27 +1,26 @@
 // The lent store: one byte slice whose exact length tells its limits, the bytes of a well-formed state in one way only.
 ghost use mathlib.Core.Path.{_≡_};
 ghost use Prim.Native.Nat.{_+_, _-_, _*_, _^_, _≤_, _<_};
-ghost use mathlib.Core.Bool.{_&&_};
 ghost use mathlib.Core.Option.{none};
 ghost use lib.ListN.{length};
 ghost use lib.Dec.{eqb};
-ghost use Rattle.rules.specs.Limits.{lastView, mostStatements, mostTallies, lastClock, leastOut, maskBits};
-ghost use Rattle.rules.specs.Sizes.{only};
-ghost use Rattle.rules.specs.Words.{sameStatement, reachedAt, certificateOf, opened, ofBlock, grown, join, joinCertificate, moment};
-ghost use Rattle.rules.specs.Inputs.{withPhase, withClock, entering, blamed};
+ghost use Rattle.rules.specs.Limits.{lastView, mostStatements, mostTallies, leastOut};
+ghost use Rattle.rules.specs.Words.{sameStatement, ofBlock};
 ghost use Rattle.fields.specs.Names.{nameOf};
-ghost use Rattle.fields.specs.Places.{number, put as written};
-ghost use Rattle.fields.specs.Records.{fields, puts};
-ghost use Rattle.settings.specs.Made.{sizeFrom, settingsOf};
+ghost use Rattle.fields.specs.Places.{number};
+ghost use Rattle.fields.specs.Records.{fields};
+ghost use Rattle.settings.specs.Made.{sizeFrom};
 ghost use Rattle.wire.specs.Meaning.{statementOf};
 ghost use Rattle.words.specs.Meaning.{blockOf};
-ghost use Rattle.store.specs.Layout.{headerFormat, statementFormat, certificateFormat, tallyFormat, headerSize, statementSize, certificateSize, tallySize, statementTable, tallyTable, logTable, blameBase, storeLength, sizeIn, countOf, placeOf};
-ghost use Rattle.store.specs.Decode.{phaseOf, phaseNumber, kindNumber, openerOf, reachedFrom, statementValues, certificateFrom, certificateValues, statementAt, tallyAt, openerAt, sinceAt, tallyValues, blameAt, nameAt, kindAt, voteAt, rows, statements, tallies, stateOf, headerValues, Form, Left};
-ghost use Rattle.store.specs.Meaning.{courseOf, tallyOf, momentOf, votersOf, authorOf, Numbered, headerOf, Loads};
-ghost use Rattle.store.specs.Changes.{firstFrom, blockAt, withVoters, growing, Voted, opening, joining, Joined, certifying, storing, noting, appending};
+ghost use Rattle.store.specs.Layout.{certificateFormat, headerSize, certificateSize, tallySize, tallyTable, logTable, blameBase, storeLength, sizeIn, placeOf};
+ghost use Rattle.store.specs.Decode.{phaseOf, certificateFrom, statementAt, tallyAt, openerAt, sinceAt, blameAt, nameAt, kindAt, voteAt, rows, statements, tallies, Form};
+ghost use Rattle.store.specs.Meaning.{courseOf, Loads};
+ghost use Rattle.tallies.specs.Meaning.{tallyOf};
+ghost use Rattle.store.specs.Searches.{firstFrom, blockAt};
 use fields::Name;
 use settings::Settings;
 use settings::Size;
+use tallies::Tally;
 use wire::Statement;
 use words::Certificate;
 
@@ -31,27 +30,27 @@ pub const LENGTH: usize = LOG + NAME_SIZE * Settings::MOST_STATEMENTS;
 pub const LENGTH_LARGE: usize = LOG_LARGE + NAME_SIZE * Settings::MOST_STATEMENTS_LARGE;
 
 // Where the header's numbers are; the lock is a certificate.
-const PHASE: usize = 0;
+pub const PHASE: usize = 0;
 
-const N: usize = 4;
+pub const N: usize = 4;
 
-const DELAY: usize = 5;
+pub const DELAY: usize = 5;
 
-const OWN: usize = 7;
+pub const OWN: usize = 7;
 
-const CURRENT: usize = 8;
+pub const CURRENT: usize = 8;
 
-const ENTRY: usize = 12;
+pub const ENTRY: usize = 12;
 
-const CLOCK: usize = 16;
+pub const CLOCK: usize = 16;
 
-const LOCK: usize = 20;
+pub const LOCK: usize = 20;
 
-const STATEMENT_COUNT: usize = 62;
+pub const STATEMENT_COUNT: usize = 62;
 
-const TALLY_COUNT: usize = 64;
+pub const TALLY_COUNT: usize = 64;
 
-const LOG_COUNT: usize = 66;
+pub const LOG_COUNT: usize = 66;
 
 // Where each table begins, and the size of its records.
 pub const STATEMENTS: usize = LOG_COUNT + 2;
@@ -77,27 +76,27 @@ const LOG_LARGE: usize = BLAMES_LARGE + BLAME_SIZE * (Settings::LAST_VIEW_LARGE 
 pub const NAME_SIZE: usize = 32;
 
 // Where the numbers of a record are: of a block, a tally's last, a statement's last.
-const VIEW: usize = 0;
+pub const VIEW: usize = 0;
 
-const HEIGHT: usize = 4;
+pub const HEIGHT: usize = 4;
 
-const NAME: usize = 8;
+pub const NAME: usize = 8;
 
-const VOTERS: usize = 40;
+pub const VOTERS: usize = 40;
 
-const OPENER: usize = 42;
+pub const OPENER: usize = 42;
 
-const REACHED: usize = 43;
+pub const REACHED: usize = 43;
 
-const KIND: usize = 40;
+pub const KIND: usize = 40;
 
-const AUTHOR: usize = 41;
+pub const AUTHOR: usize = 41;
 
-const MASK: usize = 42;
+pub const MASK: usize = 42;
 
-const LINK: usize = 44;
+pub const LINK: usize = 44;
 
-const VOTE: usize = 76;
+pub const VOTE: usize = 76;
 
 // Why a station stopped.
 pub enum Cause {
@@ -111,30 +110,6 @@ pub enum Phase {
     InView,
     Waiting(u32),
     Stopped(Cause),
-}
-
-// A record of the table of tallies: a block of a view, with the mask of its voters, who opened it (0 nobody, else one more than the
-// author of the vote that did), and when it first had a quorum (0 not yet, else one more than the clock).
-pub struct Tally {
-    pub view: u32,
-    pub height: u32,
-    pub name: Name,
-    pub mask: u16,
-    pub opener: u8,
-    pub reached: u32,
-}
-
-// What a joining is told: the settings, the clock, and who opens the tally if it is missing, as a record has it.
-pub struct Moment {
-    pub settings: Settings,
-    pub clock: u32,
-    pub opener: u8,
-}
-
-// Who joins a tally: the author of a vote, who opens it if it is missing, or a mask of several, which nobody does it for.
-pub enum Voters {
-    One(u64),
-    Mask(u16),
 }
 
 // What stands in the store's header: all of a station but its tables.
@@ -280,7 +255,7 @@ fn get_two(store: &[u8], at: usize) -> u16
 }
 
 // How many records a table has in use.
-fn get_count(store: &[u8], at: usize) -> usize
+pub fn get_count(store: &[u8], at: usize) -> usize
     requires { ⌜ at + 2 ≤ length (now store) ⌝ }
     ensures { λ r. ⌜ (r ≡ number (now (store .entry)) at 2) × (r < 256 ^ 2) ⌝ }
 {
@@ -416,113 +391,6 @@ pub fn name_at(store: &[u8], i: usize) -> Name
     fields::get_name(store, name_place(store, i))
 }
 
-// The phase's number.
-fn phase_number(phase: Phase) -> u64
-    ensures { λ r. ⌜ r ≡ phaseNumber (courseOf phase) ⌝ }
-{
-    match phase {
-        Phase::InView => 0,
-        Phase::Waiting(quit) => 4 + quit as u64,
-        Phase::Stopped(cause) => match cause {
-            Cause::Full => 1,
-            Cause::Split => 2,
-            Cause::Clock => 3,
-        },
-    }
-}
-
-impl Tally {
-    // A block's tally before anybody joins it, with who opens it.
-    pub fn empty(block: Certificate, moment: Moment) -> Tally
-        ensures { λ r. ⌜ tallyOf r ≡ opened (momentOf moment) (withVoters 0 (blockOf block)) ⌝ }
-    {
-        let name = block.name;
-        Tally {
-            view: block.view,
-            height: block.height,
-            name,
-            mask: 0,
-            opener: moment.opener,
-            reached: 0,
-        }
-    }
-
-    // What the tally certifies.
-    pub fn certificate(self) -> Certificate
-        ensures { λ r. ⌜ blockOf r ≡ certificateOf (tallyOf self) ⌝ }
-    {
-        let name = self.name;
-        Certificate {
-            view: self.view,
-            height: self.height,
-            name,
-            mask: self.mask,
-        }
-    }
-
-    // The tally with a voter's bit joined.
-    pub fn with_voter(self, moment: Moment, station: u64) -> Tally
-        requires { ⌜ (moment .clock ≤ lastClock) × (station < maskBits) ⌝ }
-        ensures { λ r. ⌜ tallyOf r ≡ grown (momentOf moment) (tallyOf self) (only station) ⌝ }
-    {
-        self.grown(moment, settings::only(station) as u16)
-    }
-
-    // The tally with a mask joined.
-    pub fn grown(self, moment: Moment, mask: u16) -> Tally
-        requires { ⌜ moment .clock ≤ lastClock ⌝ }
-        ensures { λ r. ⌜ tallyOf r ≡ grown (momentOf moment) (tallyOf self) mask ⌝ }
-    {
-        let voters = settings::joined(self.mask, mask);
-        let reached = moment.reached(self.reached, voters);
-        let mut tally = self;
-        tally.mask = voters;
-        tally.reached = reached;
-        tally
-    }
-
-    // The tally with whoever joins it.
-    pub fn joined(self, moment: Moment, voters: Voters) -> Tally
-        requires { ⌜ (moment .clock ≤ lastClock) × (Numbered voters) ⌝ }
-        ensures { λ r. ⌜ tallyOf r ≡ grown (momentOf moment) (tallyOf self) (votersOf voters) ⌝ }
-    {
-        match voters {
-            Voters::One(station) => self.with_voter(moment, station),
-            Voters::Mask(mask) => self.grown(moment, mask),
-        }
-    }
-}
-
-impl Moment {
-    // The clock that a tally has kept stays; one that has none keeps the present one once this mask is a quorum.
-    fn reached(self, kept: u32, mask: u16) -> u32
-        requires { ⌜ self .clock ≤ lastClock ⌝ }
-        ensures { λ r. ⌜ reachedFrom r ≡ reachedAt (momentOf self) (reachedFrom kept) mask ⌝ }
-    {
-        if kept != 0 {
-            return kept;
-        }
-        let settings = self.settings;
-        if settings.quorum(mask as u64) {
-            return self.clock + 1;
-        }
-        0
-    }
-}
-
-impl Voters {
-    // Who opens a tally by joining it: 0 nobody, else one more than the author of a vote.
-    pub fn opener(self) -> u8
-        requires { ⌜ Numbered self ⌝ }
-        ensures { λ r. ⌜ openerOf r ≡ authorOf self ⌝ }
-    {
-        match self {
-            Voters::One(author) => author as u8 + 1,
-            Voters::Mask(_) => 0,
-        }
-    }
-}
-
 // A block's view and height as one number of eight bytes.
 fn key_of(view: u32, height: u32) -> u64
     ensures { λ r. ⌜ r ≡ view * 256 ^ 4 + height ⌝ }
@@ -586,220 +454,6 @@ pub fn find_statement(store: &[u8], statement: Statement) -> Found
     }
 }
 
-// Writes a block's view, height and name to a record.
-fn put_block(store: &mut [u8], at: usize, view: u32, height: u32, name: Name)
-    requires { ⌜ at + 40 ≤ length (now store) ⌝ }
-    ensures { λ _. ⌜ now (store .exit) ≡ written (written (written (now (store .entry)) (at + 0) 4 view) (at + 4) 4 height) (at + 8) 32 (nameOf name) ⌝ }
-{
-    fields::put(store, at + VIEW, 4, view as u64);
-    fields::put(store, at + HEIGHT, 4, height as u64);
-    fields::put_name(store, at + NAME, name);
-}
-
-// Writes a certificate's numbers.
-fn put_certificate(store: &mut [u8], at: usize, certificate: Certificate)
-    requires { ⌜ at + certificateSize ≤ length (now store) ⌝ }
-    ensures { λ _. ⌜ now (store .exit) ≡ puts (now (store .entry)) at certificateFormat (certificateValues (blockOf certificate)) ⌝ }
-{
-    put_block(
-        store,
-        at,
-        certificate.view,
-        certificate.height,
-        certificate.name,
-    );
-    fields::put(store, at + VOTERS, 2, certificate.mask as u64);
-}
-
-// A kind's number, as on the wire.
-fn kind_number(is_new_view: bool) -> u64
-    ensures { λ r. ⌜ r ≡ kindNumber «is_new_view» ⌝ }
-{
-    if is_new_view { 1 } else { 2 }
-}
-
-// Writes a statement's record, not voted for.
-fn put_statement(store: &mut [u8], at: usize, statement: Statement)
-    requires { ⌜ at + statementSize ≤ length (now store) ⌝ }
-    ensures { λ _. ⌜ now (store .exit) ≡ puts (now (store .entry)) at statementFormat (statementValues (statementOf statement none)) ⌝ }
-{
-    let kind = kind_number(statement.is_new_view);
-    put_block(store, at, statement.view, statement.height, statement.name);
-    fields::put(store, at + KIND, 1, kind);
-    fields::put(store, at + AUTHOR, 1, statement.author as u64);
-    fields::put(store, at + MASK, 2, statement.mask as u64);
-    fields::put_name(store, at + LINK, statement.link);
-    fields::put(store, at + VOTE, 4, 0);
-}
-
-// A statement is stored behind the others.
-pub fn append_statement(store: &mut [u8], statement: Statement)
-    requires { ⌜ (Form (now store)) × (countOf statementTable (now store) < mostStatements (sizeIn (now store))) ⌝ }
-    ensures { λ _. ⌜ Left (now (store .exit)) (storing (statementOf statement none) (stateOf (now (store .entry)))) ⌝ }
-{
-    let count = get_count(store, STATEMENT_COUNT);
-    put_statement(store, STATEMENTS + STATEMENT_SIZE * count, statement);
-    fields::put(store, STATEMENT_COUNT, 2, (count + 1) as u64);
-}
-
-// The own vote for statement i notes the clock.
-pub fn note_vote(store: &mut [u8], i: usize, clock: u32)
-    requires { ⌜ (Form (now store)) × (i < countOf statementTable (now store)) × (clock ≤ lastClock) ⌝ }
-    ensures { λ _. ⌜ Left (now (store .exit)) (noting i clock (stateOf (now (store .entry)))) ⌝ }
-{
-    fields::put(
-        store,
-        STATEMENTS + STATEMENT_SIZE * i + VOTE,
-        4,
-        clock as u64 + 1,
-    );
-}
-
-// What the store's station tells a joining.
-fn moment_in(store: &[u8], voters: Voters) -> Moment
-    requires { ⌜ (Form (now store)) × (Numbered voters) ⌝ }
-    ensures { λ r. ⌜ momentOf r ≡ moment (authorOf voters) (stateOf (now (store .entry))) ⌝ }
-{
-    let opener = voters.opener();
-    let station = Station::load(store);
-    let settings = station.settings;
-    Moment {
-        settings,
-        clock: station.clock,
-        opener,
-    }
-}
-
-// Writes a tally's record.
-fn put_tally(store: &mut [u8], at: usize, tally: Tally)
-    requires { ⌜ at + tallySize ≤ length (now store) ⌝ }
-    ensures { λ _. ⌜ now (store .exit) ≡ puts (now (store .entry)) at tallyFormat (tallyValues (tallyOf tally)) ⌝ }
-{
-    put_certificate(store, at, tally.certificate());
-    fields::put(store, at + OPENER, 1, tally.opener as u64);
-    fields::put(store, at + REACHED, 4, tally.reached as u64);
-}
-
-// A tally is opened behind the others, at the place given back.
-pub fn open_tally(store: &mut [u8], tally: Tally) -> usize
-    requires { ⌜ (Form (now store)) × (countOf tallyTable (now store) < mostTallies (sizeIn (now store))) ⌝ }
-    ensures { λ r. ⌜ (r ≡ countOf tallyTable (now (store .entry))) × (Left (now (store .exit)) (opening (tallyOf tally) (stateOf (now (store .entry))))) ⌝ }
-{
-    let count = get_count(store, TALLY_COUNT);
-    put_tally(store, tally_place(store, count), tally);
-    fields::put(store, TALLY_COUNT, 2, (count + 1) as u64);
-    count
-}
-
-// Tally i has its new mask and clock.
-fn put_voters(store: &mut [u8], i: usize, mask: u16, reached: u32)
-    requires { ⌜ (Form (now store)) × (i < countOf tallyTable (now store)) ⌝ }
-    ensures { λ _. ⌜ Voted (now (store .entry)) i mask reached (now (store .exit)) ⌝ }
-{
-    let at = tally_place(store, i);
-    fields::put(store, at + VOTERS, 2, mask as u64);
-    fields::put(store, at + REACHED, 4, reached as u64);
-}
-
-// Whoever joins tally i.
-fn join_at(store: &mut [u8], i: usize, moment: Moment, voters: Voters)
-    requires { ⌜ (Form (now store)) × (i < countOf tallyTable (now store)) × (moment .clock ≤ lastClock) × (Numbered voters) ⌝ }
-    ensures { λ _. ⌜ Left (now (store .exit)) (growing (momentOf moment) i (votersOf voters) (stateOf (now (store .entry)))) ⌝ }
-{
-    let tally = tally_at(store, i).joined(moment, voters);
-    put_voters(store, i, tally.mask, tally.reached);
-}
-
-// Whoever joins the tally of a block, opened if missing, as a search found it; gives back where it now stands.
-pub fn join_found(store: &mut [u8], block: Certificate, place: Found, voters: Voters) -> usize
-    requires { ⌜ (Form (now store)) × (length (join (moment (authorOf voters) (stateOf (now store))) (withVoters (votersOf voters) (blockOf block)) (tallies (now store))) ≤ mostTallies (sizeIn (now store))) × (place ≡ blockAt (blockOf block) (tallies (now store))) × (stateOf (now store) .clock ≤ lastClock) × (Numbered voters) ⌝ }
-    ensures { λ r. ⌜ Joined (authorOf voters) (withVoters (votersOf voters) (blockOf block)) (stateOf (now (store .entry))) (now (store .exit)) r ⌝ }
-{
-    let moment = moment_in(store, voters);
-    match place {
-        Found::At(i) => {
-            join_at(store, i, moment, voters);
-            i
-        }
-        Found::Nothing => open_tally(store, Tally::empty(block, moment).joined(moment, voters)),
-    }
-}
-
-// A certificate's mask joins the tally of its block, with the search.
-fn join_tally(store: &mut [u8], certificate: Certificate)
-    requires { ⌜ (Form (now store)) × (length (join (moment none (stateOf (now store))) (blockOf certificate) (tallies (now store))) ≤ mostTallies (sizeIn (now store))) × (stateOf (now store) .clock ≤ lastClock) ⌝ }
-    ensures { λ _. ⌜ Left (now (store .exit)) (joining none (blockOf certificate) (stateOf (now (store .entry)))) ⌝ }
-{
-    let place = find_tally(store, certificate);
-    join_found(store, certificate, place, Voters::Mask(certificate.mask));
-}
-
-// The same, but that genesis has no tally in view 0.
-pub fn join_certificate(store: &mut [u8], certificate: Certificate)
-    requires { ⌜ (Form (now store)) × (length (joinCertificate (moment none (stateOf (now store))) (blockOf certificate) (tallies (now store))) ≤ mostTallies (sizeIn (now store))) × (stateOf (now store) .clock ≤ lastClock) ⌝ }
-    ensures { λ _. ⌜ Left (now (store .exit)) (certifying none (blockOf certificate) (stateOf (now (store .entry)))) ⌝ }
-{
-    if certificate.view != 0 {
-        join_tally(store, certificate);
-    }
-}
-
-// A mask joins the blame mask of a view.
-pub fn join_blame(store: &mut [u8], view: u32, mask: u16)
-    requires { ⌜ (Form (now store)) × (1 ≤ view) × (view ≤ lastView (sizeIn (now store))) ⌝ }
-    ensures { λ _. ⌜ Left (now (store .exit)) (blamed view mask (stateOf (now (store .entry)))) ⌝ }
-{
-    let i = view as usize - 1;
-    let joined = settings::joined(blame_at(store, i), mask);
-    fields::put(store, blame_place(store, i), 2, joined as u64);
-}
-
-// A name is logged above the others.
-pub fn append_name(store: &mut [u8], name: Name)
-    requires { ⌜ (Form (now store)) × (countOf logTable (now store) < mostStatements (sizeIn (now store))) ⌝ }
-    ensures { λ _. ⌜ Left (now (store .exit)) (appending (nameOf name) (stateOf (now (store .entry)))) ⌝ }
-{
-    let count = get_count(store, LOG_COUNT);
-    fields::put_name(store, name_place(store, count), name);
-    fields::put(store, LOG_COUNT, 2, (count + 1) as u64);
-}
-
-// The phase is set.
-pub fn set_phase(store: &mut [u8], phase: Phase)
-    requires { ⌜ (Form (now store)) × (phaseNumber (courseOf phase) < 256 ^ 4) ⌝ }
-    ensures { λ _. ⌜ Left (now (store .exit)) (withPhase (courseOf phase) (stateOf (now (store .entry)))) ⌝ }
-{
-    fields::put(store, PHASE, 4, phase_number(phase));
-}
-
-// The clock is set.
-pub fn set_clock(store: &mut [u8], clock: u32)
-    requires { ⌜ Form (now store) ⌝ }
-    ensures { λ _. ⌜ Left (now (store .exit)) (withClock clock (stateOf (now (store .entry)))) ⌝ }
-{
-    fields::put(store, CLOCK, 4, clock as u64);
-}
-
-// Writes the settings to the header.
-fn put_settings(store: &mut [u8], settings: Settings)
-    requires { ⌜ headerSize ≤ length (now store) ⌝ }
-    ensures { λ _. ⌜ now (store .exit) ≡ written (written (written (now (store .entry)) 4 1 (settings .n)) 5 2 (settings .delay)) 7 1 (settings .own) ⌝ }
-{
-    fields::put(store, N, 1, settings.n);
-    fields::put(store, DELAY, 2, settings.delay);
-    fields::put(store, OWN, 1, settings.own);
-}
-
-// Writes the counts to the header.
-fn put_counts(store: &mut [u8], statements: usize, tallies: usize, logged: usize)
-    requires { ⌜ headerSize ≤ length (now store) ⌝ }
-    ensures { λ _. ⌜ now (store .exit) ≡ written (written (written (now (store .entry)) 62 2 statements) 64 2 tallies) 66 2 logged ⌝ }
-{
-    fields::put(store, STATEMENT_COUNT, 2, statements as u64);
-    fields::put(store, TALLY_COUNT, 2, tallies as u64);
-    fields::put(store, LOG_COUNT, 2, logged as u64);
-}
-
 impl Station {
     // The station of the header's numbers.
     pub fn load(store: &[u8]) -> Station
@@ -835,39 +489,4 @@ impl Station {
             logged,
         }
     }
-    // Writes the header's numbers back.
-    pub fn save(self, store: &mut [u8])
-        requires { ⌜ headerSize ≤ length (now store) ⌝ }
-        ensures { λ _. ⌜ now (store .exit) ≡ puts (now (store .entry)) 0 headerFormat (headerOf self) ⌝ }
-    {
-        let phase = self.phase;
-        fields::put(store, PHASE, 4, phase_number(phase));
-        put_settings(store, self.settings);
-        fields::put(store, CURRENT, 4, self.view as u64);
-        fields::put(store, ENTRY, 4, self.entry as u64);
-        fields::put(store, CLOCK, 4, self.clock as u64);
-        put_certificate(store, LOCK, self.lock);
-        put_counts(store, self.statements, self.tallies, self.logged);
-    }
-}
-
-// A view is entered, with its lock.
-pub fn enter(store: &mut [u8], view: u32, lock: Certificate)
-    requires { ⌜ Form (now store) ⌝ }
-    ensures { λ _. ⌜ Left (now (store .exit)) (entering view (blockOf lock) (stateOf (now (store .entry)))) ⌝ }
-{
-    let old = Station::load(store);
-    let settings = old.settings;
-    let station = Station {
-        settings,
-        phase: Phase::InView,
-        view,
-        entry: old.clock,
-        clock: old.clock,
-        lock,
-        statements: old.statements,
-        tallies: old.tallies,
-        logged: old.logged,
-    };
-    station.save(store);
 }

@@ -15,7 +15,7 @@ use Rattle.rules.specs.Lists.{keep}
 use Rattle.rules.specs.Words.{Tally, openedBy}
 use Rattle.rules.specs.Limits.{mostOpened}
 use Rattle.rules.specs.WellFormed.{fewOpened}
-use Rattle.rules.proofs.Tests.{by-bool}
+use Rattle.laws.proofs.Tests.{by-bool}
 use Rattle.store.specs.Layout.{sizeIn, tallyTable, countOf, placeOf}
 use Rattle.store.specs.Decode.{rows, nth, tallyAt, openerAt, openerFor, tallies}
 use Rattle.fields.specs.Places.{Bytes}
@@ -52,26 +52,31 @@ times-author b a i (suc n) =
     by-bool (eqb (suc a) (openerAt b i)) (λ q. rw (q, keep, e ∙ q) (ap suc h)) (λ q. rw (q, keep, e ∙ q) h)
 
 -- a count is small
-pub counted-most : (b : List ℕ) (i n : ℕ) (counts : List ℕ) → Counted b i n counts → (k : ℕ) → k < 256 → nth counts k ≤ n
-counted-most b i n counts h k l =
-    let e = h k l in let m = times-most k (rows (openerAt b) i n) in let r = rows-length (openerAt b) i n in omega arith
+pub counted-most : (b : List ℕ) (i n : ℕ) (counts : List ℕ) → Counted b i n counts → (k : ℕ) → 0 < k → k < 256 → nth counts k ≤ n
+counted-most b i n counts h k z l =
+    let e = h k z l in let m = times-most k (rows (openerAt b) i n) in let r = rows-length (openerAt b) i n in omega arith
 
 -- none is counted where the count begins
 pub counted-start : (b : List ℕ) (i n : ℕ) → i ≡ n → Counted b i (n - i) (replicate 256 0)
 unfolding times keep rows
-counted-start b i n e k l = let z : n - i ≡ 0 = omega arith in rw z (getD-replicate 256 k 0 0 l)
+counted-start b i n e k s l = let z : n - i ≡ 0 = omega arith in rw z (getD-replicate 256 k 0 0 l)
 
 -- one tally more, below those from place i on
-pub counted-more : (b : List ℕ) (i n : ℕ) (counts : List ℕ) → 0 < i → i ≤ n → length counts ≡ 256 → (m : ℕ) → m < 256 → m ≡ openerAt b (i - 1) → Counted b i (n - i) counts
-    → Counted b (i - 1) (n - (i - 1)) (set counts m (nth counts m + 1))
-counted-more b i n counts z l long m f e h k g =
-    let q : i - 1 + 1 ≡ i = omega arith in
-    let r : rows (openerAt b) (i - 1) (n - (i - 1)) ≡ m ∷ rows (openerAt b) i (n - i) = rows-from (openerAt b) (i - 1) n (omega arith) ∙ rw (q, e) in
-    rw r
-    (elim (ℕ-discrete k m) [
-      | yes q ↦ rw q (getD-set-same counts m (nth counts m + 1) 0 (omega arith) ∙ ap (_+ 1) (h m f) ∙ sym (times-here m _))
-      | no q ↦ getD-set-other counts m k (nth counts m + 1) 0 q ∙ h k g ∙ sym (times-other k m _ q)
-    ])
+module _ (b : List ℕ) (i n : ℕ) (counts : List ℕ) (z : 0 < i) (l : i ≤ n) (m : ℕ) (e : m ≡ openerAt b (i - 1)) (h : Counted b i (n - i) counts) where
+  one-more : rows (openerAt b) (i - 1) (n - (i - 1)) ≡ m ∷ rows (openerAt b) i (n - i)
+  one-more = let q : i - 1 + 1 ≡ i = omega arith in rows-from (openerAt b) (i - 1) n (omega arith) ∙ rw (q, e)
+
+  pub counted-more : length counts ≡ 256 → 0 < m → m < 256 → Counted b (i - 1) (n - (i - 1)) (set counts m (nth counts m + 1))
+  counted-more long p f k s g =
+      rw one-more
+      (elim (ℕ-discrete k m) [
+        | yes q ↦ rw q (getD-set-same counts m (nth counts m + 1) 0 (omega arith) ∙ ap (_+ 1) (h m p f) ∙ sym (times-here m _))
+        | no q ↦ getD-set-other counts m k (nth counts m + 1) 0 q ∙ h k s g ∙ sym (times-other k m _ q)
+      ])
+
+  -- or none more, where no author opened it
+  pub counted-same : m ≤ 0 → Counted b (i - 1) (n - (i - 1)) counts
+  counted-same p k s g = rw one-more (h k s g ∙ sym (times-other k m _ (λ q. absurd (omega arith))))
 
 -- all are counted where it ends
 pub counted-whole : (b : List ℕ) (i n : ℕ) (counts : List ℕ) → i ≤ 0 → Counted b i (n - i) counts → Counted b 0 n counts
@@ -82,7 +87,7 @@ pub counted-author : (b : List ℕ) (n : ℕ) (counts : List ℕ) → Counted b 
 unfolding tallies
 counted-author b n counts h e a l =
     let q : a + 1 ≡ suc a = omega arith in
-    rw (q, ← e) (h (suc a) (omega arith) ∙ times-author b a 0 n)
+    rw (q, ← e) (h (suc a) (omega arith) (omega arith) ∙ times-author b a 0 n)
 
 -- the next author
 pub few-next : (ts : List Tally) (a v : ℕ) (few : Bool) → v ≡ openedBy a ts → few ≡ fewOpened a ts → (leb v mostOpened && few) ≡ fewOpened (a + 1) ts

@@ -1,14 +1,13 @@
 -- Tallies on chains: whether tally i is met again behind it. Assumes nothing.
-use Prim.Native.Nat.{ℕ, zero, suc, _+_, _-_, _*_, _^_, _<_, _≤_}
+use Prim.Native.Nat.{ℕ, _+_, _-_, _*_, _^_, _<_, _≤_}
 use mathlib.Core.Path.{_≡_, sym, ap, _∙_}
-use mathlib.Core.Bool.{Bool, true, false, and-false}
+use mathlib.Core.Bool.{Bool, true}
 use mathlib.Core.List.{List}
 use native.Mathlib.Omega.{arith}
 use native.Mathlib.Nat.{add-zero, sub-zero}
-use native.Mathlib.Numerals.{add-one}
 use lib.ListN.{set}
 use Rattle.rules.specs.Limits.{mostTalliesLarge}
-use Rattle.rules.specs.Lists.{all, any}
+use Rattle.rules.specs.Lists.{any}
 use Rattle.rules.specs.Words.{certificateOf, ofBlock}
 use Rattle.rules.specs.WellFormed.{sameTally}
 use Rattle.fields.specs.Places.{Bytes, number}
@@ -16,26 +15,12 @@ use Rattle.fields.proofs.Laws.{number-lt, number-split}
 use Rattle.lookup.specs.Search.{hasBlock}
 use Rattle.store.specs.Layout.{sizeIn, tallySize, tallyTable, placeOf, countOf}
 use Rattle.store.specs.Decode.{nth, rows, tallyAt, tallyFor, tallies}
-use Rattle.store.proofs.Rows.{rows-from}
 use Rattle.store.proofs.Searches.{block-found}
-use Rattle.heading.proofs.Walks.{all-here}
 use Rattle.chains.specs.Chains.{chains, blockChain, recordChain, Chained, behind, Walk, isOf}
-use Rattle.chains.proofs.Mixes.{block-alike}
+use Rattle.chains.proofs.Mixes.{block-alike, record-block}
 use Rattle.chains.proofs.Walks.{chained-more, walk-start, walk-whole}
 use Rattle.chains.proofs.Apart.{any-same}
 use Rattle.tallied.specs.Tallies.{tallyChain, Has}
-
--- a record that fails a test below spoils the whole
-all-below : {A : Type 0} (f : ℕ → A) (p : A → Bool) (i n : ℕ) → i ≤ n → all p (rows f i (n - i)) ≡ false → all p (rows f 0 n) ≡ false
-unfolding all
-all-below f p zero n l e = rw sub-zero at e
-all-below f p (suc i) n l e = all-below f p i n (omega arith) (ap (all p) (rows-from f i n (omega arith)) ∙ rw (add-one i, e) (and-false (p (f i))))
-
-pub all-not : {A : Type 0} (f : ℕ → A) (p : A → Bool) (i n m : ℕ) → n ≡ m → i < n → p (f i) ≡ false → all p (rows f 0 m) ≡ false
-all-not f p i n m e l t = rw (← e) (all-below f p i n (omega arith) (all-here f n p i l t))
-
-pub all-whole : {A : Type 0} (f : ℕ → A) (p : A → Bool) (i n m : ℕ) → n ≡ m → i ≤ 0 → all p (rows f i (n - i)) ≡ true → all p (rows f 0 m) ≡ true
-all-whole f p i n m e l t = let z : i ≡ 0 = omega arith in rw (z, sub-zero, e) at t
 
 -- view and height are the first eight bytes
 pub key-is : (b : List ℕ) (to : ℕ) → number b to 8 ≡ number b (to + 0) 4 * 256 ^ 4 + number b (to + 4) 4
@@ -53,13 +38,14 @@ module _ (b : List ℕ) (bytes : Bytes b) (base : ℕ) (e : base ≡ (tallyTable
 
   -- tally i, with those behind it on their chains
   module _ (salt n i key : ℕ) (d : key ≡ number b (base + tallySize * i) 8) {heads nexts : List ℕ} (h : Chained (tallyChain b salt) (i + 1) n heads nexts) (l : i < n)
-      (c : ℕ) (q : c ≡ blockChain b salt key (base + tallySize * i + 8)) (m : c < chains) where
+      (c : ℕ) (q : c ≡ recordChain b salt base tallySize i) (m : c < chains) where
     abbrev test : ℕ → Bool
     test = isOf b base tallySize key (base + tallySize * i + 8)
 
     alike : (k : ℕ) → test k ≡ true → tallyChain b salt k ≡ c
     alike k t =
-        ap (λ (x : ℕ). recordChain b salt x tallySize k) (sym e) ∙ block-alike b bytes salt base tallySize key (base + tallySize * i + 8) k t ∙ sym q
+        ap (λ (x : ℕ). recordChain b salt x tallySize k) (sym e) ∙ block-alike b bytes salt base tallySize key (base + tallySize * i + 8) k t
+        ∙ sym (record-block b salt base tallySize key i d) ∙ sym q
 
     pub met-start : Walk test n (nth heads c) nexts
     met-start = walk-start (tallyChain b salt) h (omega arith) test c m alike
@@ -71,7 +57,7 @@ module _ (b : List ℕ) (bytes : Bytes b) (base : ℕ) (e : base ≡ (tallyTable
 
     pub met-hangs : n ≤ mostTalliesLarge → Chained (tallyChain b salt) i n (set heads c (n - i)) (set nexts i (nth heads c))
     met-hangs few =
-        chained-more (tallyChain b salt) i n heads nexts l h c (q ∙ ap (λ (k : ℕ). blockChain b salt k (base + tallySize * i + 8)) d ∙ ap (λ (x : ℕ). recordChain b salt x tallySize i) e) m (omega arith)
+        chained-more (tallyChain b salt) i n heads nexts l h c (q ∙ ap (λ (x : ℕ). recordChain b salt x tallySize i) e) m (omega arith)
 
   -- once all hang, whether one is of a block
   module _ (salt n : ℕ) (k : n ≡ countOf tallyTable b) (key at : ℕ) {heads nexts : List ℕ} (h : Chained (tallyChain b salt) 0 n heads nexts)

@@ -12,16 +12,16 @@ use Rattle.rules.specs.WellFormed.{tallyGood, sameTally}
 use Rattle.fields.specs.Places.{number}
 use Rattle.store.specs.Layout.{sizeIn, tallyTable}
 use Rattle.store.specs.Decode.{nth, rows, openerAt, tallyAt, tallies}
-use Rattle.chains.specs.Chains.{recordChain, Chained}
+use Rattle.chains.specs.Chains.{stir, stirWords, recordChain, Chained}
 
 -- how often a number is among some
 unfoldable pub times : ℕ → List ℕ → ℕ
 unfolding keep
 times k ms = length (keep (eqb k) ms)
 
--- of n tallies from tally i on, how many have which opener's number
+-- of n tallies from tally i on, how many have which author's number
 abbrev pub Counted : List ℕ → ℕ → ℕ → List ℕ → Type 0
-Counted b i n counts = (k : ℕ) → k < 256 → nth counts k ≡ times k (rows (openerAt b) i n)
+Counted b i n counts = (k : ℕ) → 0 < k → k < 256 → nth counts k ≡ times k (rows (openerAt b) i n)
 
 -- tallies hang by their block
 abbrev pub tallyChain : List ℕ → ℕ → ℕ → ℕ
@@ -42,6 +42,12 @@ pub record Keyed (b : List ℕ) (key at : ℕ) (t : Certificate) : Type 0 where
   pub key-is : key ≡ t .view * 256 ^ 4 + t .height
   pub name-is : number b at 32 ≡ t .name
   pub small : t .height < 256 ^ 4
+
+-- what the salt is when it is stirred with that block, where all n tallies hang by the same salt
+pub record Sought (b : List ℕ) (n mixed key at : ℕ) (heads nexts : List ℕ) : Type 0 where
+  pub salt : ℕ
+  pub hang : Chained (tallyChain b salt) 0 n heads nexts
+  pub mixes : mixed ≡ stirWords b (stir salt key) at 4
 
 -- the answer whether a tally is of that block
 abbrev pub Has : List ℕ → ℕ → ℕ → Bool → Type 0

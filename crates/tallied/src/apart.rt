@@ -6,8 +6,8 @@ ghost use Rattle.settings.specs.Made.{settingsOf};
 ghost use Rattle.store.specs.Layout.{tallyTable};
 ghost use Rattle.heading.specs.Lent.{Counts};
 ghost use Rattle.chains.specs.Chains.{Bare, Chained};
-ghost use Rattle.tallied.specs.Tallies.{tallyChain, Met, Apart, Has};
-use super::tallies;
+ghost use Rattle.tallied.specs.Tallies.{tallyChain, Met, Apart, Sought, Has};
+use super::good;
 use chains::CHAINS;
 use settings::Settings;
 use store::TALLY_SIZE;
@@ -30,10 +30,18 @@ fn repeated(
     let base = store::tallies_in(store);
     let at = base + TALLY_SIZE * i;
     let key = fields::get(store, at, 8);
-    let mix = chains::with_name(store, chains::stirred(salt, key), at + NAME);
-    let chain = chains::chain_of(mix);
-    let left = heads[chain] as usize;
-    if chains::has_block(store, base, TALLY_SIZE, count, nexts, left, key, at + NAME) {
+    let chain = chains::chain_of(chains::with_words(store, salt, at, 5));
+    if chains::has_block(
+        store,
+        base,
+        TALLY_SIZE,
+        count,
+        heads,
+        nexts,
+        chain,
+        key,
+        at + NAME,
+    ) {
         return true;
     }
     chains::hang(heads, nexts, chain, i, count - i);
@@ -53,12 +61,12 @@ pub fn good_and_apart(
     requires { ⌜ Counts tallyTable (now store) count × (settings .n ≤ mostStations) × Bare (now heads) (now nexts) ⌝ }
     ensures { λ r. ⌜ Apart (settingsOf settings) clock (now (store .entry)) salt count r (now (heads .exit)) (now (nexts .exit)) ⌝ }
 {
+    if !good::all_good(store, settings, clock, count) {
+        return false;
+    }
     let mut i = count;
     while 0 < i {
         i -= 1;
-        if !tallies::tally_good(store, settings, clock, i) {
-            return false;
-        }
         if repeated(store, salt, count, heads, nexts, i) {
             return false;
         }
@@ -66,22 +74,21 @@ pub fn good_and_apart(
     true
 }
 
-// Whether a tally is of the block with this view and height whose name is at a place, once all tallies hang.
+// Whether a tally is of the block with this view and height whose name is at a place, once all tallies hang: mixed is what
+// the salt is when it is stirred with the block.
 pub fn has_tally(
     store: &[u8],
-    salt: u64,
+    mixed: u64,
     count: usize,
     heads: &[u16; CHAINS],
     nexts: &[u16; Settings::MOST_TALLIES_LARGE],
     key: u64,
     at: usize,
 ) -> bool
-    requires { ⌜ Counts tallyTable (now store) count × Chained (tallyChain (now store) salt) 0 count (now heads) (now nexts) × (at + 32 ≤ length (now store)) ⌝ }
+    requires { ⌜ Counts tallyTable (now store) count × Sought (now store) count mixed key at (now heads) (now nexts) × (at + 32 ≤ length (now store)) ⌝ }
     ensures { λ r. ⌜ Has (now (store .entry)) key at r ⌝ }
 {
     let base = store::tallies_in(store);
-    let mix = chains::with_name(store, chains::stirred(salt, key), at);
-    let chain = chains::chain_of(mix);
-    let left = heads[chain] as usize;
-    chains::has_block(store, base, TALLY_SIZE, count, nexts, left, key, at)
+    let chain = chains::chain_of(mixed);
+    chains::has_block(store, base, TALLY_SIZE, count, heads, nexts, chain, key, at)
 }

@@ -9,7 +9,8 @@ ghost use Rattle.heading.specs.Lent.{Counts};
 ghost use Rattle.tallied.specs.Tallies.{Counted};
 use settings::Settings;
 
-// How many tallies have which opener's number, all counted in one pass.
+// How many tallies have which opener's number, all counted in one pass. Tallies that no author opened, as most are, aren't counted:
+// a count that each step reads back would make the steps wait for one another.
 fn counts_of(store: &[u8], count: usize) -> [u16; 256]
     requires { ⌜ Counts tallyTable (now store) count ⌝ }
     ensures { λ r. ⌜ Counted (now (store .entry)) 0 count r ⌝ }
@@ -19,7 +20,9 @@ fn counts_of(store: &[u8], count: usize) -> [u16; 256]
     while 0 < i {
         i -= 1;
         let opener = store::opener_at(store, i) as usize;
-        counts[opener] = counts[opener] + 1;
+        if 0 < opener {
+            counts[opener] = counts[opener] + 1;
+        }
     }
     counts
 }

@@ -13,8 +13,8 @@ use lib.Dec.{leb, ltb, eqb}
 use borrow.Author.Tests.{lt-ltb, le-ltb, le-leb, lt-leb, leb-true, leb-false, ltb-true, ltb-false}
 use Rattle.rules.specs.Lists.{within, all}
 use Rattle.rules.specs.Sizes.{only, joined}
-use Rattle.rules.proofs.Masks.{joined-lt}
-use Rattle.rules.proofs.Tests.{by-bool, by-option, and-left, and-right, no-some}
+use Rattle.laws.proofs.Masks.{joined-lt}
+use Rattle.laws.proofs.Tests.{by-bool, by-option, and-left, and-right, no-some}
 use Rattle.outgoing.specs.Wrote.{wrote}
 use Rattle.fields.specs.declared.Name.{Name}
 use Rattle.fields.specs.Names.{nameOf}

@@ -11,7 +11,7 @@ use lib.Dec.{eqb}
 use borrow.Author.Tests.{ne-eqb, eq-eqb}
 use Rattle.rules.specs.Lists.{all}
 use Rattle.rules.specs.Script.{sameList}
-use Rattle.rules.proofs.Tests.{by-bool, and-right, no-bool}
+use Rattle.laws.proofs.Tests.{by-bool, and-right, no-bool}
 use Rattle.text.specs.Words.{front, behind, word, rest, noWord, passes}
 use Rattle.text.specs.Places.{Runs, WordOf, Lists, placed}
 use Rattle.text.specs.declared.Over.{Over}

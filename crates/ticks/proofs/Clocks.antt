@@ -7,7 +7,7 @@ use lib.Dec.{eqb}
 use lib.ListN.{length}
 use Rattle.rules.specs.Sizes.{joined}
 use Rattle.rules.specs.Words.{Certificate, Tally, Moment, certificateOf, ofBlock, sameBlock, grown, join, joinCertificate}
-use Rattle.rules.proofs.Tests.{by-bool}
+use Rattle.laws.proofs.Tests.{by-bool}
 
 -- tallies of the same blocks with the same voters
 abbrev Alike : List Tally → List Tally → Type 0

@@ -14,10 +14,10 @@ use Rattle.rules.specs.Lists.{any}
 use Rattle.rules.specs.Sizes.{Settings}
 use Rattle.rules.specs.Words as words
 use Rattle.rules.specs.Words.{Statement, sameStatement, message, ownBlock, certificate, State, moment, clock, split}
-use Rattle.rules.specs.Inputs.{Work, saying, _▸_, withClock, withTables, withLog, isIn, certificateJoined, stored, statement, leads, due, commits, logging, complain, leadsNow, ownNewView, lead, enter, ticked}
+use Rattle.rules.specs.Inputs.{Work, saying, _▸_, withClock, withTables, withLog, isIn, certificateJoined, stored, statement, leads, due, commits, logging, votes, complain, leadsNow, ownNewView, lead, enter, ticked}
 use Rattle.rules.specs.Refusals.{refused, stopping, hasRoom, ifRoom, running, tick}
 use Rattle.rules.specs.WellFormed.{linked}
-use Rattle.rules.proofs.Tests.{by-bool}
+use Rattle.laws.proofs.Tests.{by-bool}
 use Rattle.wire.specs.Meaning.{statementOf}
 use Rattle.wire.specs.declared.Statement as code
 use Rattle.store.specs.Layout.{sizeIn}
@@ -27,7 +27,7 @@ use Rattle.store.specs.declared.Station.{Station}
 use Rattle.store.proofs.Loaded.{loaded-settings, loaded-entry, loaded-clock}
 use Rattle.kept.specs.Parts as kept
 use Rattle.kept.proofs.Facts.{clocks-of}
-use Rattle.rules.proofs.Lengths.{bytes, reports-bytes}
+use Rattle.laws.proofs.Lengths.{bytes, reports-bytes}
 use Rattle.kept.proofs.Logs.{linked-length, proposes-length, commits-linked}
 use Rattle.kept.proofs.Phases.{clock-formed}
 use Rattle.kept.proofs.Reports.{due-stored}
@@ -218,6 +218,10 @@ module _ {b t : List ℕ} {n : ℕ} (k : Formed b) (h : stateOf b .clock < lastC
 
       pub logged-room : hasRoom (lead (later S) .now) ≡ true → hasRoom (lead (stateOf b₂) .now) ≡ true
       logged-room q = ap (λ (s : State). hasRoom (lead s .now)) (logged .left .is) ∙ lead-logged L (later S) ∙ q
+
+      pub logged-votes : {m : ℕ} → m ≡ votes S → m ≡ votes (stateOf b₂)
+      unfolding logging saying withLog later withClock votes
+      logged-votes q = q ∙ sym (ap votes (logged .left .is))
 
       logged-size : sizeIn b₂ ≡ sizeIn b
       unfolding logging saying later withClock withLog stateOf stateFrom

@@ -1,16 +1,19 @@
 -- A tick's work once its new log is known, and what is needed to do it. Assumes nothing.
 use Prim.Native.Nat.{ℕ, _+_, _≤_, _<_}
 use mathlib.Core.Path.{_≡_}
-use mathlib.Core.Bool.{true}
+use mathlib.Core.Bool.{Bool, true, false}
 use mathlib.Core.List.{List}
+use mathlib.Core.Option.{some}
 use lib.ListN.{length}
 use Rattle.rules.specs.Limits.{lastClock, leastOut, mostStatementsLarge}
 use Rattle.rules.specs.Words.{State}
-use Rattle.rules.specs.Inputs.{Work, _▸_, withClock, logging, complain, lead, enter}
-use Rattle.rules.specs.Refusals.{hasRoom}
+use Rattle.rules.specs.Inputs.{Work, _▸_, withClock, logging, overdue, complain, leadsNow, lead, entersNow, enter}
+use Rattle.rules.specs.Refusals.{hasRoom, running}
 use Rattle.store.specs.Layout.{sizeIn}
-use Rattle.store.specs.Decode.{stateOf}
-use Rattle.commit.specs.Outcome.{Gained}
+use Rattle.store.specs.Decode.{names, stateOf}
+use Rattle.store.specs.Meaning.{Loads}
+use Rattle.store.specs.declared.Station.{Station}
+use Rattle.commit.specs.Outcome.{tickLog, Gained}
 use Rattle.acts.specs.Works.{Formed}
 
 -- "clock plus 1"
@@ -37,3 +40,22 @@ pub record Clear (b t : List ℕ) (clock n room : ℕ) : Type 0 where
   pub long : length t ≡ mostStatementsLarge
   pub fits : hasRoom (lead (later (stateOf b)) .now) ≡ true
   pub space : leastOut (sizeIn b) ≤ room
+
+-- a running station whose clock is not the last, and an out buffer for what it says
+pub record Running (b : List ℕ) (s : Station) (room : ℕ) : Type 0 where
+  pub formed : Formed b
+  pub runs : running (stateOf b) ≡ true
+  pub loaded : Loads s b
+  pub ahead : s .clock ≡ lastClock → ⊥
+  pub space : leastOut (sizeIn b) ≤ room
+
+-- nothing is due at the next clock
+pub record Idle (b : List ℕ) : Type 0 where
+  pub log : tickLog b ≡ some (names b)
+  pub calm : overdue (later (stateOf b)) ≡ false
+  pub led : leadsNow (later (stateOf b)) ≡ false
+  pub stays : entersNow (later (stateOf b)) ≡ false
+
+abbrev pub Quiet : List ℕ → Bool → Type 0
+Quiet b true = Idle b
+Quiet b false = Unit {0}

@@ -11,7 +11,7 @@ use Rattle.rules.specs.Limits.{mostStatements}
 use Rattle.rules.specs.Messages.{Message, toAll, blameSet}
 use Rattle.rules.specs.Words.{Statement, message, State}
 use Rattle.rules.specs.Inputs.{saying, _▸_, quit, blamesOf, blameFull, entersNow, nextLock, entering, entered, current, pair, inOrder, votingAll, arrive, enter}
-use Rattle.rules.proofs.Kept.{enters-at}
+use Rattle.laws.proofs.Kept.{enters-at}
 use Rattle.wire.specs.Meaning.{statementOf, Linked}
 use Rattle.wire.specs.declared.Statement as code
 use Rattle.store.specs.Layout.{statementTable, sizeIn, countOf}

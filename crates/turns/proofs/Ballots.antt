@@ -12,7 +12,7 @@ use Rattle.rules.specs.Sizes.{Settings}
 use Rattle.rules.specs.Messages.{outgoing}
 use Rattle.rules.specs.Words.{Statement, message, sameStatement, ownBlock, certificate, State}
 use Rattle.rules.specs.Inputs.{Work, saying, _▸_, withTables, belowLock, noted, votedFor, ballot, voting, votingAll}
-use Rattle.rules.proofs.Tests.{by-bool}
+use Rattle.laws.proofs.Tests.{by-bool}
 use Rattle.wire.specs.Meaning.{statementOf}
 use Rattle.wire.specs.declared.Statement as code
 use Rattle.outgoing.proofs.Writing.{says-length}
@@ -21,7 +21,7 @@ use Rattle.store.specs.Decode.{rows, statementAt, statements, stateFrom, stateO
 use Rattle.store.proofs.Rows.{rows-length, rows-at, rows-from}
 use Rattle.search.specs.Orders.{standing, placeAt}
 use Rattle.kept.proofs.Keeps.{voting-keeps}
-use Rattle.rules.proofs.Lengths.{bytes-none}
+use Rattle.laws.proofs.Lengths.{bytes-none}
 use Rattle.acts.specs.Answers.{Stands}
 use Rattle.acts.specs.Works.{Formed, Works}
 use Rattle.acts.proofs.Places.{place-sendable}

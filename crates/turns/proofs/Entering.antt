@@ -10,8 +10,8 @@ use Rattle.rules.specs.Sizes.{Settings, leader}
 use Rattle.rules.specs.Messages.{Effect, toOne, status, effect, outgoing, size}
 use Rattle.rules.specs.Words.{Certificate, highest, State}
 use Rattle.rules.specs.Inputs.{saying, entering, nextLock, report, entered}
-use Rattle.rules.proofs.Tests.{by-bool}
-use Rattle.rules.proofs.Allowed.{leader-lt}
+use Rattle.laws.proofs.Tests.{by-bool}
+use Rattle.laws.proofs.Allowed.{leader-lt}
 use Rattle.outgoing.specs.Wrote.{Says}
 use Rattle.outgoing.proofs.Writing.{says-none, says-one}
 use Rattle.fields.specs.Names.{nameOf}
@@ -22,7 +22,7 @@ use Rattle.store.specs.declared.Station.{Station}
 use Rattle.words.specs.declared.Certificate as code
 use Rattle.store.proofs.Loaded.{loaded-settings, loaded-view}
 use Rattle.kept.proofs.Facts.{sizes-of}
-use Rattle.rules.proofs.Lengths.{weight, length-effect, bytes-cons, bytes-none}
+use Rattle.laws.proofs.Lengths.{weight, length-effect, bytes-cons, bytes-none}
 use Rattle.words.specs.Meaning.{blockOf}
 use Rattle.acts.specs.Works.{Formed, Works}
 use Rattle.acts.proofs.Votes.{loaded-own}

@@ -13,8 +13,8 @@ use Rattle.rules.specs.Words as words
 use Rattle.rules.specs.Words.{message, highest, State}
 use Rattle.rules.specs.Inputs.{Work, saying, statement, handled, leads, leadsNow, ownNewView, lead}
 use Rattle.rules.specs.Refusals.{hasRoom}
-use Rattle.rules.proofs.Truths.{and-2, both}
-use Rattle.rules.proofs.Allowed.{view-within}
+use Rattle.laws.proofs.Truths.{and-2, both}
+use Rattle.laws.proofs.Allowed.{view-within}
 use Rattle.fields.specs.Names.{nameOf}
 use Rattle.fields.specs.declared.Name.{Name}
 use Rattle.wire.specs.Meaning.{statementOf}

@@ -1,13 +1,14 @@
 -- When the parts of a tick are due, by the numbers of a loaded station. Assumes nothing.
 use Prim.Native.Nat.{ℕ, _+_, _-_, _*_, _^_, _≤_, _<_}
 use mathlib.Core.Path.{_≡_, refl, sym, ap, _∙_}
-use mathlib.Core.Bool.{Bool, true, false, not, _&&_}
+use mathlib.Core.Bool.{Bool, true, false, not, _&&_, and-true, and-false}
 use mathlib.Core.List.{List}
 use mathlib.Core.Option.{none, some}
 use native.Mathlib.Omega.{arith}
 use native.Mathlib.Nat.{mul-le-mul-left}
 use lib.Dec.{leb, ltb, eqb}
 use lib.ListN.{length}
+use borrow.Author.Tests.{lt-leb, le-leb}
 use Rattle.rules.specs.Limits.{lastView, mostDelay, lastViewLarge, mostStatementsLarge}
 use Rattle.rules.specs.Sizes as sizes
 use Rattle.rules.specs.Sizes.{leader, holds}
@@ -15,8 +16,7 @@ use Rattle.rules.specs.Messages.{viewAllowed}
 use Rattle.rules.specs.Words as words
 use Rattle.rules.specs.Words.{State, inView, waiting, stopped}
 use Rattle.rules.specs.Inputs.{withClock, isIn, leads, blamesOf, votes, overdue, leadsNow, entersNow}
-use Rattle.rules.proofs.Tests.{by-bool}
-use Rattle.rules.proofs.Bounds.{statements-most}
+use Rattle.laws.proofs.Bounds.{statements-most}
 use Rattle.settings.specs.Made.{settingsOf}
 use Rattle.store.specs.Layout.{sizeIn}
 use Rattle.store.specs.Decode.{blameAt, stateFrom, stateOf}
@@ -38,14 +38,14 @@ module _ (s : State) where
   unfolding overdue
   calm-outside q = rw q
 
-  pub calm-once-blamed : holds (blamesOf (s .view) s) (s .settings .own) ≡ true → false ≡ overdue s
+  pub calm-early : leb ((2 * votes s + 6) * s .settings .D + 2) (s .clock - s .entry) ≡ false → false ≡ overdue s
   unfolding overdue
-  calm-once-blamed q = by-bool (isIn (s .view) s) (λ p. rw (p, q)) (λ p. rw p)
+  calm-early q = rw (q, and-false)
 
-  pub overdue-by : isIn (s .view) s ≡ true → holds (blamesOf (s .view) s) (s .settings .own) ≡ false
-      → leb ((2 * votes s + 6) * s .settings .D + 2) (s .clock - s .entry) ≡ overdue s
+  pub overdue-by : isIn (s .view) s ≡ true → leb ((2 * votes s + 6) * s .settings .D + 2) (s .clock - s .entry) ≡ true
+      → not (holds (blamesOf (s .view) s) (s .settings .own)) ≡ overdue s
   unfolding overdue
-  overdue-by p q = rw (p, q)
+  overdue-by p q = rw (p, q, and-true)
 
   pub leads-outside : isIn (s .view) s ≡ false → false ≡ leads s
   unfolding leads
@@ -61,13 +61,26 @@ module _ (s : State) where
     unfolding withClock leads isIn
     clock-leads = refl
 
-    pub leads-never : leads s ≡ false → false ≡ leadsNow (withClock c s)
-    unfolding leadsNow
-    leads-never q = rw (clock-leads, q)
-
-    pub leads-then : leads s ≡ true → eqb c (s .entry + 2 * s .settings .D + 1) ≡ leadsNow (withClock c s)
+    pub leads-never : eqb c (s .entry + 2 * s .settings .D + 1) ≡ false → false ≡ leadsNow (withClock c s)
     unfolding leadsNow withClock
-    leads-then q = rw (clock-leads, q)
+    leads-never q = rw (q, and-false)
+
+    pub leads-then : eqb c (s .entry + 2 * s .settings .D + 1) ≡ true → leads s ≡ leadsNow (withClock c s)
+    unfolding leadsNow withClock
+    leads-then q = rw (q, and-true) (sym clock-leads)
+
+    -- what a clock doesn't change
+    pub clock-in : (v : ℕ) → isIn v (withClock c s) ≡ isIn v s
+    unfolding withClock isIn
+    clock-in v = refl
+
+    pub clock-votes : votes (withClock c s) ≡ votes s
+    unfolding withClock votes
+    clock-votes = refl
+
+    pub clock-blames : (v : ℕ) → blamesOf v (withClock c s) ≡ blamesOf v s
+    unfolding withClock blamesOf
+    clock-blames v = refl
 
   unfoldable entersIf : words.Phase → Bool
   entersIf p = elim p [ inView ↦ false | waiting q ↦ ltb (s .view) (lastView (s .settings .size)) && eqb (s .clock) (q + s .settings .D + 1) | stopped c ↦ false ]
@@ -121,17 +134,32 @@ module _ {b : List ℕ} (k : Formed b) (s : Station) (e : Loads s b) where
       let w : m ≡ blamesOf (S .view) S = q ∙ blame-place b (s .view) view-of-loaded ∙ ap (λ (v : ℕ). blamesOf v S) (loaded-view s b e) in
       λ i. holds (w i) (part (λ g. g .own) i)
 
-  pub loaded-calm : (q : Bool) → q ≡ isIn (s .view) S → q ≡ false → false ≡ overdue S
-  loaded-calm q r f = calm-outside S (sym (in-own q r) ∙ f)
+  -- of the blame, at any clock
+  module _ (c : ℕ) where
+    pub loaded-calm : (q : Bool) → q ≡ isIn (s .view) S → q ≡ false → false ≡ overdue (withClock c S)
+    unfolding withClock
+    loaded-calm q r f = calm-outside (withClock c S) (clock-in S c (S .view) ∙ sym (in-own q r) ∙ f)
 
-  pub loaded-blamed : (m : ℕ) → m ≡ blameAt b (s .view - 1) → holds m (s .settings .own) ≡ true → false ≡ overdue S
-  loaded-blamed m q h = calm-once-blamed S (sym (own-held m q) ∙ h)
+    waited : (n : ℕ) → n ≡ votes S
+        → leb ((2 * n + 6) * s .settings .delay + 2) (c - s .entry) ≡ leb ((2 * votes (withClock c S) + 6) * S .settings .D + 2) (c - S .entry)
+    waited n v =
+        let w : n ≡ votes (withClock c S) = v ∙ sym (clock-votes S c) in
+        λ i. leb ((2 * w i + 6) * part (λ g. g .D) i + 2) (c - loaded-entry s b e i)
 
-  pub loaded-overdue : (q : Bool) (m n : ℕ) → q ≡ isIn (s .view) S → q ≡ true → m ≡ blameAt b (s .view - 1) → holds m (s .settings .own) ≡ false → n ≡ votes S
-      → leb ((2 * n + 6) * s .settings .delay + 2) (s .clock - s .entry) ≡ overdue S
-  loaded-overdue q m n r t w h v =
-      (λ i. leb ((2 * v i + 6) * part (λ g. g .D) i + 2) (loaded-clock s b e i - loaded-entry s b e i))
-      ∙ overdue-by S (sym (in-own q r) ∙ t) (sym (own-held m w) ∙ h)
+    pub loaded-early : (n : ℕ) → n ≡ votes S → c - s .entry < (2 * n + 6) * s .settings .delay + 2 → false ≡ overdue (withClock c S)
+    unfolding withClock
+    loaded-early n v l = calm-early (withClock c S) (sym (waited n v) ∙ lt-leb _ _ l)
+
+    pub loaded-overdue : (q : Bool) (m n : ℕ) → q ≡ isIn (s .view) S → q ≡ true → m ≡ blameAt b (s .view - 1) → n ≡ votes S → (2 * n + 6) * s .settings .delay + 2 ≤ c - s .entry
+        → not (holds m (s .settings .own)) ≡ overdue (withClock c S)
+    unfolding withClock
+    loaded-overdue q m n r t w v l =
+        ap not (own-held m w) ∙ ap (λ (x : ℕ). not (holds x (S .settings .own))) (sym (clock-blames S c (S .view)))
+        ∙ overdue-by (withClock c S) (clock-in S c (S .view) ∙ sym (in-own q r) ∙ t) (sym (waited n v) ∙ le-leb _ _ l)
+
+  pub overdue-now : overdue (withClock (s .clock) S) ≡ overdue S
+  unfolding withClock
+  overdue-now = ap (λ (c : ℕ). overdue (withClock c S)) (loaded-clock s b e)
 
   pub loaded-outside : (q : Bool) → q ≡ isIn (s .view) S → q ≡ false → false ≡ leads S
   loaded-outside q r f = leads-outside S (sym (in-own q r) ∙ f)
@@ -140,27 +168,39 @@ module _ {b : List ℕ} (k : Formed b) (s : Station) (e : Loads s b) where
   loaded-leads q l r t w =
       (λ i. eqb ((w ∙ (λ j. leader (loaded-settings s b e j) (loaded-view s b e j))) i) (part (λ g. g .own) i)) ∙ leads-by S (sym (in-own q r) ∙ t)
 
-  pub loaded-then : (c : ℕ) → leads S ≡ true → eqb c (s .entry + 2 * s .settings .delay + 1) ≡ leadsNow (withClock c S)
-  loaded-then c h = (λ i. eqb c (loaded-entry s b e i + 2 * part (λ g. g .D) i + 1)) ∙ leads-then S c h
+  past : (c : ℕ) → eqb c (s .entry + 2 * s .settings .delay + 1) ≡ eqb c (S .entry + 2 * S .settings .D + 1)
+  past c = λ i. eqb c (loaded-entry s b e i + 2 * part (λ g. g .D) i + 1)
+
+  pub loaded-never : (c : ℕ) → eqb c (s .entry + 2 * s .settings .delay + 1) ≡ false → false ≡ leadsNow (withClock c S)
+  loaded-never c h = leads-never S c (sym (past c) ∙ h)
+
+  pub loaded-then : (c : ℕ) → eqb c (s .entry + 2 * s .settings .delay + 1) ≡ true → leads S ≡ leadsNow (withClock c S)
+  loaded-then c h = leads-then S c (sym (past c) ∙ h)
 
   pub loaded-now : leadsNow (withClock (s .clock) S) ≡ leadsNow S
   unfolding withClock
   loaded-now = ap (λ (c : ℕ). leadsNow (withClock c S)) (loaded-clock s b e)
 
-  loaded-enters : entersIf S (courseOf (s .phase)) ≡ entersNow S
-  loaded-enters = ap (entersIf S) (loaded-phase s b e) ∙ by-phase S
+  module _ (c : ℕ) where
+    loaded-enters : entersIf (withClock c S) (courseOf (s .phase)) ≡ entersNow (withClock c S)
+    unfolding withClock
+    loaded-enters = ap (entersIf (withClock c S)) (loaded-phase s b e) ∙ by-phase (withClock c S)
 
-  pub enters-at : (q : ℕ) → s .phase ≡ Waiting q → (ltb (s .view) (lastView (sizeIn b)) && eqb (s .clock) (q + s .settings .delay + 1)) ≡ entersNow S
-  unfolding entersIf stateOf stateFrom
-  enters-at q p =
-      (λ i. ltb (loaded-view s b e i) (lastView (sizeIn b)) && eqb (loaded-clock s b e i) (q + part (λ g. g .D) i + 1))
-      ∙ sym (ap (λ (r : Phase). entersIf S (courseOf r)) p) ∙ loaded-enters
+    pub enters-then : (q : ℕ) → s .phase ≡ Waiting q → (ltb (s .view) (lastView (sizeIn b)) && eqb c (q + s .settings .delay + 1)) ≡ entersNow (withClock c S)
+    unfolding entersIf withClock stateOf stateFrom
+    enters-then q p =
+        (λ i. ltb (loaded-view s b e i) (lastView (sizeIn b)) && eqb c (q + part (λ g. g .D) i + 1))
+        ∙ sym (ap (λ (r : Phase). entersIf (withClock c S) (courseOf r)) p) ∙ loaded-enters
 
-  pub enters-never : ((q : ℕ) → s .phase ≡ Waiting q → ⊥) → false ≡ entersNow S
-  unfolding entersIf
-  enters-never n = go (s .phase) refl
-    where
-      go : (p : Phase) → s .phase ≡ p → false ≡ entersNow S
-      go InView q = sym (ap (λ (r : Phase). entersIf S (courseOf r)) q) ∙ loaded-enters
-      go (Waiting c) q = absurd (n c q)
-      go (Stopped c) q = sym (ap (λ (r : Phase). entersIf S (courseOf r)) q) ∙ loaded-enters
+    pub enters-never : ((q : ℕ) → s .phase ≡ Waiting q → ⊥) → false ≡ entersNow (withClock c S)
+    unfolding entersIf
+    enters-never n = go (s .phase) refl
+      where
+        go : (p : Phase) → s .phase ≡ p → false ≡ entersNow (withClock c S)
+        go InView q = sym (ap (λ (r : Phase). entersIf (withClock c S) (courseOf r)) q) ∙ loaded-enters
+        go (Waiting w) q = absurd (n w q)
+        go (Stopped w) q = sym (ap (λ (r : Phase). entersIf (withClock c S) (courseOf r)) q) ∙ loaded-enters
+
+  pub enters-now : entersNow (withClock (s .clock) S) ≡ entersNow S
+  unfolding withClock
+  enters-now = ap (λ (c : ℕ). entersNow (withClock c S)) (loaded-clock s b e)

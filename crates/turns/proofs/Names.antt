@@ -7,7 +7,7 @@ use native.Mathlib.Omega.{arith}
 use native.Mathlib.Nat.{zero-add}
 use lib.ListN.{length, getD, drop, length-append}
 use Rattle.rules.specs.Limits.{mostStatements, mostStatementsLarge}
-use Rattle.rules.proofs.Bounds.{statements-most}
+use Rattle.laws.proofs.Bounds.{statements-most}
 use Rattle.rules.specs.Messages.{Effect, committed, effect, outgoing}
 use Rattle.rules.specs.Words.{Statement, State}
 use Rattle.rules.specs.Inputs.{saying, withClock, withLog, reports, logging}
@@ -18,12 +18,12 @@ use Rattle.wire.specs.declared.Statement as code
 use Rattle.outgoing.proofs.Writing.{says-none, says-one, says-outgoing}
 use Rattle.store.specs.Layout.{statementTable, logTable, sizeIn, countOf}
 use Rattle.store.specs.Decode.{rows, statementAt, nameAt, statements, names, stateFrom, stateOf, Form, Left}
-use Rattle.store.specs.Changes.{appending}
+use Rattle.records.specs.Changes.{appending}
 use Rattle.store.proofs.Rows.{rows-append, rows-length, rows-same, rows-at}
 use Rattle.commit.specs.Chains.{nameIn, statementIn}
 use Rattle.commit.specs.Outcome.{tickLog, Gained}
 use Rattle.commit.proofs.Readers.{name-of}
-use Rattle.rules.proofs.Lengths.{weight, length-effect, reports-bytes}
+use Rattle.laws.proofs.Lengths.{weight, length-effect, reports-bytes}
 use Rattle.acts.specs.Works.{Works}
 use Rattle.acts.proofs.Works.{left-then, works-is, works-saying}
 use Rattle.turns.specs.Gains.{grownLog, Enough}

@@ -13,7 +13,7 @@ use Rattle.outgoing.specs.Wrote.{Says}
 use Rattle.store.specs.Layout.{storeLength, sizeIn}
 use Rattle.store.specs.Decode.{stateFrom, stateOf, Form, Left}
 use Rattle.store.proofs.Forms.{form-long}
-use Rattle.rules.proofs.Lengths.{weight, length-effect}
+use Rattle.laws.proofs.Lengths.{weight, length-effect}
 use Rattle.acts.specs.Works.{Works}
 use Rattle.acts.proofs.Works.{works-is, works-none, works-saying}
 

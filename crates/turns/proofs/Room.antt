@@ -15,9 +15,9 @@ use Rattle.rules.specs.Words.{Statement, sameStatement, conflict, ownBlock, ofB
 use Rattle.rules.specs.Inputs.{Work, saying, _▸_, withPhase, withTables, withBlames, withLog, isIn, quit, belowLock, votedFor, voting, certificateJoined, stored, statement, handled, blamesOf, blamed, blameFull, blaming, leads, logging, votes, overdue, complain, leadsNow, ownNewView, lead, entersNow, nextLock, entering, entered, current, pair, inOrder, votingAll, arrive, enter}
 use Rattle.rules.specs.Refusals.{hasRoom}
 use Rattle.rules.specs.WellFormed.{talliesThere, linked}
-use Rattle.rules.proofs.Tests.{by-bool, by-option}
-use Rattle.rules.proofs.Truths.{and-2, and-3}
-use Rattle.rules.proofs.Statements.{mem-order}
+use Rattle.laws.proofs.Tests.{by-bool, by-option}
+use Rattle.laws.proofs.Truths.{and-2, and-3}
+use Rattle.laws.proofs.Statements.{mem-order}
 use Rattle.kept.specs.Parts.{Formed}
 use Rattle.kept.specs.Said.{Each}
 use Rattle.kept.proofs.Lists.{mem-each, all-mem}
@@ -28,10 +28,6 @@ use Rattle.turns.proofs.Parts.{complain-calm}
 use Rattle.turns.proofs.Leading.{lead-never}
 
 -- ---- what adds no record
-
-pub logging-room : (l : List ℕ) (s : State) → hasRoom (logging l s .now) ≡ hasRoom s
-unfolding logging saying withLog hasRoom
-logging-room l s = refl
 
 blaming-room : (v m : ℕ) (s : State) → hasRoom (blaming v m s .now) ≡ hasRoom s
 unfolding blaming quit saying withPhase blamed withBlames hasRoom
@@ -133,10 +129,6 @@ module _ (l : List ℕ) (x : Statement) (s : State) where
   voting-logged = by-bool (belowLock x s) (λ q. rw (q, voting)) (λ q. rw (q, voting))
 
 module _ (l : List ℕ) (x : Statement) (s : State) where
-  stored-logged : stored x (withLog l s) ≡ withLog l (stored x s)
-  unfolding stored withTables withLog
-  stored-logged = refl
-
   statement-logged : statement x (withLog l s) .now ≡ withLog l (statement x s .now)
   unfolding statement saying isIn certificateJoined stored withTables withLog quit withPhase
   statement-logged =

@@ -11,7 +11,8 @@ ghost use Rattle.rules.specs.Inputs as inputs;
 ghost use Rattle.rules.specs.Refusals.{hasRoom};
 ghost use Rattle.wire.specs.Meaning.{statementOf};
 ghost use Rattle.store.specs.Layout.{sizeIn};
-ghost use Rattle.store.specs.Decode.{rows, stateOf};
+ghost use Rattle.store.specs.Decode.{rows, stateOf, Form};
+ghost use Rattle.store.specs.Meaning.{Loads};
 ghost use Rattle.search.specs.Orders.{standing};
 ghost use Rattle.kept.specs.Said.{Sendable};
 ghost use Rattle.acts.specs.Works.{Formed, Works};
@@ -19,39 +20,50 @@ ghost use Rattle.turns.specs.Gains.{grownLog, Enough};
 ghost use Rattle.turns.specs.Ballots.{Listed};
 use fields::Name;
 use search::Pair;
+use settings::Settings;
 use store::Phase;
 use store::Station;
 use wire::Message;
 use wire::Statement;
 
-// Whether the station's own blame is due.
-pub fn overdue(store: &[u8]) -> bool
-    requires { ⌜ Formed (now store) ⌝ }
-    ensures { λ r. ⌜ r ≡ inputs.overdue (stateOf (now (store .entry))) ⌝ }
+// Whether the station is in a view.
+fn is_in_view(store: &[u8], station: Station) -> bool
+    requires { ⌜ (Form (now store)) × (Loads station (now store)) ⌝ }
+    ensures { λ r. ⌜ r ≡ inputs.isIn (station .view) (stateOf (now (store .entry))) ⌝ }
 {
-    let station = Station::load(store);
+    let phase = station.phase;
+    match phase {
+        Phase::InView => true,
+        _ => false,
+    }
+}
+
+// Whether the station's own blame is due at a clock, by how many proposes of its view it voted for.
+pub fn overdue_at(store: &[u8], station: Station, clock: u32, votes: usize) -> bool
+    requires { ⌜ (Formed (now store)) × (Loads station (now store)) × (station .entry ≤ clock) × (votes ≡ inputs.votes (stateOf (now store))) ⌝ }
+    ensures { λ r. ⌜ r ≡ inputs.overdue (inputs.withClock clock (stateOf (now (store .entry)))) ⌝ }
+{
+    if !is_in_view(store, station) {
+        return false;
+    }
     let settings = station.settings;
-    if !acts::is_in(store, station.view) {
+    let wait = (2 * votes as u64 + 6) * settings.delay + 2;
+    if ((clock - station.entry) as u64) < wait {
         return false;
     }
     let blames = store::blame_at(store, station.view as usize - 1);
-    if settings::holds(blames as u64, settings.own) {
-        return false;
-    }
-    let votes = commit::votes(store, station);
-    let wait = (2 * votes as u64 + 6) * settings.delay + 2;
-    wait <= (station.clock - station.entry) as u64
+    !settings::holds(blames as u64, settings.own)
 }
 
 // Where it is due, the station blames its view: to all, and into the mask, which may be full then.
-pub fn complain(store: &mut [u8], out: &mut [u8], at: usize) -> usize
-    requires { ⌜ (Formed (now store)) × (at + 37 ≤ length (now out)) ⌝ }
+pub fn complain(store: &mut [u8], out: &mut [u8], at: usize, votes: usize) -> usize
+    requires { ⌜ (Formed (now store)) × (at + 37 ≤ length (now out)) × (votes ≡ inputs.votes (stateOf (now store))) ⌝ }
     ensures { λ r. ⌜ Works (inputs.complain (stateOf (now (store .entry)))) (now (out .entry)) at (now (store .exit)) (now (out .exit)) r ⌝ }
 {
-    if !overdue(store) {
+    let station = Station::load(store);
+    if !overdue_at(store, station, station.clock, votes) {
         return at;
     }
-    let station = Station::load(store);
     let settings = station.settings;
     let own = settings.own;
     let blame = Message::Blame {
@@ -63,16 +75,23 @@ pub fn complain(store: &mut [u8], out: &mut [u8], at: usize) -> usize
 }
 
 // Whether the station is in a view and leads it.
+fn leads_in(store: &[u8], station: Station) -> bool
+    requires { ⌜ (Formed (now store)) × (Loads station (now store)) ⌝ }
+    ensures { λ r. ⌜ r ≡ inputs.leads (stateOf (now (store .entry))) ⌝ }
+{
+    if !is_in_view(store, station) {
+        return false;
+    }
+    let settings = station.settings;
+    settings.leader(station.view as u64) == settings.own
+}
+
 pub fn leads(store: &[u8]) -> bool
     requires { ⌜ Formed (now store) ⌝ }
     ensures { λ r. ⌜ r ≡ inputs.leads (stateOf (now (store .entry))) ⌝ }
 {
     let station = Station::load(store);
-    let settings = station.settings;
-    if !acts::is_in(store, station.view) {
-        return false;
-    }
-    settings.leader(station.view as u64) == settings.own
+    leads_in(store, station)
 }
 
 // Whether the clock is one tick past a wait, so that what was due at its end has come.
@@ -84,33 +103,40 @@ fn is_past(clock: u32, start: u32, wait: u64) -> bool
 }
 
 // Whether a clock is the leader's moment to make a new-view.
-pub fn leads_at(store: &[u8], clock: u32) -> bool
-    requires { ⌜ Formed (now store) ⌝ }
+pub fn leads_at(store: &[u8], station: Station, clock: u32) -> bool
+    requires { ⌜ (Formed (now store)) × (Loads station (now store)) ⌝ }
     ensures { λ r. ⌜ r ≡ inputs.leadsNow (inputs.withClock clock (stateOf (now (store .entry)))) ⌝ }
 {
-    if !leads(store) {
+    let settings = station.settings;
+    if !is_past(clock, station.entry, 2 * settings.delay) {
         return false;
     }
-    let station = Station::load(store);
-    let settings = station.settings;
-    is_past(clock, station.entry, 2 * settings.delay)
+    leads_in(store, station)
 }
 
-// Whether a waiting station's wait is over.
-pub fn enters_now(store: &[u8]) -> bool
-    requires { ⌜ Formed (now store) ⌝ }
-    ensures { λ r. ⌜ r ≡ inputs.entersNow (stateOf (now (store .entry))) ⌝ }
+// Whether a waiting station's wait is over at a clock.
+pub fn enters_at(store: &[u8], station: Station, clock: u32) -> bool
+    requires { ⌜ (Formed (now store)) × (Loads station (now store)) ⌝ }
+    ensures { λ r. ⌜ r ≡ inputs.entersNow (inputs.withClock clock (stateOf (now (store .entry)))) ⌝ }
 {
-    let station = Station::load(store);
     let settings = station.settings;
     let phase = station.phase;
     match phase {
         Phase::Waiting(quit) => {
-            let is_over = is_past(station.clock, quit, settings.delay);
+            let is_over = is_past(clock, quit, settings.delay);
             ((station.view as u64) < store::last_view_in(store)) & is_over
         }
         _ => false,
     }
+}
+
+// Whether it is over.
+fn enters_now(store: &[u8]) -> bool
+    requires { ⌜ Formed (now store) ⌝ }
+    ensures { λ r. ⌜ r ≡ inputs.entersNow (stateOf (now (store .entry))) ⌝ }
+{
+    let station = Station::load(store);
+    enters_at(store, station, station.clock)
 }
 
 // The new-view that the leader makes from the highest certificate of an earlier view.
@@ -145,7 +171,7 @@ pub fn lead(store: &mut [u8], out: &mut [u8], at: usize) -> usize
     ensures { λ r. ⌜ Works (inputs.lead (stateOf (now (store .entry)))) (now (out .entry)) at (now (store .exit)) (now (out .exit)) r ⌝ }
 {
     let station = Station::load(store);
-    if !leads_at(store, station.clock) {
+    if !leads_at(store, station, station.clock) {
         return at;
     }
     let x = own_new_view(store);
@@ -162,7 +188,7 @@ fn entered(store: &mut [u8], out: &mut [u8], at: usize) -> usize
     let settings = station.settings;
     let view = station.view + 1;
     let lock = search::highest(store, view);
-    store::enter(store, view, lock);
+    records::enter(store, view, lock);
     let to = settings.leader(view as u64);
     if to == settings.own {
         return at;
@@ -188,7 +214,7 @@ pub fn logging(store: &mut [u8], out: &mut [u8], at: usize, gained: &[u16], len:
     while k < len {
         let x = store::statement_at(store, gained[k] as usize);
         let name = x.name;
-        store::append_name(store, name);
+        records::append_name(store, name);
         next = outgoing::committed(out, next, (k + 1) as u32, name);
         k += 1;
     }
@@ -236,13 +262,14 @@ fn arrive(store: &mut [u8], out: &mut [u8], at: usize, order: &mut [u16]) -> usi
 }
 
 // A waiting station whose wait is over enters the next view.
-pub fn enter(store: &mut [u8], out: &mut [u8], at: usize, order: &mut [u16]) -> usize
-    requires { ⌜ (Formed (now store)) × (at + 62 + 160 * mostStatements (sizeIn (now store)) ≤ length (now out)) × (mostStatementsLarge ≤ length (now order)) ⌝ }
+pub fn enter(store: &mut [u8], out: &mut [u8], at: usize) -> usize
+    requires { ⌜ (Formed (now store)) × (at + 62 + 160 * mostStatements (sizeIn (now store)) ≤ length (now out)) ⌝ }
     ensures { λ r. ⌜ Works (inputs.enter (stateOf (now (store .entry)))) (now (out .entry)) at (now (store .exit)) (now (out .exit)) r ⌝ }
 {
     if !enters_now(store) {
         return at;
     }
     let next = entered(store, out, at);
-    arrive(store, out, next, order)
+    let mut order = [0u16; Settings::MOST_STATEMENTS_LARGE];
+    arrive(store, out, next, &mut order)
 }

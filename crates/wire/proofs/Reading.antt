@@ -1,7 +1,7 @@
 -- Reading by places is reading: a reader moves behind field after field to the end, and what it has is the message. Assumes nothing.
 use Prim.Native.Nat.{ℕ, zero, suc, _+_, _-_, _*_, _/_, _%_, _^_, _<_, _≤_}
 use mathlib.Core.Path.{_≡_, refl, sym, ap, ap₂, subst, _∙_}
-use mathlib.Core.Bool.{Bool, true, false, not, _&&_, and-true}
+use mathlib.Core.Bool.{Bool, true, false, not, _&&_, _||_, and-true}
 use mathlib.Core.List.{List, [], _∷_, _++_, map}
 use mathlib.Core.Option.{Option, none, some, Option·map}
 use native.Mathlib.Omega.{arith}
@@ -14,8 +14,8 @@ use Rattle.fields.proofs.Lists.{number-cons, number-piece}
 use Rattle.rules.specs.Lists.{be, unbe, iff, within as between, any, all, keep}
 use Rattle.rules.specs.Messages.{Message, Row, table, rowOf, tagsOf, width, after, readField, reads, body, read}
 use Rattle.rules.specs.Sizes.{holds}
-use Rattle.rules.proofs.Tests.{by-bool, no-bool, and-left, and-right}
-use Rattle.rules.proofs.Truths.{iff-eq}
+use Rattle.laws.proofs.Tests.{by-bool, no-bool, and-left, and-right}
+use Rattle.laws.proofs.Truths.{iff-eq}
 use Rattle.wire.specs.Fields.{head, isField, numberOf, behind, Found, has, Tags, Place, value, start, moved, walked, made, ended}
 
 -- a field that stands at a place lies within the message
@@ -218,11 +218,24 @@ above-four t l a b c d = omega arith
 eight : (t : ℕ) → 5 ≤ t → t ≤ 8 → (t ≡ 5 → ⊥) → (t ≡ 6 → ⊥) → (t ≡ 7 → ⊥) → t ≡ 8
 eight t l m e f g = omega arith
 
-pub last-tag : (k t : ℕ) → has k t ≡ true → (t ≡ 1 → ⊥) → (t ≡ 2 → ⊥) → (t ≡ 3 → ⊥) → (t ≡ 4 → ⊥) → (t ≡ 5 → ⊥) → (t ≡ 6 → ⊥) → (t ≡ 7 → ⊥) → t ≡ 8
-unfolding has between
-last-tag k t h a b c d e f g =
-    let w = in-all (between 1 8) t (1 ∷ tagsOf k) (tags-within k) h in
-    eight t (above-four t (leb-true 1 t (and-left (leb 1 t) (leb t 8) w)) a b c d) (leb-true t 8 (and-right (leb 1 t) (leb t 8) w)) e f g
+-- the tag of a field that a kind has
+module _ (k t : ℕ) {x : Bool} (h : x ≡ has k t) (y : not x ≡ false) where
+  pub tag-within : (1 ≤ t) × (t ≤ 8)
+  unfolding has between
+  tag-within =
+      let w = in-all (between 1 8) t (1 ∷ tagsOf k) (tags-within k) (sym h ∙ not-false x y) in
+      (leb-true 1 t (and-left (leb 1 t) (leb t 8) w), leb-true t 8 (and-right (leb 1 t) (leb t 8) w))
+
+  pub last-tag : (t ≡ 1 → ⊥) → (t ≡ 2 → ⊥) → (t ≡ 3 → ⊥) → (t ≡ 4 → ⊥) → (t ≡ 5 → ⊥) → (t ≡ 6 → ⊥) → (t ≡ 7 → ⊥) → t ≡ 8
+  last-tag a b c d e f g = eight t (above-four t (tag-within .0) a b c d) (tag-within .1) e f g
+
+-- every other value than a name is a number of at most 8 bytes
+pub width-few : (t : ℕ) → t ≤ 8 → (t ≡ 4 → ⊥) → (t ≡ 5 → ⊥) → width t ≤ 8
+unfolding tried width
+width-few t l a b =
+    let p : ℕ → Bool = λ i. eqb i 4 || eqb i 5 || leb (width i) 8 in
+    let e : (eqb t 4 || eqb t 5 || leb (width t) 8) ≡ true = tried-at p 9 t refl (omega arith) in
+    leb-true (width t) 8 (rw (ne-eqb t 4 a, ne-eqb t 5 b) at e)
 
 -- what is made at a place: at the end of the message, the message of its kind
 module _ (s : List ℕ) (p : Place) where
@@ -255,10 +268,15 @@ module _ (s : List ℕ) (t : ℕ) (p : Place) where
   moved-length = by-bool (has (value p 1) t) (λ h. rw (h, moved) (length-set (p .values) t _)) (λ h. rw (h, moved))
 
 -- the same as the code finds it, of a tag that is known to be one
-pub moved-as : (s : List ℕ) (p : Place) {t v n : ℕ} (j : ℕ) → t ≡ j → {x : Bool} → x ≡ has (value p 1) t → not x ≡ false
-    → Found s (p .at) j (width j) v n → record { at = n; values = set (p .values) j v } ≡ moved s t p
-moved-as s p j e {x} h y f =
-    moved-on s j p (subst (λ (i : ℕ). has (value p 1) i ≡ true) e (sym h ∙ not-false x y)) (f .value-is) (f .next-is) ∙ ap (λ (i : ℕ). moved s i p) (sym e)
+module _ (s : List ℕ) (p : Place) {t w v n : ℕ} (j : ℕ) (e : t ≡ j) (z : w ≡ width t) (f : Found s (p .at) t w v n) where
+  pub moved-as : {x : Bool} → x ≡ has (value p 1) t → not x ≡ false → record { at = n; values = set (p .values) j v } ≡ moved s t p
+  moved-as {x} h y =
+      ap (λ (i : ℕ). record { at = n; values = set (p .values) i v }) (sym e)
+      ∙ moved-on s t p (sym h ∙ not-false x y) (f .value-is ∙ ap (numberOf s (p .at) t) z) (f .next-is ∙ ap (behind s (p .at) t) z)
+
+  -- its value fits
+  pub value-under : v < 256 ^ width j
+  value-under = subst (λ (i : ℕ). v < 256 ^ i) (z ∙ ap width e) (f .bound)
 
 -- a value in front of those that were read to the end, if they were
 onto-ends : (x : Bool) (v w : ℕ) (vs : List ℕ) → w ≡ v

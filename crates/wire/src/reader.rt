@@ -4,6 +4,7 @@ use super::kinds;
 use fields::Name;
 ghost use mathlib.Core.Path.{_≡_};
 ghost use Prim.Native.Nat.{_≤_};
+ghost use Rattle.rules.specs.Messages.{width};
 ghost use Rattle.fields.specs.Names.{nameOf};
 ghost use Rattle.wire.specs.Fields.{isField, Found, has as contains, Tags, start, moved, walked, ended};
 ghost use Rattle.wire.specs.Meaning.{placeOf, readOf};
@@ -117,6 +118,15 @@ fn has(kind: u8, tag: u8) -> bool
     (tags_of(kind) >> (tag as u64)) % 2 == 1
 }
 
+// How many bytes the value of a tag has.
+fn width_of(tag: u8) -> usize
+    requires { ⌜ tag ≤ 8 ⌝ }
+    ensures { λ r. ⌜ r ≡ width tag ⌝ }
+{
+    let widths: [usize; 9] = [0, 1, 4, 4, 32, 32, 4, 2, 1];
+    widths[tag as usize]
+}
+
 // The cursor behind the field of a tag, with its value; where the kind has no such field, the same cursor.
 fn field_at(s: &[u8], mut cursor: Cursor, tag: u8) -> Cursor
     ensures { λ r. ⌜ placeOf r ≡ moved (now (s .entry)) tag (placeOf cursor) ⌝ }
@@ -125,76 +135,31 @@ fn field_at(s: &[u8], mut cursor: Cursor, tag: u8) -> Cursor
     if !has(cursor.kind, tag) {
         return cursor;
     }
-    match tag {
-        1 => {
-            let found = number_at(s, at, 1, 1);
-            cursor.kind = found.value as u8;
-            cursor.at = found.next;
-            cursor
-        }
-        2 => {
-            let found = number_at(s, at, 2, 4);
-            cursor.view = found.value as u32;
-            cursor.at = found.next;
-            cursor
-        }
-        3 => {
-            let found = number_at(s, at, 3, 4);
-            cursor.height = found.value as u32;
-            cursor.at = found.next;
-            cursor
-        }
-        4 => {
-            let found = name_at(s, at, 4);
-            let name = found.value;
-            let parent = cursor.parent;
-            Cursor {
-                at: found.next,
-                kind: cursor.kind,
-                view: cursor.view,
-                height: cursor.height,
-                name,
-                parent,
-                cert: cursor.cert,
-                mask: cursor.mask,
-                author: cursor.author,
-            }
-        }
-        5 => {
-            let found = name_at(s, at, 5);
-            let name = cursor.name;
-            let parent = found.value;
-            Cursor {
-                at: found.next,
-                kind: cursor.kind,
-                view: cursor.view,
-                height: cursor.height,
-                name,
-                parent,
-                cert: cursor.cert,
-                mask: cursor.mask,
-                author: cursor.author,
-            }
-        }
-        6 => {
-            let found = number_at(s, at, 6, 4);
-            cursor.cert = found.value as u32;
-            cursor.at = found.next;
-            cursor
-        }
-        7 => {
-            let found = number_at(s, at, 7, 2);
-            cursor.mask = found.value as u16;
-            cursor.at = found.next;
-            cursor
-        }
-        _ => {
-            let found = number_at(s, at, 8, 1);
-            cursor.author = found.value as u8;
-            cursor.at = found.next;
-            cursor
-        }
+    if tag == 4 {
+        let found = name_at(s, at, tag);
+        let name = found.value;
+        cursor.name = name;
+        cursor.at = found.next;
+        return cursor;
     }
+    if tag == 5 {
+        let found = name_at(s, at, tag);
+        let parent = found.value;
+        cursor.parent = parent;
+        cursor.at = found.next;
+        return cursor;
+    }
+    let found = number_at(s, at, tag, width_of(tag));
+    cursor.at = found.next;
+    match tag {
+        1 => cursor.kind = found.value as u8,
+        2 => cursor.view = found.value as u32,
+        3 => cursor.height = found.value as u32,
+        6 => cursor.cert = found.value as u32,
+        7 => cursor.mask = found.value as u16,
+        _ => cursor.author = found.value as u8,
+    }
+    cursor
 }
 
 impl Cursor {

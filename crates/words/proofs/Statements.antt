@@ -12,10 +12,10 @@ use Rattle.rules.specs.Sizes.{Settings, leader}
 use Rattle.rules.specs.Messages.{newView, propose, viewAllowed, blockAllowed, maskAllowed, certificateAllowed, allowed}
 use Rattle.rules.specs.Words.{Statement, message, sameStatement, against, conflict, Certificate, certificate, below, State}
 use Rattle.rules.specs.Inputs.{belowLock}
-use Rattle.rules.proofs.Bounds.{views-most}
-use Rattle.rules.proofs.Statements.{same-like, same-sym}
-use Rattle.rules.proofs.Tests.{by-bool, and-left, and-right, no-bool}
-use Rattle.rules.proofs.Truths.{beq-iff}
+use Rattle.laws.proofs.Bounds.{views-most}
+use Rattle.laws.proofs.Statements.{same-like, same-sym}
+use Rattle.laws.proofs.Tests.{by-bool, and-left, and-right, no-bool}
+use Rattle.laws.proofs.Truths.{beq-iff}
 use Rattle.fields.specs.Names.{nameOf}
 use Rattle.fields.specs.declared.Name.{Name}
 use Rattle.wire.specs.Meaning.{statementOf}
@@ -98,10 +98,6 @@ module _ (x y : code.Statement) where
   unfolding conflict statementOf
   conflict-unvoted v w = refl
 
-pub certificate-unvoted : (x : code.Statement) (v : Option ℕ) → certificate (statementOf x v) ≡ certificate (statementOf x none)
-unfolding certificate statementOf
-certificate-unvoted x v = refl
-
 -- a small number in a name stands in its last word
 last-word : (a x : ℕ) → a * 2 ^ 64 + x < 2 ^ 32 → a * 2 ^ 64 + x ≡ x
 last-word a x h = omega arith
@@ -153,13 +149,6 @@ certifies-allowed g x e = record {
   view = λ p. new-view-link g (x .view) (x .height) (x .name) (x .link) (x .mask) (x .author) (rw (p, message) at e);
   above = λ p. propose-height g (x .view) (x .height) (x .name) (x .link) (x .mask) (x .author) (rw (p, message) at e);
 }
-
-pub certifies-read : (x : code.Statement) (y : Statement) → statementOf x (y .voted) ≡ y → Certifies y → Certifies (statementOf x none)
-unfolding statementOf
-certifies-read x y e k =
-    let z = statementOf x (y .voted) in
-    let c : Certifies z = subst Certifies (sym e) k in
-    record { view = c .view; above = c .above }
 
 -- ---- a rank held against a lock
 

@@ -1,9 +1,13 @@
-//! Prints the measured part of docs/SPEED.md: `bench [ROUNDS]`.
+//! Prints the measured part of docs/SPEED.md: `bench [--svg FILE] [ROUNDS]`. With `--svg` it draws the cost against the
+//! filling for the smaller group.
 
 mod measure;
+mod plot;
 
 use bench::script::{self, Input, Kind};
-use measure::{PARTS, Round, SIZE, Settings};
+use measure::{
+    CHECK, LENT, PARTS, PROVED, SECOND, SIZE, Settings, Times, with_check, without_check,
+};
 use std::process::Command;
 
 const D: u32 = 2;
@@ -16,29 +20,50 @@ fn method() -> String {
     let logged = views * blocks;
     format!(
         "\
-The proved station and the second program (plain Rust, host/second) take the same script in one run, each input through
-the call that a host makes: four views, {blocks} blocks in each, every statement handed on and voted for by every other
-station, {others} statuses of made-up names with each, until all {statements} statements and {tallies} tallies are in use and {logged} blocks are
-logged. Both are compiled at the highest level, without optimisation across the two. The times are the least of five
-runs for each 24 inputs, since others who use the machine can only make them longer; a round is five runs of each
-program in turn. Given are the middle of the rounds and, with ratios, the quarters around it.
+![ns per input against the statements held](speed.svg)
 
-Every call of the proved station first looks at its whole store. That check is measured by a message which is refused
-right after it; the second program has no store to check. `ratio` is the proved station's time over the second
-program's, the last column the same without the check."
+Three programs take the same script in one run, each input through the call that a host makes: four views, {blocks} blocks in
+each, every statement handed on and voted for by every other station, {others} statuses of made-up names with each, until all
+{statements} statements and {tallies} tallies are in use and {logged} blocks are logged. All are compiled at the highest level, for no
+processor in particular, and none together with what measures it; in Rust loops begin at multiples of 64, without which
+the linker's order moves the second program's times by a third.
+
+- `proved` is the proved station. Every call of it first looks at its whole store; that check is measured by a call
+  which is refused right after it: a message of no bytes, or for a tick a tick of the same station, stopped.
+- `lent` is a station over the same lent store in plain Rust (host/lent). It holds nothing between calls, checks the
+  store as fully on each call, by the same method, and does what the rules say on its bytes. **With the check** is the
+  ratio of proved to lent.
+- `second` is the second program (host/second), which keeps its state in memory and has no store to check. **Without the
+  check** is the ratio of proved, less its check, to second.
+
+Each input is timed by itself, and its least time counts, since others who use the machine can only make it longer. A
+call that is refused after the check goes before what is timed, so that code and store are as near to the processor
+for one program as for another, and for the check as for the whole call. A round is five runs of each program in turn;
+given are the middle of the rounds and, with ratios, the quarters around it. Instructions are valgrind's count, without the
+time that a cache or a wrong guess of a branch takes; they don't depend on the day. `tools/speed` makes all of it."
     )
 }
 
 fn main() {
-    let rounds = std::env::args().nth(1).and_then(|word| word.parse().ok()).unwrap_or(15);
+    let (mut rounds, mut svg, mut words) = (15, None, std::env::args().skip(1));
+    while let Some(word) = words.next() {
+        match word.as_str() {
+            "--svg" => svg = words.next(),
+            _ => rounds = word.parse().expect("bench [--svg FILE] [ROUNDS]"),
+        }
+    }
     println!("{}\n\nMachine: {}. {rounds} rounds, D = {D}.", method(), machine());
     for (n, own) in [(3, 1), (15, 4)] {
         let script = script::script(SIZE, n, D, own);
         let settings = (n.into(), D.into(), own.into());
         measure::round(&script, settings);
-        let measured: Vec<Round> = (0..rounds).map(|_| measure::round(&script, settings)).collect();
+        let measured: Vec<_> = (0..rounds).map(|_| measure::round(&script, settings)).collect();
         by_filling(n, &script, &measured);
         by_kind(n, &script, settings, rounds);
+        if let Some(path) = svg.take() {
+            let middles = std::array::from_fn(|part| middles(measured.iter().map(|r| r[part])));
+            std::fs::write(path, plot::svg(n, SIZE.statements(), &middles)).expect("a file");
+        }
     }
 }
 
@@ -58,23 +83,25 @@ fn spread(mut values: Vec<f64>) -> (f64, f64, f64) {
     (at(0.5), at(0.25), at(0.75))
 }
 
-fn middle(values: Vec<f64>) -> f64 {
-    spread(values).0
+/// The middle of each column.
+fn middles(rounds: impl Iterator<Item = Times>) -> Times {
+    let rounds: Vec<Times> = rounds.collect();
+    std::array::from_fn(|column| spread(rounds.iter().map(|times| times[column]).collect()).0)
 }
 
 /// A ratio with its spread.
-fn ratio(values: Vec<f64>) -> String {
-    let (middle, low, high) = spread(values);
+fn ratio(rounds: &[Times], of: fn(&Times) -> f64) -> String {
+    let (middle, low, high) = spread(rounds.iter().map(of).collect());
     format!("{middle:.2} ({low:.2}–{high:.2})")
 }
 
 /// A table over the filling of the tables, with a last line for the whole script.
-fn by_filling(n: u8, script: &[Input], rounds: &[Round]) {
+fn by_filling(n: u8, script: &[Input], rounds: &[[Times; PARTS]]) {
     println!("\n### n = {n}: {} inputs, by how full the tables are\n", script.len());
     println!(
-        "| statements held | proved, ns | of it the check | second, ns | ratio | without the check |"
+        "| statements held | proved, ns | of it the check | lent, ns | with the check | second, ns | without the check |"
     );
-    println!("|---|---|---|---|---|---|");
+    println!("|---|---|---|---|---|---|---|");
     let room = SIZE.statements() / PARTS;
     for part in 0..PARTS {
         let title = format!("{} to {}", part * room, (part + 1) * room - 1);
@@ -89,22 +116,21 @@ fn by_filling(n: u8, script: &[Input], rounds: &[Round]) {
 }
 
 /// A line for parts of the script, weighted.
-fn line(title: &str, weights: [f64; PARTS], rounds: &[Round]) {
-    let of = |times: fn(&Round) -> &[f64; PARTS]| -> Vec<f64> {
-        let total = |round| times(round).iter().zip(weights).map(|(time, weight)| time * weight);
-        rounds.iter().map(|round| total(round).sum()).collect()
+fn line(title: &str, weights: [f64; PARTS], rounds: &[[Times; PARTS]]) {
+    let whole = |parts: &[Times; PARTS]| -> Times {
+        let total = |column: usize| parts.iter().zip(weights).map(move |(t, w)| t[column] * w);
+        std::array::from_fn(|column| total(column).sum())
     };
-    let (proved, check, second) = (of(|r| &r.proved), of(|r| &r.check), of(|r| &r.second));
-    let whole = proved.iter().zip(&second).map(|(proved, second)| proved / second).collect();
-    let bare = proved.iter().zip(&check).map(|(proved, check)| proved - check);
-    let bare = bare.zip(&second).map(|(bare, second)| bare / second).collect();
+    let rounds: Vec<Times> = rounds.iter().map(whole).collect();
+    let middle = middles(rounds.iter().copied());
     println!(
-        "| {title} | {:.0} | {:.0} | {:.0} | {} | {} |",
-        middle(proved.clone()),
-        middle(check.clone()),
-        middle(second.clone()),
-        ratio(whole),
-        ratio(bare)
+        "| {title} | {:.0} | {:.0} | {:.0} | {} | {:.0} | {} |",
+        middle[PROVED],
+        middle[CHECK],
+        middle[LENT],
+        ratio(&rounds, with_check),
+        middle[SECOND],
+        ratio(&rounds, without_check)
     );
 }
 
@@ -112,13 +138,20 @@ fn line(title: &str, weights: [f64; PARTS], rounds: &[Round]) {
 fn by_kind(n: u8, script: &[Input], settings: Settings, rounds: usize) {
     println!("\n### n = {n}: by kind of input\n");
     println!(
-        "| input | how many | proved, ns | of it the check | second, ns | without the check |"
+        "| input | how many | proved, ns | of it the check | lent, ns | with the check | second, ns | without the check |"
     );
-    println!("|---|---|---|---|---|---|");
+    println!("|---|---|---|---|---|---|---|---|");
     let measured = measure::kinds(script, settings, 3 * rounds);
-    for ((kind, title), [proved, check, second]) in Kind::ALL.into_iter().zip(measured) {
+    for ((kind, title), times) in Kind::ALL.into_iter().zip(measured) {
         let count = script.iter().filter(|input| input.kind == kind).count();
-        let bare = (proved - check) / second;
-        println!("| {title} | {count} | {proved:.0} | {check:.0} | {second:.0} | {bare:.2} |");
+        println!(
+            "| {title} | {count} | {:.0} | {:.0} | {:.0} | {:.2} | {:.0} | {:.2} |",
+            times[PROVED],
+            times[CHECK],
+            times[LENT],
+            with_check(&times),
+            times[SECOND],
+            without_check(&times)
+        );
     }
 }

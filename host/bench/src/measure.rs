@@ -1,7 +1,7 @@
 //! Times of a script, by how full the tables were and by kind of input.
 
-use bench::script::{Call, Input, Kind};
-use programs::{Answer, Program, Proved, Second};
+use bench::script::{Input, Kind};
+use programs::{Lent, Program, Proved, Second};
 use station::Size;
 use std::hint::black_box;
 use std::time::Instant;
@@ -17,47 +17,85 @@ pub fn part(input: &Input) -> usize {
     (input.statements * PARTS / SIZE.statements()).min(PARTS - 1)
 }
 
-/// How many inputs are timed together, and how often in a round. The least time counts: others who
-/// use the machine can only make it longer.
-const TOGETHER: usize = 24;
+/// How often the script is run in a round. The least time of an input counts: others who use the machine can only make it
+/// longer.
 const RUNS: usize = 5;
 
-/// ns per input of one round, for each part of the filling.
-#[derive(Clone, Copy, Debug, Default)]
-pub struct Round {
-    pub proved: [f64; PARTS],
-    /// The check of the store alone.
-    pub check: [f64; PARTS],
-    pub second: [f64; PARTS],
+/// What is measured: the proved station, the check of its store alone, the station over a lent store in plain Rust, the
+/// second program.
+pub const COLUMNS: usize = 4;
+pub const PROVED: usize = 0;
+pub const CHECK: usize = 1;
+pub const LENT: usize = 2;
+pub const SECOND: usize = 3;
+
+/// ns per input, by column.
+pub type Times = [f64; COLUMNS];
+
+/// With the check: the proved station's time over that of the station over a lent store in plain Rust.
+pub fn with_check(times: &Times) -> f64 {
+    times[PROVED] / times[LENT]
+}
+
+/// Without it: what is left of the proved station's time over the second program's.
+pub fn without_check(times: &Times) -> f64 {
+    (times[PROVED] - times[CHECK]) / times[SECOND]
 }
 
 /// A script's settings: n, D and the own number.
 pub type Settings = (u64, u64, u64);
 
-fn call<'a, P: Program>(program: &'a mut P, call: &Call) -> Answer<'a> {
-    match call {
-        Call::Tick => program.tick(),
-        Call::Step(message) => program.step(message),
-        Call::Offer(name) => program.offer(name),
-    }
+/// One round: the programs one after the other, so that what slows the machine slows all of them. The times of each part
+/// of the filling.
+pub fn round(script: &[Input], settings: Settings) -> [Times; PARTS] {
+    let least = least(script, settings, RUNS);
+    std::array::from_fn(|filling| middle(script, &least, |input| part(input) == filling))
 }
 
-/// One round: both programs, and the proved one with a message that is refused after the check in
-/// front of each input. One after the other, so that what slows the machine slows all of them.
-pub fn round(script: &[Input], settings: Settings) -> Round {
-    let stretches = script.len().div_ceil(TOGETHER);
-    let mut least = vec![[f64::MAX; 3]; stretches];
-    for _ in 0..RUNS {
-        let proved = run::<Proved>(script, settings, false);
-        let second = run::<Second>(script, settings, false);
-        let twice = run::<Proved>(script, settings, true);
+/// ns per input of each kind, over the whole script.
+pub fn kinds(script: &[Input], settings: Settings, runs: usize) -> [Times; Kind::ALL.len()] {
+    let least = least(script, settings, runs);
+    Kind::ALL.map(|(kind, _)| middle(script, &least, |input| input.kind == kind))
+}
+
+/// The least time of each input over some runs, without the time of looking at the clock.
+fn least(script: &[Input], settings: Settings, runs: usize) -> Vec<Times> {
+    let mut least = vec![[f64::MAX; COLUMNS]; script.len()];
+    for _ in 0..runs {
+        let mut checks = Vec::with_capacity(script.len());
+        let proved = each(script, settings, |program, input| checks.push(check(program, input)));
+        let lent = each(script, settings, |_: &mut Lent, _| ());
+        let second = each(script, settings, |_: &mut Second, _| ());
         for (place, least) in least.iter_mut().enumerate() {
-            lessen(least, [proved[place], second[place], twice[place]]);
+            lessen(least, [proved[place], checks[place], lent[place], second[place]]);
         }
     }
-    let [proved, second, twice] = by_part(script, &least);
-    let check = std::array::from_fn(|part| twice[part] - proved[part]);
-    Round { proved, check, second }
+    let nothing = (0..1000).map(|_| timed(|| ())).fold(f64::MAX, f64::min);
+    least.into_iter().map(|times| times.map(|time| time - nothing)).collect()
+}
+
+/// The time of the check alone: of a call that is refused right after it, a message of no bytes, or for a tick a tick of the
+/// same station, stopped. Another such call comes before.
+fn check(program: &mut Proved, input: &Input) -> f64 {
+    if input.kind == Kind::Tick {
+        let mut stopped = program.stopped();
+        black_box(stopped.tick().number);
+        return timed(|| stopped.tick().number);
+    }
+    black_box(program.step(&[]).number);
+    timed(|| program.step(&[]).number)
+}
+
+/// The times per input of some of the inputs.
+fn middle(script: &[Input], least: &[Times], counts: impl Fn(&Input) -> bool) -> Times {
+    let (mut times, mut inputs) = ([0.0; COLUMNS], 0.0);
+    for (_, least) in script.iter().zip(least).filter(|(input, _)| counts(input)) {
+        inputs += 1.0;
+        for (times, ns) in times.iter_mut().zip(least) {
+            *times += ns;
+        }
+    }
+    times.map(|time| time / inputs)
 }
 
 /// The lesser of each two.
@@ -67,64 +105,24 @@ fn lessen<const N: usize>(least: &mut [f64; N], times: [f64; N]) {
     }
 }
 
-/// ns of each stretch of inputs.
-fn run<P: Program>(script: &[Input], settings: Settings, refused: bool) -> Vec<f64> {
-    let mut program = P::fresh(SIZE, settings.0, settings.1, settings.2).expect("good settings");
-    let mut times = Vec::with_capacity(script.len() / TOGETHER + 1);
-    for stretch in script.chunks(TOGETHER) {
-        times.push(timed(|| {
-            for input in stretch {
-                if refused {
-                    black_box(program.step(&[]).number);
-                }
-                black_box(call(&mut program, &input.call).number);
-            }
-        }));
-    }
-    times
+fn fresh<P: Program>(settings: Settings) -> P {
+    P::fresh(SIZE, settings.0, settings.1, settings.2).expect("good settings")
 }
 
-/// ns per input of each part, from those of each stretch, which counts where it begins.
-fn by_part(script: &[Input], stretches: &[[f64; 3]]) -> [[f64; PARTS]; 3] {
-    let (mut times, mut inputs) = ([[0.0; PARTS]; 3], [0.0; PARTS]);
-    for (stretch, ns) in script.chunks(TOGETHER).zip(stretches) {
-        let part = part(&stretch[0]);
-        inputs[part] += stretch.len() as f64;
-        for (times, ns) in times.iter_mut().zip(ns) {
-            times[part] += ns;
-        }
-    }
-    times.map(|times| std::array::from_fn(|part| times[part] / inputs[part]))
-}
-
-/// ns per input of each kind, over the whole script, without the time of looking at the clock: the
-/// proved station, the check of its store alone, the second program. Each input's least time counts.
-pub fn kinds(script: &[Input], settings: Settings, rounds: usize) -> [[f64; 3]; Kind::ALL.len()] {
-    let mut least = vec![[f64::MAX; 3]; script.len()];
-    for _ in 0..rounds {
-        each(script, settings, &mut least);
-    }
-    let nothing = (0..1000).map(|_| timed(|| ())).fold(f64::MAX, f64::min);
-    Kind::ALL.map(|(kind, _)| {
-        let of_kind = || script.iter().zip(&least).filter(|(input, _)| input.kind == kind);
-        let count = of_kind().count() as f64;
-        std::array::from_fn(|column| {
-            of_kind().map(|(_, times)| times[column] - nothing).sum::<f64>() / count
-        })
-    })
-}
-
-/// The times of each input by itself.
-fn each(script: &[Input], settings: Settings, least: &mut [[f64; 3]]) {
-    let fresh = "good settings";
-    let mut proved = Proved::fresh(SIZE, settings.0, settings.1, settings.2).expect(fresh);
-    let mut second = Second::fresh(SIZE, settings.0, settings.1, settings.2).expect(fresh);
-    for (input, least) in script.iter().zip(least) {
-        let check = timed(|| proved.step(&[]).number);
-        let whole = timed(|| call(&mut proved, &input.call).number);
-        let other = timed(|| call(&mut second, &input.call).number);
-        lessen(least, [whole, check, other]);
-    }
+/// The time of each input by itself. What is asked for comes before, then a message that is refused after the check, so that
+/// code and store are near to the processor.
+fn each<P: Program>(
+    script: &[Input],
+    settings: Settings,
+    mut before: impl FnMut(&mut P, &Input),
+) -> Vec<f64> {
+    let mut program = fresh::<P>(settings);
+    let times = script.iter().map(|input| {
+        before(&mut program, input);
+        black_box(program.step(&[]).number);
+        timed(|| input.call.give(&mut program).number)
+    });
+    times.collect()
 }
 
 fn timed<T>(deed: impl FnOnce() -> T) -> f64 {

@@ -2,6 +2,7 @@
 //! on and voted for by every other station, and a vote for a made-up name with each. It ends with
 //! every record of both tables in use.
 
+use programs::{Answer, Program};
 use second::Station;
 use station::{GENESIS, Message, Name, Size};
 
@@ -37,6 +38,17 @@ pub enum Call {
     Tick,
     Step(Vec<u8>),
     Offer(Name),
+}
+
+impl Call {
+    /// Hands the input to a program.
+    pub fn give<'a, P: Program>(&self, program: &'a mut P) -> Answer<'a> {
+        match self {
+            Call::Tick => program.tick(),
+            Call::Step(message) => program.step(message),
+            Call::Offer(name) => program.offer(name),
+        }
+    }
 }
 
 /// An input, and how many statements the station held before it.
@@ -200,22 +212,21 @@ impl Writer {
 mod tests {
     use super::*;
 
-    /// The script fills both tables and the log, as `script` itself looks; both programs take it.
+    /// The script fills both tables and the log, as `script` itself looks; all programs take it.
     #[test]
-    fn both_programs_take_it() {
-        use programs::{Program, Proved, Second};
+    fn all_programs_take_it() {
+        use programs::{Lent, Proved, Second};
         for (size, n, own) in [(Size::Small, 3, 1), (Size::Small, 15, 4), (Size::Large, 3, 1)] {
             let mut proved = Proved::fresh(size, n.into(), 2, own.into()).unwrap();
+            let mut lent = Lent::fresh(size, n.into(), 2, own.into()).unwrap();
             let mut second = Second::fresh(size, n.into(), 2, own.into()).unwrap();
-            for input in script(size, n, 2, own) {
-                let answers = match &input.call {
-                    Call::Tick => (proved.tick(), second.tick()),
-                    Call::Step(message) => (proved.step(message), second.step(message)),
-                    Call::Offer(name) => (proved.offer(name), second.offer(name)),
-                };
-                assert_eq!(answers.0, answers.1);
+            for Input { call, .. } in script(size, n, 2, own) {
+                let answer = call.give(&mut proved);
+                assert_eq!(answer, call.give(&mut second));
+                assert_eq!(answer, call.give(&mut lent));
             }
             assert_eq!(proved.shown(), second.shown());
+            assert_eq!(proved.station().store(), lent.store());
         }
     }
 }

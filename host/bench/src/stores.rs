@@ -1,6 +1,6 @@
 //! Well-formed stores to check: of one view, as full as asked, friendly and hostile to a check that looks records up.
 
-use crate::plain::chain;
+use lent::check::chain;
 use station::Size;
 use station::size::{HEADER as STATEMENTS, NAME, STATEMENT, TALLY};
 

@@ -1,6 +1,7 @@
-//! The two programs side by side.
+//! The two programs side by side, and the plain engine beside them.
 
 use crate::Met;
+use crate::referee::Referee;
 use programs::{Answer, Program, Second, shown};
 use second::replay::Input;
 use station::{Effect, Effects, GENESIS, Size};
@@ -11,17 +12,31 @@ pub struct Pair<P> {
     size: Size,
     tested: Option<P>,
     second: Option<Second>,
+    referee: Referee,
     /// Inputs so far.
     taken: usize,
 }
 
 impl<P: Program> Pair<P> {
     pub fn new(size: Size) -> Pair<P> {
-        Pair { size, tested: None, second: None, taken: 0 }
+        Pair::judged(size, 0)
+    }
+
+    /// A pair with a plain engine that has room for so many inputs of each fresh start. It has the small
+    /// limits, so that it judges stations with these alone.
+    pub fn judged(size: Size, room: usize) -> Pair<P> {
+        let referee = Referee::new(if size == Size::Small { room } else { 0 });
+        Pair { size, tested: None, second: None, referee, taken: 0 }
     }
 
     pub fn second(&self) -> Option<&second::Station> {
         self.second.as_ref().map(Second::station)
+    }
+
+    /// Compares the plain engine's log before its list is given up: when it is full, and at a run's end.
+    pub fn end(&self) -> Result<(), String> {
+        let log = self.second.as_ref().map(Second::log);
+        self.referee.compare_log(&log.unwrap_or_default())
     }
 
     /// Takes an input to both; or how they differ.
@@ -47,21 +62,25 @@ impl<P: Program> Pair<P> {
             return Err(format!("{} answers {got}, second {wanted}", P::TITLE));
         }
         met.count(wanted);
+        met.judged += u64::from(self.referee.is_there());
+        self.referee.take(input, wanted)?;
         same_state(self.size, tested, second)?;
-        ask(tested, second, self.taken)
+        ask(tested, second, self.taken)?;
+        if self.referee.is_full() { self.end() } else { Ok(()) }
     }
 
     fn fresh(&mut self, n: u64, d: u64, own: u64, met: &mut Met) -> Result<(), String> {
+        self.end()?;
         match (P::fresh(self.size, n, d, own), Second::fresh(self.size, n, d, own)) {
             (Ok(tested), Ok(second)) => {
                 met.numbers[0] += 1;
                 same_state(self.size, &tested, &second)?;
                 (self.tested, self.second) = (Some(tested), Some(second));
-                Ok(())
+                self.referee.fresh(n, d, own, 0)
             }
             (Err(got), Err(wanted)) if got == wanted => {
                 met.numbers[wanted as usize] += 1;
-                Ok(())
+                self.referee.fresh(n, d, own, wanted)
             }
             (got, wanted) => {
                 let number = |fresh: Option<u32>| fresh.unwrap_or(0);
@@ -137,7 +156,7 @@ fn same_clock<P: Program>(
 }
 
 /// An answer, short enough for a line.
-fn words(answer: Answer) -> String {
+pub(crate) fn words(answer: Answer) -> String {
     let hex: String = answer.out.iter().map(|byte| format!("{byte:02x}")).collect();
     match answer.number {
         0 if hex.is_empty() => "0, nothing".into(),

@@ -312,13 +312,14 @@ fn bad_settings() -> Vec<Input> {
 #[cfg(test)]
 mod tests {
     use super::*;
+    use crate::pair::Pair;
     use crate::{Met, run};
     use programs::Second;
 
     /// How often each number is answered in a run.
     fn numbers(size: Size, inputs: &[Input]) -> [u64; 13] {
         let mut met = Met::default();
-        assert_eq!(run::<Second>(size, Fixed::new(inputs), &mut met).1, None);
+        assert_eq!(run(Pair::<Second>::new(size), Fixed::new(inputs), &mut met).1, None);
         met.numbers
     }
 

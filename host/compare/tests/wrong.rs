@@ -1,5 +1,6 @@
 //! Wrong stations are found, and what is printed of them is short.
 
+use compare::pair::Pair;
 use compare::{Met, replay, run, shrink, sources::Scripted, text};
 use programs::{Answer, Program, Second};
 use station::{Effect, Effects, Lock, Name, Phase, Shown, Size};
@@ -90,9 +91,10 @@ impl<const HOW: u32> Program for Wrong<HOW> {
 fn found<P: Program>() -> String {
     for seed in 0..1000 {
         let size = Size::Small;
-        let (inputs, difference) = run::<P>(size, Scripted::new(size, seed), &mut Met::default());
+        let (inputs, difference) =
+            run(Pair::<P>::new(size), Scripted::new(size, seed), &mut Met::default());
         if difference.is_some() {
-            let fails = |inputs: &[_]| replay::<P>(size, inputs).map(|found| found.at);
+            let fails = |inputs: &[_]| replay(Pair::<P>::new(size), inputs).map(|found| found.at);
             let shrunk = shrink::shrink(inputs, fails);
             return text::write(&shrunk);
         }
@@ -146,7 +148,7 @@ fn the_second_program_is_like_itself() {
     for size in Size::ALL {
         let mut met = Met::default();
         for seed in 0..200 {
-            assert_eq!(run::<Second>(size, Scripted::new(size, seed), &mut met).1, None);
+            assert_eq!(run(Pair::<Second>::new(size), Scripted::new(size, seed), &mut met).1, None);
         }
         let never = [1, 2, 8];
         for (number, count) in met.numbers.iter().enumerate() {

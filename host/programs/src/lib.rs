@@ -1,15 +1,20 @@
-//! The proved station and the second program behind one trait, so that one test, one simulation and
-//! one benchmark runs either.
+//! The proved station, the second program and the station over a lent store in plain Rust behind one
+//! trait, so that one test, one simulation and one benchmark runs any of them; and the plain engine,
+//! which has no store to show.
 
 #![forbid(unsafe_code)]
 
 mod journals;
+mod lent_program;
+mod plain_engine;
 mod proved;
 mod second_program;
 pub mod shown;
 pub mod words;
 
 pub use journals::Journals;
+pub use lent_program::Lent;
+pub use plain_engine::PlainEngine;
 pub use proved::Proved;
 pub use second_program::{Second, limits};
 use station::{Lock, Name, Phase, Shown, Size};

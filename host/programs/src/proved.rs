@@ -8,7 +8,7 @@ pub struct Proved {
     station: Station,
 }
 
-fn answered(answer: Result<Effects<'_>, Refusal>) -> Answer<'_> {
+pub(crate) fn answered(answer: Result<Effects<'_>, Refusal>) -> Answer<'_> {
     match answer {
         Ok(effects) => Answer { number: 0, out: effects.bytes() },
         Err(refusal) => Answer { number: refusal.number(), out: &[] },
@@ -77,6 +77,13 @@ impl Proved {
     /// Goes on as another station.
     pub(crate) fn take_up(&mut self, station: Station) {
         self.station = station;
+    }
+
+    /// The same station, stopped: each call of it is refused right after the check of its store.
+    pub fn stopped(&self) -> Proved {
+        let mut store = self.station.store().to_vec();
+        store[..4].copy_from_slice(&1_u32.to_be_bytes());
+        Proved { station: Station::from_store(&store).expect("well formed, whatever the phase") }
     }
 
     /// An offer of a name of another length, which `Station` has no type for.

@@ -25,7 +25,7 @@ pub struct Told {
 pub fn bytes(input: &[u8]) -> Vec<u8> {
     let digits: Vec<u8> =
         input.iter().copied().filter(|byte| !byte.is_ascii_whitespace()).collect();
-    let is_hex = digits.len() % 2 == 0 && digits.iter().all(u8::is_ascii_hexdigit);
+    let is_hex = digits.len().is_multiple_of(2) && digits.iter().all(u8::is_ascii_hexdigit);
     if !is_hex {
         return input.to_vec();
     }

@@ -3,7 +3,7 @@
 //! The calls answer every length and every content, and write to nothing but the slices that they are
 //! lent to write. A result is the refusal's number times 2^32, plus a count: see
 //! [`answer`](crate::answer). For hosts that keep their own buffers; others use
-//! [`Station`](crate::Station) and [`Journal`](crate::Journal).
+//! [`Station`](crate::Station), [`Journal`](crate::Journal) and [`Plain`](crate::Plain).
 
 #![allow(unsafe_code)]
 
@@ -97,6 +97,25 @@ mod declared {
             out: *mut u8,
             out_len: usize,
         ) -> u64;
+        pub fn plain_fresh(list: *mut u8, list_len: usize, n: u64, d: u64, own: u64) -> u64;
+        pub fn plain_step(
+            list: *mut u8,
+            list_len: usize,
+            message: *const u8,
+            message_len: usize,
+            out: *mut u8,
+            out_len: usize,
+        ) -> u64;
+        pub fn plain_tick(list: *mut u8, list_len: usize, out: *mut u8, out_len: usize) -> u64;
+        pub fn plain_offer(
+            list: *mut u8,
+            list_len: usize,
+            name: *const u8,
+            name_len: usize,
+            out: *mut u8,
+            out_len: usize,
+        ) -> u64;
+        pub fn plain_log(list: *const u8, list_len: usize, out: *mut u8, out_len: usize) -> u64;
     }
 }
 
@@ -250,4 +269,47 @@ pub fn envelope_write(bytes: &[u8], list: &[u8], out: &mut [u8]) -> u64 {
             out.len(),
         )
     }
+}
+
+/// A fresh list for the plain engine.
+pub fn plain_fresh(list: &mut [u8], n: u64, d: u64, own: u64) -> u64 {
+    unsafe { declared::plain_fresh(list.as_mut_ptr(), list.len(), n, d, own) }
+}
+
+/// One message to the plain engine.
+pub fn plain_step(list: &mut [u8], message: &[u8], out: &mut [u8]) -> u64 {
+    unsafe {
+        declared::plain_step(
+            list.as_mut_ptr(),
+            list.len(),
+            message.as_ptr(),
+            message.len(),
+            out.as_mut_ptr(),
+            out.len(),
+        )
+    }
+}
+
+/// One tick of the plain engine's clock.
+pub fn plain_tick(list: &mut [u8], out: &mut [u8]) -> u64 {
+    unsafe { declared::plain_tick(list.as_mut_ptr(), list.len(), out.as_mut_ptr(), out.len()) }
+}
+
+/// The offer of a block name to the plain engine.
+pub fn plain_offer(list: &mut [u8], name: &[u8], out: &mut [u8]) -> u64 {
+    unsafe {
+        declared::plain_offer(
+            list.as_mut_ptr(),
+            list.len(),
+            name.as_ptr(),
+            name.len(),
+            out.as_mut_ptr(),
+            out.len(),
+        )
+    }
+}
+
+/// The names of the plain engine's log, which leaves the list as it is.
+pub fn plain_log(list: &[u8], out: &mut [u8]) -> u64 {
+    unsafe { declared::plain_log(list.as_ptr(), list.len(), out.as_mut_ptr(), out.len()) }
 }

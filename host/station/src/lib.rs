@@ -4,6 +4,7 @@
 //! it committed. It does no input or output of its own. The station itself is the proved archive
 //! behind the calls in [`ffi`]; this crate owns the buffers and gives bytes their types. A [`Kept`]
 //! station has each input in a [`Journal`] on the disk before its effects are given back.
+//! A [`Plain`] engine keeps all its inputs in place of a store: a referee to hold a station to.
 //! docs/HOST.md says what a host must do, and what it may rely on.
 //!
 //! ```
@@ -33,6 +34,7 @@ pub mod ffi;
 mod journal;
 mod kept;
 mod message;
+mod plain;
 mod refusal;
 mod report;
 pub mod size;
@@ -48,6 +50,7 @@ pub use failure::Failure;
 pub use journal::{Journal, Report};
 pub use kept::Kept;
 pub use message::{GENESIS, Message, Name};
+pub use plain::Plain;
 pub use refusal::{Refusal, answer};
 pub use report::choose;
 pub use size::Size;

@@ -16,9 +16,9 @@ use std::fmt;
 #[derive(Clone, Copy, Debug, PartialEq, Eq, Hash)]
 #[repr(u32)]
 pub enum Refusal {
-    /// Store of neither length, offered name not 32 bytes, or out buffer too short.
+    /// Store of neither length, list of no good length, offered name not 32 bytes, or out buffer too short.
     Length = 1,
-    /// Store not well formed.
+    /// Store, or list, not well formed.
     Store = 2,
     /// Already stopped.
     Stopped = 3,
@@ -40,7 +40,7 @@ pub enum Refusal {
     Ahead = 11,
     /// A vote that would open a tally, by an author who has opened as many as one may.
     UsedUp = 12,
-    /// No blank slot left in the journal, or a slot that replay can't read past.
+    /// No blank slot left in the journal or the list, or a slot that replay can't read past.
     Journal = 13,
     /// No good relay envelope, or one that can't be made.
     Envelope = 14,
@@ -87,7 +87,7 @@ impl Refusal {
     fn reason(self) -> &'static str {
         match self {
             Refusal::Length => "a buffer or a name is not of its length",
-            Refusal::Store => "the store is not well formed",
+            Refusal::Store => "the store or list is not well formed",
             Refusal::Stopped => "the station is stopped for good",
             Refusal::Unreadable => "the message can't be read",
             Refusal::NotAllowed => "the message is not allowed in this group",
@@ -98,7 +98,7 @@ impl Refusal {
             Refusal::Settings => "the settings are bad",
             Refusal::Ahead => "the message is more than one view ahead",
             Refusal::UsedUp => "the vote's author has opened as many tallies as one may",
-            Refusal::Journal => "the journal has no blank slot, or one that can't be read",
+            Refusal::Journal => "the journal or list has no blank slot, or one that can't be read",
             Refusal::Envelope => "it is no good envelope, or none can be made of these messages",
             Refusal::Slip => "the bytes are no slip, or the block is not logged",
         }
@@ -108,7 +108,7 @@ impl Refusal {
     pub fn advice(self) -> &'static str {
         match self {
             Refusal::Length => {
-                "lend a store and an out buffer of the lengths of one `Size`, and a name of 32 bytes"
+                "lend a store and an out buffer of the lengths of one `Size`, a list with room for 1 to 2^20 inputs, and a name of 32 bytes"
             }
             Refusal::Store => "replay the journal: the store was damaged, or is of something else",
             Refusal::Stopped => "read its log; it counts among the f faulty and takes no input",

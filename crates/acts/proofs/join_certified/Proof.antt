@@ -1,13 +1,12 @@
 -- `acts::join_certified` meets its contract. Assumes nothing.
 use Rattle.acts.proofs.Plans.{certified-block}
-use Rattle.store.proofs.Joining.{certificate-joins, certified-some, certified-none}
+use Rattle.joining.proofs.Joining.{certificate-joins, certified-some, certified-none}
 use Rattle.words.specs.Meaning.{blockOf}
 use Rattle.store.specs.Decode.{tallies, stateOf}
 use mathlib.Core.Path.{_∙_}
 use Rattle.rules.specs.Words.{moment}
 use borrow.Author.Needs.{needs}
-use Rattle.store.specs.Changes.{withVoters}
-use Rattle.store.specs.Meaning.{votersOf, authorOf}
+use Rattle.tallies.specs.Meaning.{withVoters, votersOf, authorOf}
 use Rattle.acts.proofs.join_certified.Statement.{statement}
 use Rattle.acts.proofs.join_certified.Tie as tie
 

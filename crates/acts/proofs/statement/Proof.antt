@@ -8,7 +8,7 @@ use Rattle.acts.specs.Answers.{answered}
 use Rattle.acts.specs.declared.Plan.the-variants.{Repeat, New, Full}
 use Rattle.kept.proofs.Facts.{clocks-of}
 use Rattle.kept.proofs.Tables.{stored-formed}
-use Rattle.rules.proofs.Tests.{no-bool}
+use Rattle.laws.proofs.Tests.{no-bool}
 use Rattle.store.proofs.Loaded.{loaded-statements}
 use native.Mathlib.Omega.{arith}
 use Rattle.store.proofs.Forms.{form-long}

@@ -1,6 +1,6 @@
 -- `acts::store_new` meets its contract. Assumes nothing.
 use Rattle.acts.proofs.Statements.{certificate-fits, certificate-found, certified-clock, own-fits, own-found, one-more-fits, new-stored}
-use Rattle.store.specs.Changes.{withVoters}
+use Rattle.tallies.specs.Meaning.{withVoters}
 use Rattle.acts.proofs.Places.{voter-block, sendable-certifies}
 use Rattle.rules.specs.Words.{ownBlock}
 use Rattle.store.specs.Decode.{stateOf}

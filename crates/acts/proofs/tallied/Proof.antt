@@ -8,7 +8,7 @@ use native.Mathlib.Omega.{arith}
 use Prim.Native.Nat.{_+_}
 use mathlib.Core.Path.{ap₂}
 use borrow.Author.Needs.{needs}
-use Rattle.store.specs.Meaning.{votersOf, authorOf}
+use Rattle.tallies.specs.Meaning.{votersOf, authorOf}
 use Rattle.acts.proofs.tallied.Statement.{statement}
 use Rattle.acts.proofs.tallied.Tie as tie
 

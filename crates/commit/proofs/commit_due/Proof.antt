@@ -9,47 +9,47 @@ use borrow.Author.Needs.{needs}
 use Rattle.store.specs.Decode.{statementAt}
 use Rattle.store.proofs.Forms.{form-long, form-statements}
 use Rattle.commit.specs.Chains.{isRipe}
-use Rattle.commit.proofs.Readers.{height-of}
-use Rattle.commit.proofs.Course.{Course, Turn, ripe-propose, course-start, course-end, course-not, course-high, course-settled, turn-broken, turn-whole, turn-grown, turn-differs}
+use Rattle.commit.proofs.Course.{Course, Turn, ripe-propose, course-start, course-end, course-not, course-told, course-high, course-settled, turn-broken, turn-whole, turn-grown, turn-differs}
 use Rattle.commit.proofs.commit_due.Statement.{statement}
 use Rattle.commit.proofs.commit_due.Tie as tie
 
 abbrev Inv-loop : tie.InvT-loop
-Inv-loop store count logged view wait clock gained₀ chain₀ i₀ len₀ height₀ left₀ gained chain i len height left =
+Inv-loop store told count settled logged view wait clock gained₀ chain₀ i₀ len₀ height₀ left₀ gained chain i len height left =
     Course store (isRipe view wait clock) count i len gained chain height left
 
 abbrev μ-loop : tie.MeasureT-loop
-μ-loop store count logged view wait clock gained₀ chain₀ i₀ len₀ height₀ left₀ gained chain i len height left =
+μ-loop store told count settled logged view wait clock gained₀ chain₀ i₀ len₀ height₀ left₀ gained chain i len height left =
     i
 
 -- statement i - 1 is due
 due : (c : tie.Else2 Inv-loop μ-loop)
-    → isRipe (c .before .before .before .before .before .before .before .args .view) (c .before .before .before .before .before .before .before .args .wait) (c .before .before .before .before .before .before .before .args .clock) (statementAt (c .before .before .before .before .before .before .before .args .store .now) (c .before .before .before .loop .i - 1)) ≡ true
+    → isRipe (c .before .before .before .before .before .before .before .before .args .view) (c .before .before .before .before .before .before .before .before .args .wait) (c .before .before .before .before .before .before .before .before .args .clock) (statementAt (c .before .before .before .before .before .before .before .before .args .store .now) (c .before .before .before .loop .i - 1)) ≡ true
 due c =
     sym (c .before .is-due .ensures) ∙ not-false _ (c .if2 .left)
 
 -- its chain was walked
 turn : (c : tie.After-slice-known3 Inv-loop μ-loop)
-    → Turn (c .before .before .before .before .before .before .before .before .before .before .before .before .before .before .before .before .before .args .store .now) (isRipe (c .before .before .before .before .before .before .before .before .before .before .before .before .before .before .before .before .before .args .view) (c .before .before .before .before .before .before .before .before .before .before .before .before .before .before .before .before .before .args .wait) (c .before .before .before .before .before .before .before .before .before .before .before .before .before .before .before .before .before .args .clock)) (c .before .before .before .before .before .before .before .before .before .before .before .before .before .before .before .before .before .args .count) (c .before .before .before .before .before .before .before .before .before .before .before .before .before .loop .i) (c .before .before .before .before .before .before .before .before .before .before .before .before .before .loop .len) (c .before .before .before .before .before .before .before .before .before .before .before .before .before .loop .gained)
-    (c .before .before .walk .last .1 .1 .1 .0) (c .before .before .walk .result) (c .before .before .before .before .before .before .before .before .before .statement-at .result .height)
+    → Turn (c .before .before .before .before .before .before .before .before .before .before .before .before .before .before .before .before .before .before .before .args .store .now) (isRipe (c .before .before .before .before .before .before .before .before .before .before .before .before .before .before .before .before .before .before .before .args .view) (c .before .before .before .before .before .before .before .before .before .before .before .before .before .before .before .before .before .before .before .args .wait) (c .before .before .before .before .before .before .before .before .before .before .before .before .before .before .before .before .before .before .before .args .clock)) (c .before .before .before .before .before .before .before .before .before .before .before .before .before .before .before .before .before .before .before .args .count) (c .before .before .before .before .before .before .before .before .before .before .before .before .before .before .loop .i) (c .before .before .before .before .before .before .before .before .before .before .before .before .before .before .loop .len) (c .before .before .before .before .before .before .before .before .before .before .before .before .before .before .loop .gained)
+    (c .before .before .walk .last .1 .1 .1 .1 .0) (c .before .before .walk .result .left) (c .before .before .before .before .before .before .before .before .height-at .result)
 turn c =
-    let begun = c .before .before .before .before .before .before .before .before .before .before .before .before .before .before .before .before .before .pre in
-    let course = c .before .before .before .before .before .before .before .before .before .before .before .before .before .loop .inv in
+    let begun = c .before .before .before .before .before .before .before .before .before .before .before .before .before .before .before .before .before .before .before .pre .0 in
+    let course = c .before .before .before .before .before .before .before .before .before .before .before .before .before .before .loop .inv in
     record {
       up = course .up;
       log = course .log;
       long = course .long;
-      pos = omega (arith, c .before .before .before .before .before .before .before .before .before .before .before .before .if1 .left);
-      due = due (c .before .before .before .before .before .before .before .before .before .before);
-      tall = height-of _ _ _ (c .before .before .before .before .before .before .before .before .before .statement-at .ensures);
-      high = omega (arith, c .before .before .before .before .before .before .before .if3 .left, begun .all, form-statements _ (begun .form));
-      walked = c .before .before .walk .ensures;
-      whole = omega (arith, c .before .before .walk .kept .1 .1 .1 .0, course .chained .long);
+      pos = omega (arith, c .before .before .before .before .before .before .before .before .before .before .before .before .before .if1 .left);
+      due = due (c .before .before .before .before .before .before .before .before .before .before .before);
+      tall = c .before .before .before .before .before .before .before .before .height-at .ensures;
+      high = omega (arith, c .before .before .before .before .before .before .before .if4 .left, begun .all, form-statements _ (begun .form));
+      walked = c .before .before .walk .ensures .from;
+      whole = omega (arith, c .before .before .walk .kept .1 .1 .1 .1 .0, course .chained .long);
     }
 
 loop-holds : tie.Need-loop-holds Inv-loop μ-loop
 loop-holds c =
-    course-start _ (c .before .before .before .pre)
+    let pre = c .before .before .before .before .pre in
+    course-start _ _ (pre .0 .form) (pre .1) (pre .3) (pre .4)
 
 sub-i : tie.Need-sub-i Inv-loop μ-loop
 sub-i c =
@@ -57,7 +57,7 @@ sub-i c =
 
 is-due-requires : tie.Need-is-due-requires Inv-loop μ-loop
 is-due-requires c κs =
-    let begun = c .before .before .before .before .before .pre in
+    let begun = c .before .before .before .before .before .before .pre .0 in
     (form-long _ (begun .form), omega (arith, c .before .loop .inv .up, begun .all, form-statements _ (begun .form)), begun .short)
 
 loop-less : tie.Need-loop-less Inv-loop μ-loop
@@ -68,13 +68,11 @@ loop-again : tie.Need-loop-again Inv-loop μ-loop
 loop-again c =
     course-not (c .before .before .before .loop .inv) (omega arith) (sym (c .before .is-due .ensures) ∙ not-true _ (c .if2 .taken))
 
-statement-at-requires : tie.Need-statement-at-requires Inv-loop μ-loop
-statement-at-requires c κs =
-    let begun = c .before .before .before .before .before .before .before .pre in
-    (form-long _ (begun .form), omega (arith, c .before .before .before .loop .inv .up, begun .all, form-statements _ (begun .form)))
-
-cast-own : tie.Need-cast-own Inv-loop μ-loop
-cast-own c = search needs
+is-told-requires : tie.Need-is-told-requires Inv-loop μ-loop
+is-told-requires c κs =
+    let begun = c .before .before .before .before .before .before .before .before .pre .0 in
+    let up = c .before .before .before .loop .inv .up in
+    (form-long _ (begun .form), omega (arith, up, begun .all, form-statements _ (begun .form)), begun .heights (c .before .before .before .loop .i - 1) (omega (arith, up)) (ripe-propose _ _ _ _ (due c)), begun .tells .long)
 
 loop-less-2 : tie.Need-loop-less-2 Inv-loop μ-loop
 loop-less-2 c =
@@ -82,12 +80,15 @@ loop-less-2 c =
 
 loop-again-2 : tie.Need-loop-again-2 Inv-loop μ-loop
 loop-again-2 c =
-    course-high (c .before .before .before .before .before .before .loop .inv) (omega arith) (due (c .before .before .before)) (c .before .before .before .before .before .before .before .before .before .before .pre .all) (omega (arith, height-of _ _ _ (c .before .before .statement-at .ensures)))
+    course-told (c .before .before .before .before .before .loop .inv) (omega arith) (due (c .before .before)) (c .before .before .before .before .before .before .before .before .before .before .pre .0 .tells) (c .before .is-told .result) (c .before .is-told .ensures) (c .if3 .taken)
 
-is-settled-requires : tie.Need-is-settled-requires Inv-loop μ-loop
-is-settled-requires c κs =
-    let chained = c .before .before .before .before .before .before .before .loop .inv .chained in
-    omega (arith, chained .high, chained .long)
+height-at-requires : tie.Need-height-at-requires Inv-loop μ-loop
+height-at-requires c κs =
+    let begun = c .before .before .before .before .before .before .before .before .before .before .pre .0 in
+    (form-long _ (begun .form), omega (arith, c .before .before .before .before .before .loop .inv .up, begun .all, form-statements _ (begun .form)))
+
+cast-own : tie.Need-cast-own Inv-loop μ-loop
+cast-own c = search needs
 
 loop-less-3 : tie.Need-loop-less-3 Inv-loop μ-loop
 loop-less-3 c =
@@ -95,21 +96,12 @@ loop-less-3 c =
 
 loop-again-3 : tie.Need-loop-again-3 Inv-loop μ-loop
 loop-again-3 c =
-    course-settled (c .before .before .before .before .before .before .before .before .before .loop .inv) (omega arith) (due (c .before .before .before .before .before .before)) _ (c .before .is-settled .result) (c .before .is-settled .ensures) (c .if4 .taken)
+    course-high (c .before .before .before .before .before .before .before .loop .inv) (omega arith) (due (c .before .before .before .before)) (c .before .before .before .before .before .before .before .before .before .before .before .before .pre .0 .all) (omega (arith, c .before .height-at .ensures))
 
-walk-requires : tie.Need-walk-requires Inv-loop μ-loop
-walk-requires c κs =
-    let begun = c .before .before .before .before .before .before .before .before .before .before .before .before .before .before .pre in
-    let course = c .before .before .before .before .before .before .before .before .before .before .loop .inv in
-    let below : c .before .before .before .before .before .before .before .before .before .before .loop .i - 1 < c .before .before .before .before .before .before .before .before .before .before .before .before .before .before .args .count = omega (arith, course .up) in
-    let tall = height-of _ _ _ (c .before .before .before .before .before .before .statement-at .ensures) in (
-      begun .form,
-      begun .all,
-      below,
-      course .chained .long,
-      begun .heights _ below (ripe-propose _ _ _ _ (due (c .before .before .before .before .before .before .before))),
-      omega (arith, c .before .before .before .before .if3 .left, begun .all, form-statements _ (begun .form)),
-    )
+is-settled-requires : tie.Need-is-settled-requires Inv-loop μ-loop
+is-settled-requires c κs =
+    let chained = c .before .before .before .before .before .before .before .before .loop .inv .chained in
+    omega (arith, chained .high, chained .long)
 
 loop-less-4 : tie.Need-loop-less-4 Inv-loop μ-loop
 loop-less-4 c =
@@ -117,17 +109,22 @@ loop-less-4 c =
 
 loop-again-4 : tie.Need-loop-again-4 Inv-loop μ-loop
 loop-again-4 c =
-    turn-broken (turn (c .before)) (c .if5 .taken)
+    course-settled (c .before .before .before .before .before .before .before .before .before .before .loop .inv) (omega arith) (due (c .before .before .before .before .before .before .before)) _ (c .before .is-settled .result) (c .before .is-settled .ensures) (c .if5 .taken)
 
-join-requires : tie.Need-join-requires Inv-loop μ-loop
-join-requires c κs =
-    turn-whole (turn (c .before .before .before)) (c .before .before .if5 .left) (c .before .before .before .before .before .before .before .before .before .before .before .before .before .before .before .before .before .before .before .before .pre .form) (c .before .before .before .before .before .before .before .before .before .before .before .before .before .before .before .before .before .before .before .before .pre .old)
-
-enum-known-m : tie.Need-enum-known-m Inv-loop μ-loop
-enum-known-m c = search needs
-
-enum-told : tie.Need-enum-told Inv-loop μ-loop
-enum-told c = search needs
+walk-requires : tie.Need-walk-requires Inv-loop μ-loop
+walk-requires c κs =
+    let begun = c .before .before .before .before .before .before .before .before .before .before .before .before .before .before .before .before .pre .0 in
+    let course = c .before .before .before .before .before .before .before .before .before .before .before .loop .inv in
+    let below : c .before .before .before .before .before .before .before .before .before .before .before .loop .i - 1 < c .before .before .before .before .before .before .before .before .before .before .before .before .before .before .before .before .args .count = omega (arith, course .up) in
+    let tall = c .before .before .before .before .before .height-at .ensures in (
+      begun .form,
+      begun .tells,
+      begun .all,
+      below,
+      course .chained .long,
+      begun .heights _ below (ripe-propose _ _ _ _ (due (c .before .before .before .before .before .before .before .before))),
+      omega (arith, tall, c .before .before .before .before .if4 .left, begun .all, form-statements _ (begun .form)),
+    )
 
 loop-less-5 : tie.Need-loop-less-5 Inv-loop μ-loop
 loop-less-5 c =
@@ -135,33 +132,51 @@ loop-less-5 c =
 
 loop-again-5 : tie.Need-loop-again-5 Inv-loop μ-loop
 loop-again-5 c =
+    turn-broken (turn (c .before)) (c .if6 .taken)
+
+join-requires : tie.Need-join-requires Inv-loop μ-loop
+join-requires c κs =
+    (turn-whole (turn (c .before .before .before)) (c .before .before .if6 .left) (c .before .before .before .before .before .before .before .before .before .before .before .before .before .before .before .before .before .before .before .before .before .before .pre .0 .form) (c .before .before .before .before .before .before .before .before .before .before .before .before .before .before .before .before .before .before .before .before .before .before .pre .1), c .before .before .before .before .before .walk .ensures .lowest)
+
+enum-known-m : tie.Need-enum-known-m Inv-loop μ-loop
+enum-known-m c = search needs
+
+enum-told : tie.Need-enum-told Inv-loop μ-loop
+enum-told c = search needs
+
+loop-less-6 : tie.Need-loop-less-6 Inv-loop μ-loop
+loop-less-6 c =
+    omega arith
+
+loop-again-6 : tie.Need-loop-again-6 Inv-loop μ-loop
+loop-again-6 c =
     let join = c .before .before .before .before .before .join in
-    turn-grown (turn (c .before .before .before .before .before .before .before .before .before)) (c .before .before .before .before .before .before .before .before .if5 .left) _ (join .result) (join .ensures) (omega (arith, join .kept .1 .1 .1 .0, c .before .before .before .before .before .before .before .before .before .before .before .before .before .before .before .before .before .before .before .before .before .before .loop .inv .long)) _ (c .before .m .given .1)
+    turn-grown (turn (c .before .before .before .before .before .before .before .before .before)) (c .before .before .before .before .before .before .before .before .if6 .left) _ (join .result) (join .ensures) (omega (arith, join .kept .1 .1 .1 .0, c .before .before .before .before .before .before .before .before .before .before .before .before .before .before .before .before .before .before .before .before .before .before .before .loop .inv .long)) _ (c .before .m .given .1)
 
 same-length : tie.Need-same-length Inv-loop μ-loop
 same-length c =
-    omega (arith, c .before .loop .inv .long, c .before .before .before .before .before .pre .long)
+    omega (arith, c .before .loop .inv .long, c .before .before .before .before .before .before .pre .3)
 
 same-length-2 : tie.Need-same-length-2 Inv-loop μ-loop
 same-length-2 c =
-    omega (arith, c .before .loop .inv .chained .long, c .before .before .before .before .before .pre .whole)
+    omega (arith, c .before .loop .inv .chained .long, c .before .before .before .before .before .before .pre .4)
 
 returns : tie.Need-returns Inv-loop μ-loop
 returns c =
-    course-end (c .before .loop .inv) (c .before .before .before .before .before .pre .all) (c .if1 .taken)
+    course-end (c .before .before .before .before .before .before .pre .0 .tells) _ _ _ (c .before .loop .i) (c .before .before .before .before .before .before .args .settled) (c .before .before .before .before .before .before .pre .2) (c .before .loop .inv) (c .before .before .before .before .before .before .pre .0 .all) (c .if1 .taken)
 
 same-length-3 : tie.Need-same-length-3 Inv-loop μ-loop
 same-length-3 c =
-    omega (arith, c .before .before .before .before .join .kept .1 .1 .1 .0, c .before .before .before .before .before .before .before .before .before .before .before .before .before .before .before .before .before .before .before .before .before .loop .inv .long, c .before .before .before .before .before .before .before .before .before .before .before .before .before .before .before .before .before .before .before .before .before .before .before .before .before .pre .long)
+    omega (arith, c .before .before .before .before .join .kept .1 .1 .1 .0, c .before .before .before .before .before .before .before .before .before .before .before .before .before .before .before .before .before .before .before .before .before .before .loop .inv .long, c .before .before .before .before .before .before .before .before .before .before .before .before .before .before .before .before .before .before .before .before .before .before .before .before .before .before .before .pre .3)
 
 same-length-4 : tie.Need-same-length-4 Inv-loop μ-loop
 same-length-4 c =
-    omega (arith, c .before .before .before .before .before .before .before .before .before .before .walk .kept .1 .1 .1 .0, c .before .before .before .before .before .before .before .before .before .before .before .before .before .before .before .before .before .before .before .before .before .loop .inv .chained .long, c .before .before .before .before .before .before .before .before .before .before .before .before .before .before .before .before .before .before .before .before .before .before .before .before .before .pre .whole)
+    omega (arith, c .before .before .before .before .before .before .before .before .before .before .walk .kept .1 .1 .1 .1 .0, c .before .before .before .before .before .before .before .before .before .before .before .before .before .before .before .before .before .before .before .before .before .before .loop .inv .chained .long, c .before .before .before .before .before .before .before .before .before .before .before .before .before .before .before .before .before .before .before .before .before .before .before .before .before .before .before .pre .4)
 
 returns-2 : tie.Need-returns-2 Inv-loop μ-loop
 returns-2 c =
     let join = c .before .before .before .before .join in
-    turn-differs (turn (c .before .before .before .before .before .before .before .before)) (c .before .before .before .before .before .before .before .if5 .left) _ (join .result) (join .ensures) (c .before .before .before .before .before .before .before .before .before .before .before .before .before .before .before .before .before .before .before .before .before .before .before .before .before .pre .all) (c .enum-told .given .1)
+    turn-differs (turn (c .before .before .before .before .before .before .before .before)) (c .before .before .before .before .before .before .before .if6 .left) _ (join .result) (join .ensures) (c .before .before .before .before .before .before .before .before .before .before .before .before .before .before .before .before .before .before .before .before .before .before .before .before .before .before .before .pre .0 .all) (c .enum-told .given .1)
 
 pub commit-due-spec : {M : Type 1} → statement M
 commit-due-spec =
@@ -174,21 +189,24 @@ commit-due-spec =
     is-due-requires
     loop-less
     loop-again
-    statement-at-requires
-    cast-own
+    is-told-requires
     loop-less-2
     loop-again-2
-    is-settled-requires
+    height-at-requires
+    cast-own
     loop-less-3
     loop-again-3
-    walk-requires
+    is-settled-requires
     loop-less-4
     loop-again-4
+    walk-requires
+    loop-less-5
+    loop-again-5
     join-requires
     enum-known-m
     enum-told
-    loop-less-5
-    loop-again-5
+    loop-less-6
+    loop-again-6
     same-length
     same-length-2
     returns

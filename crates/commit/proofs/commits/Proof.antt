@@ -1,6 +1,6 @@
 -- `commit::commits` meets its contract. Assumes nothing.
-use Rattle.commit.proofs.Ticks.{tick-in, tick-out, gained-none, gained, heights, delay-is, delay-short}
-use Rattle.store.proofs.Loaded.{loaded-phase, loaded-view, loaded-clock, loaded-statements, loaded-logged}
+use Rattle.commit.proofs.Ticks.{tick-in, tick-out, gained-none, gained, begun, delay-is, delay-short}
+use Rattle.store.proofs.Loaded.{loaded-phase, loaded-view, loaded-clock, loaded-logged}
 use Rattle.store.proofs.Forms.{form-log}
 use Rattle.store.specs.Meaning.{courseOf}
 use Rattle.store.specs.declared.Phase.the-variants.{InView, Waiting, Stopped}
@@ -28,13 +28,13 @@ enum-told c = search needs
 
 returns : tie.Need-returns
 returns c =
-    let header = c .before .before .before .pre .2 in
-    gained-none _ _ _ (loaded-logged _ _ header) (form-log _ (c .before .before .before .pre .0) .1)
-    (tick-out _ (λ e. outside (c .before .before .before .args .station .phase) (c .match .keys2) (loaded-phase _ _ header ∙ e)))
+    let header = c .before .before .before .before .pre .2 in
+    gained-none _ _ _ (loaded-logged _ _ header) (form-log _ (c .before .before .before .before .pre .0) .1)
+    (tick-out _ (λ e. outside (c .before .before .before .before .args .station .phase) (c .match .keys2) (loaded-phase _ _ header ∙ e)))
 
 mul-wait : tie.Need-mul-wait
 mul-wait c =
-    omega (arith, delay-short _ _ (c .before .before .before .before .before .before .pre .2) (c .before .before .before .before .before .before .pre .0 .bytes))
+    omega (arith, delay-short _ _ (c .before .before .before .before .before .before .before .pre .2) (c .before .before .before .before .before .before .before .pre .0 .bytes))
 
 cast-clock : tie.Need-cast-clock
 cast-clock c = search needs
@@ -47,24 +47,15 @@ slice-aggregate-commit-due c = search needs
 
 commit-due-requires : tie.Need-commit-due-requires
 commit-due-requires c κs =
-    let pre = c .before .before .before .before .before .before .before .before .before .pre in
-    let count = loaded-statements _ _ (pre .2) in
-    record {
-      form = pre .0;
-      all = count;
-      old = loaded-logged _ _ (pre .2);
-      long = pre .3;
-      whole = refl;
-      heights = heights _ (pre .1) _ count;
-      short = omega (arith, delay-short _ _ (pre .2) (pre .0 .bytes));
-    }
+    let pre = c .before .before .before .before .before .before .before .before .before .before .pre in
+    (begun _ _ _ (pre .2) (pre .0) (pre .1) (pre .3), loaded-logged _ _ (pre .2), pre .4, pre .5, refl)
 
 same-length : tie.Need-same-length
 same-length c = search needs
 
 returns-2 : tie.Need-returns-2
 returns-2 c =
-    let header = c .before .before .before .before .before .before .before .before .before .before .before .before .before .pre .2 in
+    let header = c .before .before .before .before .before .before .before .before .before .before .before .before .before .before .pre .2 in
     let in-view = sym (loaded-phase _ _ header) ∙ ap courseOf (c .before .before .before .before .before .before .before .before .before .enum-told .given .1) in
     let later = ap (λ (k : ℕ). k + 1) (loaded-clock _ _ header) in
     gained _ _ (tick-in _ in-view _ _ _ (loaded-view _ _ header) (delay-is _ _ header) later) _ (c .before .before .before .commit-due .result) (c .before .before .before .commit-due .ensures)

@@ -25,23 +25,19 @@ mul-to : tie.Need-mul-to Inv-loop μ-loop
 mul-to c = search needs
 
 shared-slice-read-to : tie.Need-shared-slice-read-to Inv-loop μ-loop
-shared-slice-read-to c =
-    omega (arith, c .before .before .before .pre .0)
+shared-slice-read-to c = search needs
 
 mul-to-2 : tie.Need-mul-to-2 Inv-loop μ-loop
 mul-to-2 c = search needs
 
 slice-write-to : tie.Need-slice-write-to Inv-loop μ-loop
-slice-write-to c =
-    omega (arith, c .before .before .before .pre .1, c .before .before .loop .inv .1)
+slice-write-to c = search needs
 
 add-k : tie.Need-add-k Inv-loop μ-loop
-add-k c =
-    omega (arith, c .before .before .before .pre .0)
+add-k c = search needs
 
 loop-less : tie.Need-loop-less Inv-loop μ-loop
-loop-less c =
-    omega arith
+loop-less c = search needs
 
 loop-again : tie.Need-loop-again Inv-loop μ-loop
 loop-again c =

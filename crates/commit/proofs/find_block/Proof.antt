@@ -1,7 +1,7 @@
 -- `commit::find_block` meets its contract. The invariant: no place below i matches. The measure is what is left of the table. Assumes nothing.
 use Rattle.store.proofs.Forms.{form-long, form-statements}
 use Rattle.store.proofs.Searches.{find-none, find-here, find-next}
-use Rattle.store.specs.Changes.{firstFrom}
+use Rattle.store.specs.Searches.{firstFrom}
 use Rattle.store.specs.Decode.{rows, statements, statementAt}
 use Rattle.fields.specs.Names.{nameOf}
 use Rattle.rules.specs.Inputs.{isBlock}

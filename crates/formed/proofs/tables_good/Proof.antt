@@ -1,7 +1,7 @@
 -- `formed::tables_good` meets its contract. Assumes nothing.
 use borrow.Author.Tests.{not-false}
 use Rattle.settings.specs.Made.{settingsOf}
-use Rattle.formed.proofs.Whole.{tables-not, tables-then}
+use Rattle.formed.proofs.Whole.{untold, tables-not, tables-then}
 use borrow.Author.Needs.{needs}
 use Rattle.formed.proofs.tables_good.Statement.{statement}
 use Rattle.formed.proofs.tables_good.Tie as tie
@@ -11,12 +11,12 @@ good-and-apart-requires c κs = search needs
 
 returns : tie.Need-returns
 returns c =
-    tables-not _ _ _ _ (c .before .good-and-apart .ensures .is) (c .if1 .taken)
+    untold (tables-not _ _ _ _ (c .before .good-and-apart .ensures .is) (c .if1 .taken))
 
 all-there-requires : tie.Need-all-there-requires
 all-there-requires c κs =
-    let start = c .before .before .before .before .before .before .before .before in
-    (start .pre .tallies, c .before .before .before .good-and-apart .ensures .hang (not-false _ (c .before .before .if1 .left)), start .pre .statements, start .pre .certify)
+    let p = c .before .before .before .before .before .before .before .before .pre .0 in
+    (p .tallies, c .before .before .before .good-and-apart .ensures .hang (not-false _ (c .before .before .if1 .left)), p .statements, p .certify)
 
 all-good-requires : tie.Need-all-good-requires
 all-good-requires c κs = search needs
@@ -29,8 +29,13 @@ few-opened-requires c κs = search needs
 
 returns-2 : tie.Need-returns-2
 returns-2 c =
-    rw (c .before .before .before .all-there .ensures, c .before .before .all-good .ensures, c .before .is-linked .ensures, c .few-opened .ensures)
-    (tables-then (settingsOf (c .before .before .before .before .before .before .before .before .before .before .before .before .args .station .settings)) _ _ _ (c .before .before .before .before .before .before .before .good-and-apart .ensures .is) (c .before .before .before .before .before .before .if1 .left))
+    let linked = c .before .is-linked .ensures in
+    record {
+      is =
+          rw (c .before .before .before .before .all-there .ensures, c .before .before .before .all-good .ensures, linked .is, c .few-opened .ensures)
+          (tables-then (settingsOf (c .before .before .before .before .before .before .before .before .before .before .before .before .before .args .station .settings)) _ _ _ (c .before .before .before .before .before .before .before .before .good-and-apart .ensures .is) (c .before .before .before .before .before .before .before .if1 .left));
+      told = λ q. linked .told;
+    }
 
 pub tables-good-spec : {M : Type 1} → statement M
 tables-good-spec =

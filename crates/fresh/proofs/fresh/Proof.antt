@@ -42,7 +42,7 @@ returns-2 c =
     let a = start .args in
     settings-refused (a .store .now) (a .n) (a .d) (a .own) (c .before .before .before .size-in .result) (c .before .before .before .size-in .ensures)
     (eqb-true _ _ (sym (c .before .before .before .before .before .before .is-whole .ensures) ∙ not-false _ (c .before .before .before .before .before .if1 .left)))
-    (made-bad (a .store .now) (a .n) (a .d) (a .own) (c .before .before .before .size-in .result) (c .before .before .before .size-in .ensures) (sym (c .before .before .new .ensures) ∙ c .enum-told .given .1))
+    (made-bad (a .store .now) (a .n) (a .d) (a .own) (c .before .before .before .size-in .result) (c .before .before .before .size-in .ensures) (sym (c .before .before .new .ensures .0) ∙ c .enum-told .given .1))
 
 clear-requires : tie.Need-clear-requires
 clear-requires c κs = search needs
@@ -68,7 +68,7 @@ returns-3 c =
     let same = c .before .before .before .before .before .before .before .before .before .before .before .before .before .size-in .ensures in
     let b = start .args .store .now in
     let l = eqb-true (length b) (storeLength (sizeIn b)) (sym (c .before .before .before .before .before .before .before .before .before .before .before .before .before .before .before .before .is-whole .ensures) ∙ not-false _ (c .before .before .before .before .before .before .before .before .before .before .before .before .before .before .before .if1 .left)) in
-    let m = made-good (a .store .now) (a .n) (a .d) (a .own) y same _ (sym (c .before .before .before .before .before .before .before .before .before .before .before .before .new .ensures) ∙ c .before .before .before .before .before .before .before .before .before .before .settings .given .1) in
+    let m = made-good (a .store .now) (a .n) (a .d) (a .own) y same _ (sym (c .before .before .before .before .before .before .before .before .before .before .before .before .new .ensures .0) ∙ c .before .before .before .before .before .before .before .before .before .before .settings .given .1) in
     made-fresh (a .store .now) (a .n) (a .d) (a .own) y same l (m .0)
     (rw (c .before .before .save .ensures, c .before .before .before .before .starting .ensures, c .before .before .before .before .before .before .before .clear .ensures, l, m .1) (fresh-left (a .store .now) (c .before .before .before .before .before .before .before .before .before .before .before .before .before .before .before .before .before .before .slice-known .given) l _ (m .0) same))
 

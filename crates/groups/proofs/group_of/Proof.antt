@@ -11,10 +11,10 @@ new-requires-2 : tie.Need-new-requires-2
 new-requires-2 c κs = search needs
 
 returns : tie.Need-returns
-returns c = rw (c .before .match .keys1) (group-small _ (c .new .ensures))
+returns c = rw (c .before .match .keys1) (group-small _ (c .new .ensures .0))
 
 returns-2 : tie.Need-returns-2
-returns-2 c = rw (c .before .match .keys2) (group-large _ (c .new2 .ensures))
+returns-2 c = rw (c .before .match .keys2) (group-large _ (c .new2 .ensures .0))
 
 returns-3 : tie.Need-returns-3
 returns-3 c = group-other _ _ (c .match .rest .0 .1) (c .match .rest .1)

@@ -26,7 +26,7 @@ same-length : tie.Need-same-length
 same-length c = search needs
 
 returns : tie.Need-returns
-returns c = let a = c .before .before .before .before .before .before .before .before .args in settings-refused (a .list .now) (a .n) (a .d) (a .own) (sym (c .before .before .before .before .before .has-length .ensures) ∙ c .before .before .before .before .if1 .taken) (made-bad (a .n) (a .d) (a .own) (c .before .before .before .new .ensures) (c .before .enum-told2 .given .1)) (c .refuse .ensures)
+returns c = let a = c .before .before .before .before .before .before .before .before .args in settings-refused (a .list .now) (a .n) (a .d) (a .own) (sym (c .before .before .before .before .before .has-length .ensures) ∙ c .before .before .before .before .if1 .taken) (made-bad (a .n) (a .d) (a .own) (c .before .before .before .new .ensures .0) (c .before .enum-told2 .given .1)) (c .refuse .ensures)
 
 put-requires : tie.Need-put-requires
 put-requires c κs = omega (arith, lengths (c .before .before .before .before .before .before .before .before .args .list .now) (sym (c .before .before .before .before .before .has-length .ensures) ∙ c .before .before .before .before .if1 .taken) .0)
@@ -47,7 +47,7 @@ same-length-2 : tie.Need-same-length-2
 same-length-2 c = search needs
 
 returns-2 : tie.Need-returns-2
-returns-2 c = let a = c .before .before .before .before .before .before .before .before .before .before .before .before .before .before .before .before .before .before .before .before .before .before .before .args in is-fresh (a .list .now) (a .n) (a .d) (a .own) (sym (c .before .before .before .before .before .before .before .before .before .before .before .before .before .before .before .before .before .before .before .before .has-length .ensures) ∙ c .before .before .before .before .before .before .before .before .before .before .before .before .before .before .before .before .before .before .before .if1 .taken) (made-good (a .n) (a .d) (a .own) (c .before .before .before .before .before .before .before .before .before .before .before .before .before .before .before .before .before .before .new .ensures) (c .before .before .before .before .before .before .before .before .before .before .before .before .before .before .before .before .enum-told .given .1)) (c .before .before .before .before .before .before .before .before .before .before .before .before .before .before .put .ensures) (c .before .before .before .before .before .before .before .before .before .before .put2 .ensures) (c .before .before .before .before .before .before .put3 .ensures) refl (c .before .before .clear .ensures)
+returns-2 c = let a = c .before .before .before .before .before .before .before .before .before .before .before .before .before .before .before .before .before .before .before .before .before .before .before .args in is-fresh (a .list .now) (a .n) (a .d) (a .own) (sym (c .before .before .before .before .before .before .before .before .before .before .before .before .before .before .before .before .before .before .before .before .has-length .ensures) ∙ c .before .before .before .before .before .before .before .before .before .before .before .before .before .before .before .before .before .before .before .if1 .taken) (made-good (a .n) (a .d) (a .own) (c .before .before .before .before .before .before .before .before .before .before .before .before .before .before .before .before .before .before .new .ensures .0) (c .before .before .before .before .before .before .before .before .before .before .before .before .before .before .before .before .enum-told .given .1)) (c .before .before .before .before .before .before .before .before .before .before .before .before .before .before .put .ensures) (c .before .before .before .before .before .before .before .before .before .before .put2 .ensures) (c .before .before .before .before .before .before .put3 .ensures) refl (c .before .before .clear .ensures)
 
 refuse-requires-2 : tie.Need-refuse-requires-2
 refuse-requires-2 c κs = search needs

@@ -1,6 +1,6 @@
 -- `lines::named` meets its contract. Assumes nothing.
 use Rattle.rules.specs.Lists.{unbe}
-use Rattle.rules.proofs.Bytes.{length-unbe}
+use Rattle.laws.proofs.Bytes.{length-unbe}
 use Rattle.fields.specs.Names.{nameOf}
 use Rattle.fields.proofs.Names.{name-lt}
 use Rattle.outgoing.proofs.Writing.{put-wrote}

@@ -1,74 +1,65 @@
 -- `linked::is_linked` meets its contract. Assumes nothing.
 use Prim.Native.Nat.{_-_}
-use mathlib.Core.Path.{_≡_, refl, sym, ap, _∙_}
+use mathlib.Core.Path.{_≡_, refl, sym, _∙_}
 use native.Mathlib.Omega.{arith}
-use borrow.Author.Tests.{not-true, not-false}
 use Rattle.rules.specs.WellFormed.{linked}
-use Rattle.fields.specs.Names.{nameOf}
-use Rattle.store.specs.Decode.{rows, nameAt, statements, names}
+use Rattle.store.specs.Decode.{statements, names}
 use Rattle.heading.proofs.Forms.{few-names}
-use Rattle.heading.proofs.Walks.{rows-whole}
-use Rattle.linked.proofs.Parts.{linked-end, linked-here, linked-next}
+use Rattle.linked.proofs.Parts.{linkedFrom, linked-end, linked-here, linked-next}
+use Rattle.linked.proofs.Heights.{link-none, link-some}
+use Rattle.linked.proofs.Telling.{lowest-told, lowest-linked}
 use borrow.Author.Needs.{needs}
 use Rattle.linked.proofs.is_linked.Statement.{statement}
 use Rattle.linked.proofs.is_linked.Tie as tie
 
 abbrev Inv-loop : tie.InvT-loop
-Inv-loop store count stored heads nexts parent₀ i₀ parent i =
-    linked (statements store) 0 0 (names store) ≡ linked (statements store) i (nameOf parent) (rows (nameAt store) i (count - i))
+Inv-loop store count stored told heads nexts i₀ i =
+    linked (statements store) 0 0 (names store) ≡ linkedFrom store count i
 
 abbrev μ-loop : tie.MeasureT-loop
-μ-loop store count stored heads nexts parent₀ i₀ parent i =
+μ-loop store count stored told heads nexts i₀ i =
     count - i
 
 hang-all-requires : tie.Need-hang-all-requires Inv-loop μ-loop
 hang-all-requires c κs =
     (c .before .before .before .pre .1, record { heads-are = refl; nexts-are = refl })
 
-zero-requires : tie.Need-zero-requires Inv-loop μ-loop
-zero-requires c κs = search needs
+tell-requires : tie.Need-tell-requires Inv-loop μ-loop
+tell-requires c κs =
+    let p = c .before .before .before .before .before .before .before .pre in
+    (p .0, p .1, c .before .before .before .hang-all .ensures, p .2)
 
 loop-holds : tie.Need-loop-holds Inv-loop μ-loop
-unfolding names
 loop-holds c =
-    rw (c .zero .ensures) (ap (linked _ 0 0) (rows-whole (nameAt _) _ _ (c .before .before .before .before .before .pre .0 .is)))
+    lowest-linked _ (c .tell .ensures .1) (c .before .before .before .before .before .before .before .before .pre .0 .is) (c .tell .ensures .0)
 
-name-at-requires : tie.Need-name-at-requires Inv-loop μ-loop
-name-at-requires c κs =
-    let k = c .before .before .before .before .before .before .before .pre .0 in
-    (k .long, omega (arith, k .room, c .loop-test .taken))
-
-cast-height : tie.Need-cast-height Inv-loop μ-loop
-cast-height c =
-    let few = few-names (c .before .before .before .before .before .before .before .before .pre .0) in
-    search needs
-
-add-height : tie.Need-add-height Inv-loop μ-loop
-add-height c =
-    let few = few-names (c .before .before .before .before .before .before .before .before .pre .0) in
-    search needs
-
-is-link-requires : tie.Need-is-link-requires Inv-loop μ-loop
-is-link-requires c κs =
-    (c .before .before .before .before .before .before .before .before .before .before .pre .1, c .before .before .before .before .before .before .hang-all .ensures)
+first-sought-requires : tie.Need-first-sought-requires Inv-loop μ-loop
+first-sought-requires c κs =
+    let p = c .before .before .before .before .before .before .before .before .before .before .before .before .pre in
+    (omega (arith, c .before .before .loop-test .taken, p .0 .room), p .1, c .before .before .before .before .before .before .before .before .hang-all .ensures)
 
 returns : tie.Need-returns Inv-loop μ-loop
 returns c =
-    sym (c .before .before .before .before .before .before .loop .inv ∙ linked-here _ (nameAt _) _ _ _ (c .before .before .before .before .before .loop-test .taken) _ (c .before .before .before .before .name-at .ensures) (sym (c .before .is-link .ensures) ∙ not-true _ (c .if1 .taken)))
+    record {
+      is = sym (c .before .before .before .before .before .loop .inv ∙ linked-here _ _ _ (c .before .before .before .before .loop-test .taken) (link-none _ _ _ _ (c .before .before .before .before .before .before .before .before .before .before .before .before .before .before .pre .1 .is) (c .before .first-sought .ensures) (c .if1 .taken)));
+      told = lowest-told (c .before .before .before .before .before .before .tell .ensures .1);
+    }
 
 add-i : tie.Need-add-i Inv-loop μ-loop
-add-i c = search needs
+add-i c =
+    omega (arith, c .before .before .before .before .loop-test .taken, few-names (c .before .before .before .before .before .before .before .before .before .before .before .before .before .before .pre .0))
 
 loop-less : tie.Need-loop-less Inv-loop μ-loop
-loop-less c = search needs
+loop-less c =
+    omega (arith, c .before .before .before .before .loop-test .taken)
 
 loop-again : tie.Need-loop-again Inv-loop μ-loop
 loop-again c =
-    c .before .before .before .before .before .before .loop .inv ∙ linked-next _ (nameAt _) _ _ _ (c .before .before .before .before .before .loop-test .taken) _ (c .before .before .before .before .name-at .ensures) (sym (c .before .is-link .ensures) ∙ not-false _ (c .if1 .left))
+    c .before .before .before .before .before .loop .inv ∙ linked-next _ _ _ (c .before .before .before .before .loop-test .taken) (link-some _ _ _ _ (c .before .before .before .before .before .before .before .before .before .before .before .before .before .before .pre .1 .is) (c .before .first-sought .ensures) (c .if1 .left))
 
 returns-2 : tie.Need-returns-2 Inv-loop μ-loop
 returns-2 c =
-    sym (c .before .loop .inv ∙ linked-end _ (nameAt _) _ _ _ (c .loop-test .left))
+    record { is = sym (c .before .loop .inv ∙ linked-end _ _ _ (c .loop-test .left)); told = lowest-told (c .before .before .tell .ensures .1) }
 
 pub is-linked-spec : {M : Type 1} → statement M
 is-linked-spec =
@@ -77,12 +68,9 @@ is-linked-spec =
     Inv-loop
     μ-loop
     hang-all-requires
-    zero-requires
+    tell-requires
     loop-holds
-    name-at-requires
-    cast-height
-    add-height
-    is-link-requires
+    first-sought-requires
     returns
     add-i
     loop-less

@@ -2,8 +2,7 @@
 use borrow.Author.Tests.{not-true, not-false}
 use Rattle.store.specs.Decode.{stateOf}
 use Rattle.words.specs.Meaning.{blockOf}
-use Rattle.store.specs.Changes.{withVoters}
-use Rattle.store.specs.Meaning.{votersOf, authorOf}
+use Rattle.tallies.specs.Meaning.{withVoters, votersOf, authorOf}
 use Rattle.messages.proofs.Rooms.{tallied-answers, tallied-stops}
 use borrow.Author.Needs.{needs}
 use Rattle.messages.proofs.counted.Statement.{statement}

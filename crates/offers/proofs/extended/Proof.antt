@@ -8,8 +8,7 @@ use Rattle.offers.proofs.extended.Statement.{statement}
 use Rattle.offers.proofs.extended.Tie as tie
 
 load-requires : tie.Need-load-requires
-load-requires c κs =
-    omega (arith, form-long _ (c .before .pre .form))
+load-requires c κs = omega (arith, form-long _ (c .before .pre .form))
 
 top-requires : tie.Need-top-requires
 top-requires c κs = search needs

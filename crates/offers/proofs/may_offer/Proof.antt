@@ -8,8 +8,7 @@ use Rattle.offers.proofs.may_offer.Statement.{statement}
 use Rattle.offers.proofs.may_offer.Tie as tie
 
 load-requires : tie.Need-load-requires
-load-requires c κs =
-    omega (arith, form-long _ (c .before .pre .form))
+load-requires c κs = omega (arith, form-long _ (c .before .pre .form))
 
 is-zero-requires : tie.Need-is-zero-requires
 is-zero-requires c κs = search needs

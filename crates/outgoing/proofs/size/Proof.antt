@@ -3,7 +3,7 @@ use mathlib.Core.Path.{sym}
 use Rattle.rules.specs.Messages.{size}
 use Rattle.wire.specs.Meaning.{messageOf}
 use Rattle.wire.proofs.Statements.{new-view-said, propose-said}
-use Rattle.rules.proofs.Lengths.{length-write}
+use Rattle.laws.proofs.Lengths.{length-write}
 use borrow.Author.Needs.{needs}
 use Rattle.outgoing.proofs.size.Statement.{statement}
 use Rattle.outgoing.proofs.size.Tie as tie

@@ -35,9 +35,8 @@ enum-known-message-2 c = search needs
 vote-out-requires : tie.Need-vote-out-requires
 unfolding messageOf size
 vote-out-requires c κs =
-    let after-message2 = c .before .before in
-    let start = after-message2 .before .before .before in
-    room-of (start .args .at) (length (start .args .out .now)) (ap messageOf (after-message2 .message2 .given .1)) (start .pre .1)
+    let start = c .before .before .before .before .before in
+    room-of (start .args .at) (length (start .args .out .now)) (ap messageOf (c .before .before .message2 .given .1)) (start .pre .1)
 
 enum-known-message-3 : tie.Need-enum-known-message-3
 enum-known-message-3 c = search needs
@@ -45,9 +44,8 @@ enum-known-message-3 c = search needs
 blame-out-requires : tie.Need-blame-out-requires
 unfolding messageOf size
 blame-out-requires c κs =
-    let after-message3 = c .before .before in
-    let start = after-message3 .before .before .before in
-    room-of (start .args .at) (length (start .args .out .now)) (ap messageOf (after-message3 .message3 .given .1)) (start .pre .1)
+    let start = c .before .before .before .before .before in
+    room-of (start .args .at) (length (start .args .out .now)) (ap messageOf (c .before .before .message3 .given .1)) (start .pre .1)
 
 enum-known-message-4 : tie.Need-enum-known-message-4
 enum-known-message-4 c = search needs
@@ -55,9 +53,8 @@ enum-known-message-4 c = search needs
 blame-set-out-requires : tie.Need-blame-set-out-requires
 unfolding messageOf size
 blame-set-out-requires c κs =
-    let after-message4 = c .before .before in
-    let start = after-message4 .before .before .before in
-    room-of (start .args .at) (length (start .args .out .now)) (ap messageOf (after-message4 .message4 .given .1)) (start .pre .1)
+    let start = c .before .before .before .before .before in
+    room-of (start .args .at) (length (start .args .out .now)) (ap messageOf (c .before .before .message4 .given .1)) (start .pre .1)
 
 enum-known-message-5 : tie.Need-enum-known-message-5
 enum-known-message-5 c = search needs
@@ -65,9 +62,8 @@ enum-known-message-5 c = search needs
 status-out-requires : tie.Need-status-out-requires
 unfolding messageOf size
 status-out-requires c κs =
-    let after-message5 = c .before .before in
-    let start = after-message5 .before .before .before in
-    room-of (start .args .at) (length (start .args .out .now)) (ap messageOf (after-message5 .message5 .given .1)) (start .pre .1)
+    let start = c .before .before .before .before .before in
+    room-of (start .args .at) (length (start .args .out .now)) (ap messageOf (c .before .before .message5 .given .1)) (start .pre .1)
 
 same-length : tie.Need-same-length
 same-length c = search needs
@@ -75,9 +71,7 @@ same-length c = search needs
 returns : tie.Need-returns
 unfolding messageOf
 returns c =
-    let after-new-view-out = c .before .before in
-    let after-message = after-new-view-out .before .before .before .before in
-    rw (after-message .message .given .1) (after-new-view-out .new-view-out .ensures)
+    rw (c .before .before .before .before .before .before .message .given .1) (c .before .before .new-view-out .ensures)
 
 same-length-2 : tie.Need-same-length-2
 same-length-2 c = search needs
@@ -85,9 +79,7 @@ same-length-2 c = search needs
 returns-2 : tie.Need-returns-2
 unfolding messageOf
 returns-2 c =
-    let after-propose-out = c .before .before in
-    let after-message = after-propose-out .before .before .before .before in
-    rw (after-message .message .given .1) (after-propose-out .propose-out .ensures)
+    rw (c .before .before .before .before .before .before .message .given .1) (c .before .before .propose-out .ensures)
 
 same-length-3 : tie.Need-same-length-3
 same-length-3 c = search needs
@@ -95,9 +87,7 @@ same-length-3 c = search needs
 returns-3 : tie.Need-returns-3
 unfolding messageOf
 returns-3 c =
-    let after-vote-out = c .before .before in
-    let after-message2 = after-vote-out .before .before .before in
-    rw (after-message2 .message2 .given .1) (after-vote-out .vote-out .ensures)
+    rw (c .before .before .before .before .before .message2 .given .1) (c .before .before .vote-out .ensures)
 
 same-length-4 : tie.Need-same-length-4
 same-length-4 c = search needs
@@ -105,9 +95,7 @@ same-length-4 c = search needs
 returns-4 : tie.Need-returns-4
 unfolding messageOf
 returns-4 c =
-    let after-blame-out = c .before .before in
-    let after-message3 = after-blame-out .before .before .before in
-    rw (after-message3 .message3 .given .1) (after-blame-out .blame-out .ensures)
+    rw (c .before .before .before .before .before .message3 .given .1) (c .before .before .blame-out .ensures)
 
 same-length-5 : tie.Need-same-length-5
 same-length-5 c = search needs
@@ -115,9 +103,7 @@ same-length-5 c = search needs
 returns-5 : tie.Need-returns-5
 unfolding messageOf
 returns-5 c =
-    let after-blame-set-out = c .before .before in
-    let after-message4 = after-blame-set-out .before .before .before in
-    rw (after-message4 .message4 .given .1) (after-blame-set-out .blame-set-out .ensures)
+    rw (c .before .before .before .before .before .message4 .given .1) (c .before .before .blame-set-out .ensures)
 
 same-length-6 : tie.Need-same-length-6
 same-length-6 c = search needs
@@ -125,9 +111,7 @@ same-length-6 c = search needs
 returns-6 : tie.Need-returns-6
 unfolding messageOf
 returns-6 c =
-    let after-status-out = c .before .before in
-    let after-message5 = after-status-out .before .before .before in
-    rw (after-message5 .message5 .given .1) (after-status-out .status-out .ensures)
+    rw (c .before .before .before .before .before .message5 .given .1) (c .before .before .status-out .ensures)
 
 pub write-message-spec : {M : Type 1} → statement M
 write-message-spec =

@@ -10,7 +10,7 @@ use Rattle.lent_list.specs.Plain.{folded, held}
 use Rattle.lent_list.proofs.Lengths.{lengths, slots-counted}
 use Rattle.plain_tables.specs.Meaning.{state}
 use Rattle.plain_messages.specs.Whole.{Whole}
-use Rattle.plain.proofs.Folding.{good-head, fresh-is-whole, fold-starts, fold-ends, fold-skips, fold-next, fold-stops, held-input}
+use Rattle.plain.proofs.Folding.{good-head, fresh-is-whole, fold-starts, fold-ends, fold-skips, fold-next, fold-stops, held-input, name-long}
 use borrow.Author.Needs.{needs}
 use Rattle.plain.proofs.fold.Statement.{statement}
 use Rattle.plain.proofs.fold.Tie as tie
@@ -65,7 +65,7 @@ slice-aggregate-turn-by : tie.Need-slice-aggregate-turn-by Inv-loop μ-loop
 slice-aggregate-turn-by c = search needs
 
 turn-by-requires : tie.Need-turn-by-requires Inv-loop μ-loop
-turn-by-requires c κs = let l = c .before .before .before .before .before .before .before .loop in (l .inv .3, held-input (c .before .before .before .before .before .held-at .ensures) _ _ _ (c .before .before .before .kind .given .1) .2, omega (arith, l .inv .2))
+turn-by-requires c κs = let l = c .before .before .before .before .before .before .before .loop in (l .inv .3, name-long _ _ (held-input (c .before .before .before .before .before .held-at .ensures) _ _ _ (c .before .before .before .kind .given .1) .2), omega (arith, l .inv .2))
 
 is-kept-requires : tie.Need-is-kept-requires Inv-loop μ-loop
 is-kept-requires c κs = search needs

@@ -1,6 +1,6 @@
 -- `plain::turn_by` meets its contract. Assumes nothing.
 use native.Mathlib.Omega.{arith}
-use Rattle.plain.proofs.Folding.{name-long, by-tick, by-offer, by-step}
+use Rattle.plain.proofs.Folding.{by-tick, by-offer, by-step}
 use borrow.Author.Needs.{needs}
 use Rattle.plain.proofs.turn_by.Statement.{statement}
 use Rattle.plain.proofs.turn_by.Tie as tie
@@ -15,7 +15,7 @@ returns : tie.Need-returns
 returns c = let k = c .before .before .before .before .before .before .before in by-tick (k .args .kind) (k .args .input .now) _ (c .before .before .before .before .if1 .taken) (c .before .before .tick .ensures)
 
 get-name-requires : tie.Need-get-name-requires
-get-name-requires c κs = let k = c .before .before .before .before in omega (arith, name-long (k .args .kind) (k .args .input .now) (k .pre .1) (c .if2 .taken))
+get-name-requires c κs = let k = c .before .before .before .before in omega (arith, k .pre .1 (c .if2 .taken))
 
 offer-requires : tie.Need-offer-requires
 offer-requires c κs = search needs
@@ -24,7 +24,7 @@ same-length-2 : tie.Need-same-length-2
 same-length-2 c = search needs
 
 returns-2 : tie.Need-returns-2
-returns-2 c = let k = c .before .before .before .before .before .before .before .before .before in by-offer (k .args .kind) (k .args .input .now) _ (c .before .before .before .before .before .before .if1 .left) (c .before .before .before .before .before .if2 .taken) (k .pre .1) (c .before .before .before .before .get-name .ensures .0) (c .before .before .offer .ensures)
+returns-2 c = let k = c .before .before .before .before .before .before .before .before .before in by-offer (k .args .kind) (k .args .input .now) _ (c .before .before .before .before .before .before .if1 .left) (c .before .before .before .before .before .if2 .taken) (k .pre .1 (c .before .before .before .before .before .if2 .taken)) (c .before .before .before .before .get-name .ensures .0) (c .before .before .offer .ensures)
 
 step-requires : tie.Need-step-requires
 step-requires c κs = search needs

@@ -1,6 +1,6 @@
 -- `plain_blames::overdue` meets its contract: the definition, part by part. Assumes nothing.
 use native.Mathlib.Omega.{arith}
-use Rattle.rules.proofs.Allowed.{sizes}
+use Rattle.laws.proofs.Allowed.{sizes}
 use Rattle.settings.specs.Made.{settingsOf}
 use Rattle.plain_acts.proofs.Laws.{own-small}
 use Rattle.plain_blames.proofs.Laws.{few-votes, overdue-parts}

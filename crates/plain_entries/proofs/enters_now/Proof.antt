@@ -1,6 +1,6 @@
 -- `plain_entries::enters_now` meets its contract, by the phase. Assumes nothing.
 use mathlib.Core.Path.{_∙_}
-use Rattle.rules.proofs.Allowed.{sizes}
+use Rattle.laws.proofs.Allowed.{sizes}
 use Rattle.settings.specs.Made.{settingsOf}
 use Rattle.plain_entries.proofs.Laws.{enters-in, enters-waiting, enters-stopped}
 use borrow.Author.Needs.{needs}

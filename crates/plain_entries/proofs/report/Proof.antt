@@ -1,7 +1,7 @@
 -- `plain_entries::report` meets its contract. Assumes nothing.
 use Prim.Native.Nat.{_+_}
 use native.Mathlib.Omega.{arith}
-use Rattle.rules.proofs.Allowed.{sizes, leader-lt}
+use Rattle.laws.proofs.Allowed.{sizes, leader-lt}
 use Rattle.settings.specs.Made.{settingsOf}
 use Rattle.wire.specs.Meaning.{messageOf}
 use Rattle.wire.specs.declared.Message.the-variants.{Status}

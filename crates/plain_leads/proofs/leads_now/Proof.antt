@@ -1,6 +1,6 @@
 -- `plain_leads::leads_now` meets its contract. Assumes nothing.
 use native.Mathlib.Omega.{arith}
-use Rattle.rules.proofs.Allowed.{sizes}
+use Rattle.laws.proofs.Allowed.{sizes}
 use Rattle.settings.specs.Made.{settingsOf}
 use Rattle.plain_leads.proofs.Laws.{moment-parts}
 use borrow.Author.Needs.{needs}

@@ -4,7 +4,7 @@ use mathlib.Core.List.{List}
 use native.Mathlib.Omega.{arith}
 use Rattle.rules.specs.Words.{Statement}
 use Rattle.rules.specs.Inputs as inputs
-use Rattle.rules.proofs.Allowed.{sizes}
+use Rattle.laws.proofs.Allowed.{sizes}
 use Rattle.settings.specs.Made.{settingsOf}
 use Rattle.plain_statements.specs.Meaning.{statements}
 use Rattle.plain_tables.specs.Meaning.{names, state}

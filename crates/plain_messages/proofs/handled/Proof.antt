@@ -5,7 +5,7 @@ use mathlib.Core.Option.{none, some}
 use Rattle.rules.specs.Messages.{vote, blame, blameSet, allowed}
 use Rattle.rules.specs.Inputs as inputs
 use Rattle.rules.specs.Words as words
-use Rattle.rules.proofs.Allowed.{allowed-rights}
+use Rattle.laws.proofs.Allowed.{allowed-rights}
 use Rattle.fields.specs.Names.{nameOf}
 use Rattle.wire.specs.Meaning.{messageOf}
 use Rattle.wire.specs.declared.Message.{Message}

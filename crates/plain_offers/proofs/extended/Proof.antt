@@ -9,7 +9,7 @@ use Rattle.rules.specs.Sizes.{quorum}
 use Rattle.rules.specs.Messages as messages
 use Rattle.rules.specs.Words.{message}
 use Rattle.rules.specs.Words as words
-use Rattle.rules.proofs.Tests.{and-right}
+use Rattle.laws.proofs.Tests.{and-right}
 use Rattle.fields.specs.Names.{nameOf}
 use Rattle.settings.specs.Made.{settingsOf}
 use Rattle.wire.specs.Meaning.{statementOf, messageOf}

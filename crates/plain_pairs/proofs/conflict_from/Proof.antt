@@ -9,7 +9,7 @@ use Rattle.rules.specs.Words as words
 use Rattle.wire.specs.Meaning.{statementOf}
 use Rattle.plain_words.specs.Places.{firsts}
 use Rattle.plain_statements.specs.Meaning.{heldOf, statements, blank}
-use Rattle.plain_pairs.proofs.Laws.{conflict-held}
+use Rattle.plain_statements.proofs.Laws.{conflict-held}
 use Rattle.plain_chains.proofs.Parts.{first-done, first-here, first-next}
 use borrow.Author.Needs.{needs}
 use Rattle.plain_pairs.proofs.conflict_from.Statement.{statement}

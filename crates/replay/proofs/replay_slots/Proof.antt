@@ -2,8 +2,10 @@
 use Prim.Native.Nat.{_+_, _-_, _*_, _/_, _≤_}
 use mathlib.Core.Path.{_≡_, refl}
 use native.Mathlib.Omega.{arith}
-use lib.ListN.{length}
-use Rattle.journal.specs.Journal.{slotsFrom, slotsOf}
+use lib.ListN.{length, take, drop}
+use Rattle.slots.specs.Slots.{slotLength, judged}
+use Rattle.slots.specs.Meaning.{inputPlace, slotOf}
+use Rattle.journal.specs.Journal.{slotAt, slotsFrom, slotsOf}
 use Rattle.journal.proofs.Rooms.{slot-count, part-held}
 use Rattle.replay.proofs.Turns.{at-start, at-end, at-blank, at-torn, at-bad, at-other, at-untaken, at-taken, input-part, whole-within}
 use Rattle.replay.specs.Replay.{replayFrom}
@@ -174,21 +176,33 @@ add-place-2 c = search needs
 loop-less-2 : tie.Need-loop-less-2 Inv-loop μ-loop
 loop-less-2 c = search needs
 
+-- the slot was judged, and its input lies in it
+slot : (c : tie.After-is-taken Inv-loop μ-loop)
+    → slotOf (slotAt (c .before .before .before .before .before .before .before .before .before .before .before .before .before .before .before .before .before .before .before .before .before .args .journal .now) (c .before .before .before .before .before .before .before .before .before .before .before .before .before .before .before .before .loop .place)) (c .before .before .before .before .before .before .before .before .before .before .before .before .before .judge .result) ≡ judged (slotAt (c .before .before .before .before .before .before .before .before .before .before .before .before .before .before .before .before .before .before .before .before .before .args .journal .now) (c .before .before .before .before .before .before .before .before .before .before .before .before .before .before .before .before .loop .place))
+slot c =
+    let p = c .before .before .before .before .before .before .before .before .before .before .before .before .before .before .before .before .loop .place in
+    part-held (c .before .before .before .before .before .before .before .before .before .before .before .before .before .before .before .before .before .before .before .before .before .args .journal .now) p {m = (p * 128 + 128) - p * 128} (c .before .before .before .before .before .before .before .before .before .before .before .before .before .judge .ensures) (omega arith)
+
+input : (c : tie.After-is-taken Inv-loop μ-loop)
+    → take (c .before .before .before .before .before .before .before .before .before .before .before .sequence .given .0 .1 .1 .0) (drop inputPlace (slotAt (c .before .before .before .before .before .before .before .before .before .before .before .before .before .before .before .before .before .before .before .before .before .args .journal .now) (c .before .before .before .before .before .before .before .before .before .before .before .before .before .before .before .before .loop .place)))
+    ≡ take ((c .before .before .before .before .before .before .before .before .before .before .before .before .before .before .before .before .loop .place * 128 + 11 + c .before .before .before .before .before .before .before .before .before .before .before .sequence .given .0 .1 .1 .0) - (c .before .before .before .before .before .before .before .before .before .before .before .before .before .before .before .before .loop .place * 128 + 11)) (drop (c .before .before .before .before .before .before .before .before .before .before .before .before .before .before .before .before .loop .place * slotLength + inputPlace) (c .before .before .before .before .before .before .before .before .before .before .before .before .before .before .before .before .before .before .before .before .before .args .journal .now))
+input c =
+    let p = c .before .before .before .before .before .before .before .before .before .before .before .before .before .before .before .before .loop .place in
+    let m = c .before .before .before .before .before .before .before .before .before .before .before .sequence .given .0 .1 .1 .0 in
+    input-part (c .before .before .before .before .before .before .before .before .before .before .before .before .before .before .before .before .before .before .before .before .before .args .journal .now) p m ((p * 128 + 11 + m) - (p * 128 + 11)) (whole-within (c .before .before .before .before .before .before .before .before .before .before .before .before .before .judge .ensures .within) (c .before .before .before .before .before .before .before .before .before .before .before .sequence .given .1)) (omega arith)
+
 loop-again-2 : tie.Need-loop-again-2 Inv-loop μ-loop
 loop-again-2 c =
     let a = c .before .before .before .before .before .before .before .before .before .before .before .before .before .before .before .before .before .before .before .before .before .before .args in
     let l = c .before .before .before .before .before .before .before .before .before .before .before .before .before .before .before .before .before .loop in
-    let j = a .journal .now in
-    let s = part-held j (l .place) {m = (l .place * 128 + 128) - l .place * 128} (c .before .before .before .before .before .before .before .before .before .before .before .before .before .before .judge .ensures) (omega arith) in
-    let m = c .before .before .before .before .before .before .before .before .before .before .before .before .sequence .given .0 .1 .1 .0 in
-    let e = input-part j (l .place) m ((l .place * 128 + 11 + m) - (l .place * 128 + 11)) (whole-within (c .before .before .before .before .before .before .before .before .before .before .before .before .before .before .judge .ensures .within) (c .before .before .before .before .before .before .before .before .before .before .before .before .sequence .given .1)) (omega arith) in (
+    let j = a .journal .now in (
       omega arith,
       omega arith,
       omega arith,
       omega (arith, c .before .before .before .before .before .before .hand .kept .1 .1 .0, l .inv .3),
       omega (arith, c .before .before .before .before .before .before .hand .kept .1 .1 .1 .0, l .inv .4),
       l .inv .5,
-      at-taken j _ (l .records) (l .place) (length j / 128) (l .torn) (l .store) (l .out) (l .report) (l .inv .6) (c .before .before .before .before .before .before .before .before .before .before .before .before .before .before .before .before .loop-test .taken) _ s (c .before .before .before .before .before .before .before .before .before .before .before .before .sequence .given .1) (c .before .before .before .before .before .before .hand .ensures) (c .before .before .before .before .before .before .before .before .before .before .if1 .left) e (c .before .is-taken .ensures) (c .if2 .taken),
+      at-taken j _ (l .records) (l .place) (length j / 128) (l .torn) (l .store) (l .out) (l .report) (l .inv .6) (c .before .before .before .before .before .before .before .before .before .before .before .before .before .before .before .before .loop-test .taken) _ (slot (c .before)) (c .before .before .before .before .before .before .before .before .before .before .before .before .sequence .given .1) (c .before .before .before .before .before .before .hand .ensures) (c .before .before .before .before .before .before .before .before .before .before .if1 .left) (input (c .before)) (c .before .is-taken .ensures) (c .if2 .taken),
     )
 
 same-length-10 : tie.Need-same-length-10 Inv-loop μ-loop
@@ -205,10 +219,7 @@ returns-4 c =
     let a = c .before .before .before .before .before .before .before .before .before .before .before .before .before .before .before .before .before .before .before .before .before .before .args in
     let l = c .before .before .before .before .before .before .before .before .before .before .before .before .before .before .before .before .before .loop in
     let j = a .journal .now in
-    let s = part-held j (l .place) {m = (l .place * 128 + 128) - l .place * 128} (c .before .before .before .before .before .before .before .before .before .before .before .before .before .before .judge .ensures) (omega arith) in
-    let m = c .before .before .before .before .before .before .before .before .before .before .before .before .sequence .given .0 .1 .1 .0 in
-    let e = input-part j (l .place) m ((l .place * 128 + 11 + m) - (l .place * 128 + 11)) (whole-within (c .before .before .before .before .before .before .before .before .before .before .before .before .before .before .judge .ensures .within) (c .before .before .before .before .before .before .before .before .before .before .before .before .sequence .given .1)) (omega arith) in
-    record { is = at-untaken j _ (l .records) (l .place) (length j / 128) (l .torn) (l .store) (l .out) (l .report) (l .inv .6) (c .before .before .before .before .before .before .before .before .before .before .before .before .before .before .before .before .loop-test .taken) _ s (c .before .before .before .before .before .before .before .before .before .before .before .before .sequence .given .1) (c .before .before .before .before .before .before .hand .ensures) (c .before .before .before .before .before .before .before .before .before .before .if1 .left) e (c .before .is-taken .ensures) (c .if2 .left); bounded = record { records = l .inv .1; torn = l .inv .2; place = omega (arith, slot-count j, l .inv .0) } }
+    record { is = at-untaken j _ (l .records) (l .place) (length j / 128) (l .torn) (l .store) (l .out) (l .report) (l .inv .6) (c .before .before .before .before .before .before .before .before .before .before .before .before .before .before .before .before .loop-test .taken) _ (slot (c .before)) (c .before .before .before .before .before .before .before .before .before .before .before .before .sequence .given .1) (c .before .before .before .before .before .before .hand .ensures) (c .before .before .before .before .before .before .before .before .before .before .if1 .left) (input (c .before)) (c .before .is-taken .ensures) (c .if2 .left); bounded = record { records = l .inv .1; torn = l .inv .2; place = omega (arith, slot-count j, l .inv .0) } }
 
 same-length-13 : tie.Need-same-length-13 Inv-loop μ-loop
 same-length-13 c = search needs

@@ -6,10 +6,10 @@ use Rattle.script.proofs.read_on.Statement.{statement}
 use Rattle.script.proofs.read_on.Tie as tie
 
 abbrev Inv-loop : tie.InvT-loop
-Inv-loop store₀ line₀ piece progress₀ i₀ store line progress i = Unit {0}
+Inv-loop store₀ list₀ is-plain line₀ piece progress₀ i₀ store list line progress i = Unit {0}
 
 abbrev μ-loop : tie.MeasureT-loop
-μ-loop store₀ line₀ piece progress₀ i₀ store line progress i = length piece - i
+μ-loop store₀ list₀ is-plain line₀ piece progress₀ i₀ store list line progress i = length piece - i
 
 loop-holds : tie.Need-loop-holds Inv-loop μ-loop
 loop-holds c = search needs

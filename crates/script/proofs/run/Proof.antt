@@ -4,10 +4,13 @@ use Rattle.script.proofs.run.Statement.{statement}
 use Rattle.script.proofs.run.Tie as tie
 
 abbrev Inv-loop : tie.InvT-loop
-Inv-loop store₀ line₀ progress₀ turns₀ store line progress turns = Unit {0}
+Inv-loop is-plain list₀ store₀ line₀ progress₀ turns₀ list store line progress turns = Unit {0}
 
 abbrev μ-loop : tie.MeasureT-loop
-μ-loop store₀ line₀ progress₀ turns₀ store line progress turns = turns
+μ-loop is-plain list₀ store₀ line₀ progress₀ turns₀ list store line progress turns = turns
+
+no-list-requires : tie.Need-no-list-requires Inv-loop μ-loop
+no-list-requires c κs = search needs
 
 no-store-requires : tie.Need-no-store-requires Inv-loop μ-loop
 no-store-requires c κs = search needs
@@ -66,6 +69,7 @@ run-spec =
     (tie.spec
     Inv-loop
     μ-loop
+    no-list-requires
     no-store-requires
     buffer-requires
     loop-holds

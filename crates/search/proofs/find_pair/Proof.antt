@@ -38,20 +38,16 @@ rival-of-requires c κs =
     (c .before .before .before .before .pre, omega (arith, c .before .before .statement-count .ensures .0))
 
 enum-known-found : tie.Need-enum-known-found Inv-loop μ-loop
-enum-known-found c =
-    search needs
+enum-known-found c = search needs
 
 enum-told : tie.Need-enum-told Inv-loop μ-loop
-enum-told c =
-    search needs
+enum-told c = search needs
 
 add-i : tie.Need-add-i Inv-loop μ-loop
-add-i c =
-    omega arith
+add-i c = omega arith
 
 loop-less : tie.Need-loop-less Inv-loop μ-loop
-loop-less c =
-    omega arith
+loop-less c = omega arith
 
 loop-again : tie.Need-loop-again Inv-loop μ-loop
 loop-again c =

@@ -26,17 +26,17 @@ statement-at-requires : tie.Need-statement-at-requires
 statement-at-requires c κs =
     (long (c .before .before .before .pre .0), omega (arith, c .before .before .before .pre .1, few-statements (c .before .before .before .pre .0)))
 
-add-conflict-from : tie.Need-add-conflict-from
-add-conflict-from c =
+add-first-from : tie.Need-add-first-from
+add-first-from c =
     omega (arith, c .before .before .before .before .pre .1, few-statements (c .before .before .before .before .pre .0))
 
-conflict-from-requires : tie.Need-conflict-from-requires
-conflict-from-requires c κs = search needs
+first-from-requires : tie.Need-first-from-requires
+first-from-requires c κs = search needs
 
 returns-2 : tie.Need-returns-2
 returns-2 c =
     let a = c .before .before .before .before .before .args in
-    rival-found (statementAt (a .store .now)) (a .view) (countOf statementTable (a .store .now)) (a .i) (c .before .before .before .before .before .pre .1) (sym (c .before .before .before .view-at .ensures) ∙ c .before .before .if1 .left) (conflict (statementOf (c .before .statement-at .result) none)) (read-conflicts (c .before .statement-at .result) (statementAt (a .store .now) (a .i)) (c .before .statement-at .ensures)) (c .conflict-from .result) (c .conflict-from .ensures)
+    rival-found (statementAt (a .store .now)) (a .view) (countOf statementTable (a .store .now)) (a .i) (c .before .before .before .before .before .pre .1) (sym (c .before .before .before .view-at .ensures) ∙ c .before .before .if1 .left) (conflict (statementOf (c .before .statement-at .result) none)) (read-conflicts (c .before .statement-at .result) (statementAt (a .store .now) (a .i)) (c .before .statement-at .ensures)) (c .first-from .result) (c .first-from .ensures)
 
 pub rival-of-spec : {M : Type 1} → statement M
 rival-of-spec =
@@ -45,6 +45,6 @@ rival-of-spec =
     view-at-requires
     returns
     statement-at-requires
-    add-conflict-from
-    conflict-from-requires
+    add-first-from
+    first-from-requires
     returns-2)

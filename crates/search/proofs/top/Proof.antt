@@ -36,8 +36,7 @@ view-at-requires c κs =
     (long (c .before .before .before .before .pre), omega (arith, c .before .before .statement-count .ensures .0))
 
 loop-less : tie.Need-loop-less Inv-loop μ-loop
-loop-less c =
-    omega arith
+loop-less c = omega arith
 
 loop-again : tie.Need-loop-again Inv-loop μ-loop
 loop-again c =
@@ -50,8 +49,7 @@ statement-at-requires c κs =
     (long (c .before .before .before .before .before .before .pre), omega (arith, c .before .before .before .before .statement-count .ensures .0))
 
 loop-less-2 : tie.Need-loop-less-2 Inv-loop μ-loop
-loop-less-2 c =
-    omega arith
+loop-less-2 c = omega arith
 
 loop-again-2 : tie.Need-loop-again-2 Inv-loop μ-loop
 loop-again-2 c =
@@ -60,8 +58,7 @@ loop-again-2 c =
     (omega arith, topmost-lower (statementAt (a .store .now)) (a .view) (countOf statementTable (a .store .now)) (l .i) (c .before .before .before .before .before .loop-test .taken) (l .inv .0) (sym (c .before .before .before .before .view-at .ensures) ∙ c .before .before .before .if1 .left) (l .best) (l .height) (l .inv .1) (omega (arith, read-height (c .before .before .statement-at .result) (statementAt (a .store .now) (l .i - 1)) (c .before .before .statement-at .ensures))))
 
 loop-less-3 : tie.Need-loop-less-3 Inv-loop μ-loop
-loop-less-3 c =
-    omega arith
+loop-less-3 c = omega arith
 
 loop-again-3 : tie.Need-loop-again-3 Inv-loop μ-loop
 loop-again-3 c =

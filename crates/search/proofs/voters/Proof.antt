@@ -4,7 +4,7 @@ use native.Mathlib.Omega.{arith}
 use borrow.Author.Needs.{needs}
 use Rattle.rules.specs.Words.{Tally, ofBlock}
 use Rattle.words.specs.Meaning.{blockOf}
-use Rattle.store.specs.Meaning.{tallyOf}
+use Rattle.tallies.specs.Meaning.{tallyOf}
 use Rattle.store.specs.Layout.{tallyTable, countOf}
 use Rattle.store.specs.Decode.{tallyAt, tallies}
 use Rattle.store.proofs.Searches.{found-within, found-first, missing-first}

@@ -5,7 +5,7 @@ use native.Mathlib.Omega.{arith}
 use native.Mathlib.Nat.{sub-zero}
 use Rattle.fields.specs.Names.{nameOf}
 use Rattle.store.specs.Decode.{rows, statementAt, statements}
-use Rattle.store.specs.Changes.{firstFrom}
+use Rattle.store.specs.Searches.{firstFrom}
 use Rattle.store.proofs.Forms.{form-long, form-statements}
 use Rattle.store.proofs.Searches.{find-none, find-here, find-next}
 use Rattle.linked.specs.Links.{isLink}

@@ -6,7 +6,7 @@ use native.Mathlib.Nat.{sub-zero}
 use lib.Dec.{eqb}
 use Rattle.fields.specs.Names.{nameOf}
 use Rattle.store.specs.Decode.{rows, nameAt, names}
-use Rattle.store.specs.Changes.{firstFrom}
+use Rattle.store.specs.Searches.{firstFrom}
 use Rattle.store.proofs.Forms.{form-long, form-log}
 use Rattle.store.proofs.Searches.{find-none, find-here, find-next}
 use borrow.Author.Needs.{needs}

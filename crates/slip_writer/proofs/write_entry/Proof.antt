@@ -1,7 +1,7 @@
 -- `slip_writer::write_entry` meets its contract: the head is put, then the propose. Assumes nothing.
 use mathlib.Core.Path.{sym, _∙_}
 use native.Mathlib.Omega.{arith}
-use Rattle.rules.proofs.Tests.{no-bool}
+use Rattle.laws.proofs.Tests.{no-bool}
 use Rattle.wire.specs.Meaning.{messageOf}
 use Rattle.store.proofs.Forms.{form-long, form-statements}
 use Rattle.slip_writer.proofs.Chains.{is-propose, said-length, entry-says}

@@ -1,7 +1,7 @@
 -- `find_statement` meets its contract: what is left to search answers as the whole does. Assumes nothing.
 use Rattle.store.proofs.Searches.{find-none, find-here, find-next}
 use Rattle.store.proofs.Forms.{form-long, form-statements}
-use Rattle.store.specs.Changes.{firstFrom}
+use Rattle.store.specs.Searches.{firstFrom}
 use Rattle.store.specs.Decode.{rows, statementAt, statements}
 use Rattle.store.specs.Layout.{countOf, statementTable}
 use Rattle.wire.specs.Meaning.{statementOf}

@@ -1,8 +1,6 @@
 -- `find_tally` meets its contract: all tallies in use are searched. Assumes nothing.
-use mathlib.Core.Path.{_∙_}
 use native.Mathlib.Nat.{sub-zero}
 use native.Mathlib.Omega.{arith}
-use borrow.Author.Needs.{needs}
 use Rattle.store.specs.Decode.{tallies}
 use Rattle.store.proofs.Forms.{form-long, form-tallies}
 use Rattle.store.proofs.find_tally.Statement.{statement}

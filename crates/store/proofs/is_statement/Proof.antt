@@ -1,5 +1,5 @@
 -- `is_statement` meets its contract: the block decides, then kind, author and link together. Assumes nothing.
-use Rattle.rules.proofs.Truths.{beq-iff}
+use Rattle.laws.proofs.Truths.{beq-iff}
 use Rattle.store.proofs.Searches.{other-block, same-block}
 use Rattle.wire.specs.Meaning.{statementOf}
 use mathlib.Core.Option.{none}

@@ -4,8 +4,9 @@ use Prim.Native.Nat.{ℕ}
 use borrow.Author.Needs.{needs}
 use Rattle.rules.specs.Words.{Certificate, Tally}
 use Rattle.words.specs.Meaning.{blockOf}
-use Rattle.store.specs.Meaning.{tallyOf}
-use Rattle.store.specs.Decode.{openerOf, reachedFrom, tallyFor, openerFor, sinceFor}
+use Rattle.tallies.specs.Meaning.{tallyOf}
+use Rattle.tallies.specs.Values.{openerOf, reachedFrom}
+use Rattle.store.specs.Decode.{tallyFor, openerFor, sinceFor}
 use Rattle.store.proofs.tally_at.Statement.{statement}
 use Rattle.store.proofs.tally_at.Tie as tie
 

@@ -1,7 +1,6 @@
 -- `ticks::next_fits` meets its contract: whether a statement fits is the same at every clock. Assumes nothing.
 use mathlib.Core.Path.{sym, _∙_}
 use native.Mathlib.Omega.{arith}
-use Rattle.store.proofs.Forms.{form-long}
 use mathlib.Core.Option.{none}
 use borrow.Author.Tests.{not-true, not-false}
 use Rattle.wire.specs.Meaning.{statementOf}
@@ -13,29 +12,20 @@ use borrow.Author.Needs.{needs}
 use Rattle.ticks.proofs.next_fits.Statement.{statement}
 use Rattle.ticks.proofs.next_fits.Tie as tie
 
-load-requires : tie.Need-load-requires
-load-requires c κs =
-    omega (arith, form-long _ (c .before .pre .form))
-
 add-leads-at : tie.Need-add-leads-at
 add-leads-at c =
-    let load = c .before .load in
-    omega (arith, clock-small (c .before .before .before .pre) (load .result) (load .ensures))
+    omega (arith, clock-small (c .before .before .pre .0) (c .before .before .args .station) (c .before .before .pre .1))
 
 leads-at-requires : tie.Need-leads-at-requires
 leads-at-requires c κs = search needs
 
 returns : tie.Need-returns
 returns c =
-    let p = c .before .before .before .before .before .pre in
-    let load = c .before .before .before .load in
-    never-next p (sym (c .before .leads-at .ensures ∙ loaded-next p (load .result) (load .ensures)) ∙ not-true _ (c .if1 .taken))
+    never-next (c .before .before .before .before .pre .0) (sym (c .before .leads-at .ensures ∙ loaded-next (c .before .before .before .before .pre .0) (c .before .before .before .before .args .station) (c .before .before .before .before .pre .1)) ∙ not-true _ (c .if1 .taken))
 
 own-new-view-requires : tie.Need-own-new-view-requires
 own-new-view-requires c κs =
-    let p = c .before .before .before .before .before .pre in
-    let load = c .before .before .before .load in
-    (p, later-leader _ (sym (c .before .leads-at .ensures ∙ loaded-next p (load .result) (load .ensures)) ∙ not-false _ (c .if1 .left)))
+    (c .before .before .before .before .pre .0, later-leader _ (sym (c .before .leads-at .ensures ∙ loaded-next (c .before .before .before .before .pre .0) (c .before .before .before .before .args .station) (c .before .before .before .before .pre .1)) ∙ not-false _ (c .if1 .left)))
 
 planned-requires : tie.Need-planned-requires
 planned-requires c κs = search needs
@@ -45,21 +35,11 @@ fits-requires c κs = search needs
 
 returns-2 : tie.Need-returns-2
 returns-2 c =
-    let start = c .before .before .before .before .before .before .before .before in
-    let load = c .before .before .before .before .before .before .load in
+    let start = c .before .before .before .before .before .before .before in
     let own-new-view = c .before .before .own-new-view in
-    c .fits2 .ensures ∙ plan-room (statementOf (own-new-view .result) none) (stateOf (start .args .store .now)) (formed-parts (start .pre)) (c .before .planned .result) (c .before .planned .ensures)
-    ∙ fits-next _ (own-new-view .result) (sym (c .before .before .before .before .leads-at .ensures ∙ loaded-next (start .pre) (load .result) (load .ensures)) ∙ not-false _ (c .before .before .before .if1 .left)) (own-new-view .ensures .0)
+    c .fits2 .ensures ∙ plan-room (statementOf (own-new-view .result) none) (stateOf (start .args .store .now)) (formed-parts (start .pre .0)) (c .before .planned .result) (c .before .planned .ensures)
+    ∙ fits-next _ (own-new-view .result) (sym (c .before .before .before .before .leads-at .ensures ∙ loaded-next (c .before .before .before .before .before .before .before .pre .0) (c .before .before .before .before .before .before .before .args .station) (c .before .before .before .before .before .before .before .pre .1)) ∙ not-false _ (c .before .before .before .if1 .left)) (own-new-view .ensures .0)
 
 pub next-fits-spec : {M : Type 1} → statement M
 next-fits-spec =
-    tie.close
-    (tie.spec
-    load-requires
-    add-leads-at
-    leads-at-requires
-    returns
-    own-new-view-requires
-    planned-requires
-    fits-requires
-    returns-2)
+    tie.close (tie.spec add-leads-at leads-at-requires returns own-new-view-requires planned-requires fits-requires returns-2)

@@ -3,7 +3,7 @@ use Rattle.turns.proofs.Arriving.{read-linked, arrives-full, pair-insid
 use Rattle.turns.proofs.Moments.{view-of-loaded}
 use Rattle.store.proofs.Forms.{form-long, form-statements}
 use native.Mathlib.Omega.{arith}
-use Rattle.rules.proofs.Bounds.{statements-most, statements-some}
+use Rattle.laws.proofs.Bounds.{statements-most, statements-some}
 use Rattle.store.specs.Layout.{sizeIn}
 use borrow.Author.Needs.{needs}
 use Rattle.turns.proofs.arrive.Statement.{statement}

@@ -21,19 +21,22 @@ same-length c = search needs
 
 returns : tie.Need-returns
 returns c =
-    let args = c .before .before .before .before .before .before .args in
-    works-still (args .out .now) (args .at) (c .before .before .before .before .before .before .pre .0 .form) (enter-not _ (sym (c .before .enters-now .ensures) ∙ not-true _ (c .if1 .taken)))
+    let args = c .before .before .before .before .before .args in
+    works-still (args .out .now) (args .at) (c .before .before .before .before .before .pre .0 .form) (enter-not _ (sym (c .before .enters-now .ensures) ∙ not-true _ (c .if1 .taken)))
 
 entered-requires : tie.Need-entered-requires
 entered-requires c κs =
-    let pre = c .before .before .before .before .before .before .before .before .pre in
+    let pre = c .before .before .before .before .before .before .before .pre in
     (pre .0, sym (c .before .before .before .enters-now .ensures) ∙ not-false _ (c .before .before .if1 .left), omega (arith, pre .1))
+
+slice-aggregate-arrive : tie.Need-slice-aggregate-arrive
+slice-aggregate-arrive c = search needs
 
 arrive-requires : tie.Need-arrive-requires
 arrive-requires c κs =
-    let pre = c .before .before .before .before .before .before .before .before .before .before .before .before .before .before .before .before .pre in
+    let pre = c .before .before .before .before .before .before .before .before .before .before .before .before .before .before .before .pre in
     let w = c .before .before .before .before .before .before .before .entered .ensures in
-    (entered-formed (pre .0) (sym (c .before .before .before .before .before .before .before .before .before .before .before .enters-now .ensures) ∙ not-false _ (c .before .before .before .before .before .before .before .before .before .before .if1 .left)) w, omega (arith, report-ends _ w, says-length (w .says), pre .1, ap mostStatements (entered-size _ w)), pre .2)
+    (entered-formed (pre .0) (sym (c .before .before .before .before .before .before .before .before .before .before .before .enters-now .ensures) ∙ not-false _ (c .before .before .before .before .before .before .before .before .before .before .if1 .left)) w, omega (arith, report-ends _ w, says-length (w .says), pre .1, ap mostStatements (entered-size _ w)), search needs)
 
 same-length-2 : tie.Need-same-length-2
 same-length-2 c = search needs
@@ -41,23 +44,10 @@ same-length-2 c = search needs
 same-length-3 : tie.Need-same-length-3
 same-length-3 c = search needs
 
-same-length-4 : tie.Need-same-length-4
-same-length-4 c = search needs
-
 returns-2 : tie.Need-returns-2
 returns-2 c =
-    works-is (enter-goes _ (sym (c .before .before .before .before .before .before .before .before .before .before .before .before .before .before .before .before .before .before .enters-now .ensures) ∙ not-false _ (c .before .before .before .before .before .before .before .before .before .before .before .before .before .before .before .before .before .if1 .left))) (works-then arrive (c .before .before .before .before .before .before .before .before .before .before .before .before .before .before .entered .ensures) (c .before .before .before .before .before .before .arrive .ensures))
+    works-is (enter-goes _ (sym (c .before .before .before .before .before .before .before .before .before .before .before .before .before .before .before .before .before .enters-now .ensures) ∙ not-false _ (c .before .before .before .before .before .before .before .before .before .before .before .before .before .before .before .before .if1 .left))) (works-then arrive (c .before .before .before .before .before .before .before .before .before .before .before .before .before .entered .ensures) (c .before .before .before .before .before .arrive .ensures))
 
 pub enter-spec : {M : Type 1} → statement M
 enter-spec =
-    tie.close
-    (tie.spec
-    enters-now-requires
-    same-length
-    returns
-    entered-requires
-    arrive-requires
-    same-length-2
-    same-length-3
-    same-length-4
-    returns-2)
+    tie.close (tie.spec enters-now-requires same-length returns entered-requires slice-aggregate-arrive arrive-requires same-length-2 same-length-3 returns-2)

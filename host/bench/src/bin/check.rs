@@ -3,8 +3,8 @@
 //! An empty message is refused with 4 right after the check, so the call's time is the check's. Both checks are then
 //! held against each other on stores with one byte changed.
 
-use bench::plain::well_formed;
 use bench::stores::{Blocks, Names, store};
+use lent::check::well_formed;
 use station::{Refusal, Size, Station};
 use std::hint::black_box;
 use std::time::Instant;

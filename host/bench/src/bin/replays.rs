@@ -4,6 +4,7 @@
 //! journal has as many more rounds as it is shorter.
 
 use bench::script::{self, Call};
+use bench::waited;
 use programs::{Journals, Proved, Second};
 use station::{SLOT, Size};
 use std::hint::black_box;
@@ -52,20 +53,12 @@ fn replay<P: Journals>(journal: &[u8]) -> f64 {
     let mut program = P::fresh(SIZE, N.into(), D.into(), OWN.into()).expect("good settings");
     let (mut out, slots) = (vec![0; SIZE.out_length()], journal.len() / SLOT);
     let mut report = vec![0; 12 + 4 * slots];
-    let (start, waited) = (Instant::now(), waited());
+    let (start, before) = (Instant::now(), waited());
     let answer = black_box(program.replay(journal, &mut out, &mut report));
-    let waited = self::waited() - waited;
+    let waited = waited() - before;
     let time = start.elapsed().as_secs_f64();
     assert_eq!(answer, slots as u64);
     time - waited
-}
-
-/// The seconds for which others had the processor while this program could have gone on, where Linux says
-/// it.
-fn waited() -> f64 {
-    let said = std::fs::read_to_string("/proc/thread-self/schedstat").unwrap_or_default();
-    let waited = said.split(' ').nth(1).and_then(|ns| ns.parse().ok());
-    waited.unwrap_or(0.0) / 1e9
 }
 
 /// So many ticks, of a station that hears nothing.

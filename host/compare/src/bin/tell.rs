@@ -5,6 +5,7 @@
 //!
 //! Of a bad line it doesn't say what is wrong with it, and of a lock not the mask.
 
+use compare::pair::Pair;
 use compare::{Met, run, sources, tell, text};
 use programs::{Second, words};
 use second::replay::Input;
@@ -36,7 +37,7 @@ fn main() -> ExitCode {
 /// that they name was certified.
 fn random(seed: u64) -> String {
     let script = sources::Scripted::new(Size::Small, seed);
-    let (inputs, _) = run::<Second>(Size::Small, script, &mut Met::default());
+    let (inputs, _) = run(Pair::<Second>::new(Size::Small), script, &mut Met::default());
     inputs
         .chunks(8)
         .map(|inputs| {

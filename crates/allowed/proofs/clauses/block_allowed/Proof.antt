@@ -1,5 +1,5 @@
 -- `clauses::block_allowed` meets its contract: two tests alike are `iff`. Assumes nothing.
-use Rattle.rules.proofs.Truths.{beq-iff}
+use Rattle.laws.proofs.Truths.{beq-iff}
 use Rattle.rules.specs.Messages.{blockAllowed}
 use borrow.Author.Needs.{needs}
 use Rattle.allowed.proofs.clauses.block_allowed.Statement.{statement}

@@ -3,7 +3,7 @@ use mathlib.Core.Path.{refl, ap, _∙_}
 use native.Mathlib.Omega.{arith}
 use Rattle.rules.specs.Limits.{mostStatements, mostTallies}
 use Rattle.store.specs.Layout.{statementTable, tallyTable, logTable}
-use Rattle.heading.proofs.Forms.{used-by, counts-statements, tests-fail, tests-hold, tests-then}
+use Rattle.heading.proofs.Forms.{Tested, used-by, counts-statements, tests-fail, tests-hold, tests-then}
 use borrow.Author.Needs.{needs}
 use Rattle.heading.proofs.form.has_form.Statement.{statement}
 use Rattle.heading.proofs.form.has_form.Tie as tie
@@ -36,50 +36,34 @@ table-fits-requires-3 c κs =
     let pre = most .before .before .before .pre in
     omega (arith, pre .long, c .log-in .ensures, most .most-statements .ensures ∙ ap mostStatements (pre .holds .size))
 
+-- the three tests are those of the tables
+tests : (c : tie.After-table-fits3)
+    → Tested (c .before .before .before .before .before .before .before .before .before .args .store .now) (c .before .before .before .before .before .before .before .before .before .args .station) (c .before .before .before .before .before .table-fits .result) (c .before .before .table-fits2 .result) (c .table-fits3 .result)
+tests c =
+    let tallies = c .before .before in
+    let statements = tallies .before .before .before in
+    let same = statements .before .before .before .before .pre .holds .size in
+    let most = statements .before .most-statements .ensures ∙ ap mostStatements same in
+    record {
+      statements = used-by statementTable _ _ refl most (statements .table-fits .ensures);
+      tallies = used-by tallyTable _ _ (tallies .before .before .tallies-in .ensures) (tallies .before .most-tallies .ensures ∙ ap mostTallies same) (tallies .table-fits2 .ensures);
+      log = used-by logTable _ _ (c .before .log-in .ensures) most (c .table-fits3 .ensures);
+    }
+
 returns : tie.Need-returns
 returns c =
-    let log = c .before in
-    let tallies = log .before .before in
-    let statements = tallies .before .before .before in
-    let start = statements .before .before .before .before in
-    let same = start .pre .holds .size in
-    let most = statements .before .most-statements .ensures ∙ ap mostStatements same in
-    tests-fail _ (start .args .station) (start .pre) _ _ _
-    (used-by statementTable _ _ refl most (statements .table-fits .ensures))
-    (used-by tallyTable _ _ (tallies .before .before .tallies-in .ensures) (tallies .before .most-tallies .ensures ∙ ap mostTallies same) (tallies .table-fits2 .ensures))
-    (used-by logTable _ _ (log .before .log-in .ensures) most (log .table-fits3 .ensures))
-    (c .if1 .taken)
+    let start = c .before .before .before .before .before .before .before .before .before .before in
+    tests-fail _ (start .args .station) (start .pre) (tests (c .before)) (c .if1 .taken)
 
 kinds-good-requires : tie.Need-kinds-good-requires
 kinds-good-requires c κs =
-    let log = c .before in
-    let tallies = log .before .before in
-    let statements = tallies .before .before .before in
-    let start = statements .before .before .before .before in
-    let same = start .pre .holds .size in
-    let most = statements .before .most-statements .ensures ∙ ap mostStatements same in
-    let e =
-    tests-hold _ (start .args .station) (start .pre) _ _ _
-    (used-by statementTable _ _ refl most (statements .table-fits .ensures))
-    (used-by tallyTable _ _ (tallies .before .before .tallies-in .ensures) (tallies .before .most-tallies .ensures ∙ ap mostTallies same) (tallies .table-fits2 .ensures))
-    (used-by logTable _ _ (log .before .log-in .ensures) most (log .table-fits3 .ensures))
-    (c .if1 .left) in
-    counts-statements _ (start .args .station) (start .pre) e
+    let start = c .before .before .before .before .before .before .before .before .before .before in
+    counts-statements _ (start .args .station) (start .pre) (tests-hold _ (start .args .station) (start .pre) (tests (c .before)) (c .if1 .left))
 
 returns-2 : tie.Need-returns-2
 returns-2 c =
-    let log = c .before .before in
-    let tallies = log .before .before in
-    let statements = tallies .before .before .before in
-    let start = statements .before .before .before .before in
-    let same = start .pre .holds .size in
-    let most = statements .before .most-statements .ensures ∙ ap mostStatements same in
-    c .kinds-good .ensures
-    ∙ tests-then _ (start .args .station) (start .pre) _ _ _
-    (used-by statementTable _ _ refl most (statements .table-fits .ensures))
-    (used-by tallyTable _ _ (tallies .before .before .tallies-in .ensures) (tallies .before .most-tallies .ensures ∙ ap mostTallies same) (tallies .table-fits2 .ensures))
-    (used-by logTable _ _ (log .before .log-in .ensures) most (log .table-fits3 .ensures))
-    (c .before .if1 .left)
+    let start = c .before .before .before .before .before .before .before .before .before .before .before in
+    c .kinds-good .ensures ∙ tests-then _ (start .args .station) (start .pre) (tests (c .before .before)) (c .before .if1 .left)
 
 pub has-form-spec : {M : Type 1} → statement M
 has-form-spec =

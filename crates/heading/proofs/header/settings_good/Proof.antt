@@ -15,11 +15,11 @@ enum-told-2 c = search needs
 
 returns : tie.Need-returns
 returns c =
-    made-good (c .before .before .before .args .settings) _ (c .before .before .new .ensures) _ (c .enum-told .given .1)
+    made-good (c .before .before .before .args .settings) _ (c .before .before .new .ensures .0) _ (c .enum-told .given .1)
 
 returns-2 : tie.Need-returns-2
 returns-2 c =
-    made-bad (c .before .before .before .args .settings) _ (c .before .before .new .ensures) (c .enum-told2 .given .1)
+    made-bad (c .before .before .before .args .settings) _ (c .before .before .new .ensures .0) (c .enum-told2 .given .1)
 
 pub settings-good-spec : {M : Type 1} → statement M
 settings-good-spec = tie.close (tie.spec new-requires enum-told enum-told-2 returns returns-2)

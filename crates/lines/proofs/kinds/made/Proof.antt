@@ -4,7 +4,7 @@ use Rattle.parts.proofs.Fields.{small-name}
 use Rattle.lines.proofs.Messages.{last-kind}
 use Rattle.fields.specs.Names.{nameOf}
 use Rattle.wire.specs.Meaning.{messageOf}
-use Rattle.rules.proofs.Tests.{no-bool}
+use Rattle.laws.proofs.Tests.{no-bool}
 use mathlib.Core.Path.{_≡_, sym, ap, _∙_}
 use native.Mathlib.Omega.{arith}
 use borrow.Author.Needs.{needs}

@@ -11,8 +11,8 @@ use borrow.Author.Needs.{needs}
 use Rattle.plain_statements.proofs.Statements.noted.Statement.{statement}
 use Rattle.plain_statements.proofs.Statements.noted.Tie as tie
 
-place-of-same-requires : tie.Need-place-of-same-requires
-place-of-same-requires c κs = search needs
+place-of-requires : tie.Need-place-of-requires
+place-of-requires c κs = search needs
 
 mul-held : tie.Need-mul-held
 mul-held c = search needs
@@ -30,11 +30,11 @@ returns : tie.Need-returns
 unfolding statements
 returns c =
     let a = c .before .before .before .before .args in
-    let i = c .before .before .before .place-of-same .result in
+    let i = c .before .before .before .place-of .result in
     let w = c .before .before .before .before .pre in
     record {
       within = within-set room (a .t1 .items) (a .t1 .count) w i _;
-      is = altered heldOf blank room (a .t1 .items) (a .t1 .count) w (words.sameStatement (statementOf (a .x) none)) i (c .before .before .before .place-of-same .ensures) (inputs.noted (a .clock)) _ (c .before .before .if1 .taken) (noted-held (a .clock) (getD (a .t1 .items) i blank));
+      is = altered heldOf blank room (a .t1 .items) (a .t1 .count) w (words.sameStatement (statementOf (a .x) none)) i (c .before .before .before .place-of .ensures) (inputs.noted (a .clock)) _ (c .before .before .if1 .taken) (noted-held (a .clock) (getD (a .t1 .items) i blank));
     }
 
 returns-2 : tie.Need-returns-2
@@ -44,14 +44,14 @@ returns-2 c =
     let w = c .before .before .pre in
     record {
       within = w;
-      is = unaltered heldOf blank room (a .t1 .items) (a .t1 .count) w (words.sameStatement (statementOf (a .x) none)) (c .before .place-of-same .result) (c .before .place-of-same .ensures) (inputs.noted (a .clock)) (c .if1 .left);
+      is = unaltered heldOf blank room (a .t1 .items) (a .t1 .count) w (words.sameStatement (statementOf (a .x) none)) (c .before .place-of .result) (c .before .place-of .ensures) (inputs.noted (a .clock)) (c .if1 .left);
     }
 
 pub noted-spec : {M : Type 1} → statement M
 noted-spec =
     tie.close
     (tie.spec
-    place-of-same-requires
+    place-of-requires
     mul-held
     element-copy-out-held
     mul-now

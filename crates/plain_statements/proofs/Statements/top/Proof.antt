@@ -27,23 +27,19 @@ loop-holds c =
     (omega arith, sym (ap (inputs.top (a .view)) (firsts-done heldOf (a .t1 .items) (a .t1 .count) (a .t1 .count) (omega arith))))
 
 sub-i : tie.Need-sub-i Inv-loop μ-loop
-sub-i c =
-    omega arith
+sub-i c = omega arith
 
 mul-held : tie.Need-mul-held Inv-loop μ-loop
-mul-held c =
-    omega arith
+mul-held c = omega arith
 
 element-copy-out-held : tie.Need-element-copy-out-held Inv-loop μ-loop
-element-copy-out-held c =
-    omega arith
+element-copy-out-held c = omega arith
 
 greater-requires : tie.Need-greater-requires Inv-loop μ-loop
 greater-requires c κs = search needs
 
 loop-less : tie.Need-loop-less Inv-loop μ-loop
-loop-less c =
-    omega arith
+loop-less c = omega arith
 
 loop-again : tie.Need-loop-again Inv-loop μ-loop
 unfolding statements

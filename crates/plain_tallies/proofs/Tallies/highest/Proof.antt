@@ -32,23 +32,19 @@ loop-holds c =
     (omega arith, c .genesis .ensures ∙ sym (ap (words.highest (settingsOf (a .settings)) (a .view)) (firsts-done tallyOf (a .t1 .items) (a .t1 .count) (a .t1 .count) (omega arith))))
 
 sub-i : tie.Need-sub-i Inv-loop μ-loop
-sub-i c =
-    omega arith
+sub-i c = omega arith
 
 mul-tally : tie.Need-mul-tally Inv-loop μ-loop
-mul-tally c =
-    omega arith
+mul-tally c = omega arith
 
 element-copy-out-tally : tie.Need-element-copy-out-tally Inv-loop μ-loop
-element-copy-out-tally c =
-    omega arith
+element-copy-out-tally c = omega arith
 
 better-requires : tie.Need-better-requires Inv-loop μ-loop
 better-requires c κs = search needs
 
 loop-less : tie.Need-loop-less Inv-loop μ-loop
-loop-less c =
-    omega arith
+loop-less c = omega arith
 
 loop-again : tie.Need-loop-again Inv-loop μ-loop
 unfolding tallies

@@ -27,27 +27,22 @@ loop-holds c =
     (omega arith, sym (ap (words.openedBy (a .author)) (firsts-done tallyOf (a .t1 .items) (a .t1 .count) (a .t1 .count) (omega arith))), omega arith)
 
 sub-i : tie.Need-sub-i Inv-loop μ-loop
-sub-i c =
-    omega arith
+sub-i c = omega arith
 
 mul-tally : tie.Need-mul-tally Inv-loop μ-loop
-mul-tally c =
-    omega arith
+mul-tally c = omega arith
 
 element-copy-out-tally : tie.Need-element-copy-out-tally Inv-loop μ-loop
-element-copy-out-tally c =
-    omega arith
+element-copy-out-tally c = omega arith
 
 is-author-requires : tie.Need-is-author-requires Inv-loop μ-loop
 is-author-requires c κs = search needs
 
 add-found : tie.Need-add-found Inv-loop μ-loop
-add-found c =
-    omega arith
+add-found c = omega arith
 
 loop-less : tie.Need-loop-less Inv-loop μ-loop
-loop-less c =
-    omega arith
+loop-less c = omega arith
 
 loop-again : tie.Need-loop-again Inv-loop μ-loop
 unfolding tallies tallyOf
@@ -57,8 +52,7 @@ loop-again c =
     (omega arith, ap (λ (k : ℕ). k + 1) (l .inv .1) ∙ opened-one (a .author) (tallyOf (getD (a .t1 .items) (l .i - 1) blank)) (drop (l .i) (tallies (a .t1))) (sym (c .before .is-author .ensures) ∙ c .if1 .taken) ∙ sym (ap (words.openedBy (a .author)) (firsts-back tallyOf blank (a .t1 .items) (a .t1 .count) (l .i) (long tallyOf blank room (a .t1 .items) (a .t1 .count) (c .before .before .before .before .before .pre)) (omega arith) (l .inv .0))), omega arith)
 
 loop-less-2 : tie.Need-loop-less-2 Inv-loop μ-loop
-loop-less-2 c =
-    omega arith
+loop-less-2 c = omega arith
 
 loop-again-2 : tie.Need-loop-again-2 Inv-loop μ-loop
 unfolding tallies tallyOf

@@ -26,12 +26,10 @@ loop-holds c =
     (omega arith, omega arith)
 
 mul-tally : tie.Need-mul-tally Inv-loop μ-loop
-mul-tally c =
-    omega arith
+mul-tally c = omega arith
 
 element-copy-out-tally : tie.Need-element-copy-out-tally Inv-loop μ-loop
-element-copy-out-tally c =
-    omega arith
+element-copy-out-tally c = omega arith
 
 certificate-of-requires : tie.Need-certificate-of-requires Inv-loop μ-loop
 certificate-of-requires c κs = search needs
@@ -48,12 +46,10 @@ returns c =
     (ap (words.sameBlock (certificateOf (a .t))) (sym (c .before .before .certificate-of .ensures)) ∙ sym (c .before .same-block .ensures) ∙ c .if1 .taken))
 
 add-i : tie.Need-add-i Inv-loop μ-loop
-add-i c =
-    omega arith
+add-i c = omega arith
 
 loop-less : tie.Need-loop-less Inv-loop μ-loop
-loop-less c =
-    omega arith
+loop-less c = omega arith
 
 loop-again : tie.Need-loop-again Inv-loop μ-loop
 unfolding tallies

@@ -13,6 +13,9 @@ use Rattle.script.proofs.play.line.Tie as tie
 within : {r line : Line} {room room′ : ℕ} → r ≡ line → filled r ≤ room → room′ ≡ room → filled line ≤ room′
 within e f k = omega (arith, rw e at f)
 
+look-requires : tie.Need-look-requires
+look-requires c κs = search needs
+
 buffer-requires : tie.Need-buffer-requires
 buffer-requires c κs = search needs
 
@@ -41,10 +44,10 @@ enum-known-what : tie.Need-enum-known-what
 enum-known-what c = search needs
 
 array-share-prefix-bytes : tie.Need-array-share-prefix-bytes
-array-share-prefix-bytes c = within (c .before .before .what .given .1) (c .before .before .before .before .before .read-line .ensures .fits) (c .before .before .before .before .before .read-line .ensures .kept)
+array-share-prefix-bytes c = within (c .before .before .before .what .given .1) (c .before .before .before .before .before .before .read-line .ensures .fits) (c .before .before .before .before .before .before .read-line .ensures .kept)
 
 slice-aggregate-given : tie.Need-slice-aggregate-given
-slice-aggregate-given c = sym (length-take-le _ _ (within (c .before .before .before .what .given .1) (c .before .before .before .before .before .before .read-line .ensures .fits) (c .before .before .before .before .before .before .read-line .ensures .kept)))
+slice-aggregate-given c = sym (length-take-le _ _ (within (c .before .before .before .before .what .given .1) (c .before .before .before .before .before .before .before .read-line .ensures .fits) (c .before .before .before .before .before .before .before .read-line .ensures .kept)))
 
 given-requires : tie.Need-given-requires
 given-requires c κs = search needs
@@ -101,6 +104,7 @@ pub line-spec : {M : Type 1} → statement M
 line-spec =
     tie.close
     (tie.spec
+    look-requires
     buffer-requires
     slice-aggregate-read-line
     read-line-requires

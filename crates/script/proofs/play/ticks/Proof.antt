@@ -4,19 +4,19 @@ use Rattle.script.proofs.play.ticks.Statement.{statement}
 use Rattle.script.proofs.play.ticks.Tie as tie
 
 abbrev Inv-loop : tie.InvT-loop
-Inv-loop store₀ number count page₀ out₀ so-far₀ left₀ store page out so-far left = Unit {0}
+Inv-loop store₀ list₀ is-plain number count clock page₀ out₀ so-far₀ left₀ store list page out so-far left = Unit {0}
 
 abbrev μ-loop : tie.MeasureT-loop
-μ-loop store₀ number count page₀ out₀ so-far₀ left₀ store page out so-far left = left
+μ-loop store₀ list₀ is-plain number count clock page₀ out₀ so-far₀ left₀ store list page out so-far left = left
+
+clock-requires : tie.Need-clock-requires Inv-loop μ-loop
+clock-requires c κs = search needs
 
 buffer-requires : tie.Need-buffer-requires Inv-loop μ-loop
 buffer-requires c κs = search needs
 
 out-buffer-requires : tie.Need-out-buffer-requires Inv-loop μ-loop
 out-buffer-requires c κs = search needs
-
-clock-requires : tie.Need-clock-requires Inv-loop μ-loop
-clock-requires c κs = search needs
 
 loop-holds : tie.Need-loop-holds Inv-loop μ-loop
 loop-holds c = search needs
@@ -33,9 +33,6 @@ loop-less c = search needs
 loop-again : tie.Need-loop-again Inv-loop μ-loop
 loop-again c = search needs
 
-clock-requires-2 : tie.Need-clock-requires-2 Inv-loop μ-loop
-clock-requires-2 c κs = search needs
-
 quiet-requires : tie.Need-quiet-requires Inv-loop μ-loop
 quiet-requires c κs = search needs
 
@@ -51,15 +48,14 @@ ticks-spec =
     (tie.spec
     Inv-loop
     μ-loop
+    clock-requires
     buffer-requires
     out-buffer-requires
-    clock-requires
     loop-holds
     tick-requires
     sub-left
     loop-less
     loop-again
-    clock-requires-2
     quiet-requires
     finish-requires
     returns)

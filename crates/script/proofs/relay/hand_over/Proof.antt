@@ -11,13 +11,13 @@ use Rattle.envelope.proofs.envelope_read.Reads as envelope-read-reads
 use Rattle.io.proofs.buffer.Reads as buffer-reads
 use Rattle.script.proofs.relay.one.Reads as one-reads
 use Rattle.script.proofs.relay.tell.Reads as tell-reads
-use Rattle.script.proofs.show.refusal.Reads as refusal-reads
+use Rattle.said.proofs.show.refusal.Reads as refusal-reads
 
 abbrev Inv-loop : tie.InvT-loop
-Inv-loop store₀ number bytes list answer left₀ at₀ store left at = (at ≤ 4096) × (4096 ≡ length list)
+Inv-loop store₀ list₀ is-plain number bytes places answer left₀ at₀ store list left at = (at ≤ 4096) × (4096 ≡ length places)
 
 abbrev μ-loop : tie.MeasureT-loop
-μ-loop store₀ number bytes list answer left₀ at₀ store left at = 4096 - at
+μ-loop store₀ list₀ is-plain number bytes places answer left₀ at₀ store list left at = 4096 - at
 
 -- src/relay.rt:12:20
 buffer-requires : tie.Need-buffer-requires Inv-loop μ-loop

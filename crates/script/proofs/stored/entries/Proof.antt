@@ -5,16 +5,13 @@ use Rattle.script.proofs.stored.entries.Statement.{statement}
 use Rattle.script.proofs.stored.entries.Tie as tie
 
 abbrev Inv-loop : tie.InvT-loop
-Inv-loop page₀ at store count end₀ i₀ page end i = Unit {0}
+Inv-loop page₀ at names count end₀ i₀ page end i = Unit {0}
 
 abbrev μ-loop : tie.MeasureT-loop
-μ-loop page₀ at store count end₀ i₀ page end i = count - i
+μ-loop page₀ at names count end₀ i₀ page end i = count - i
 
 loop-holds : tie.Need-loop-holds Inv-loop μ-loop
 loop-holds c = search needs
-
-most-statements-in-requires : tie.Need-most-statements-in-requires Inv-loop μ-loop
-most-statements-in-requires c κs = search needs
 
 entry-requires : tie.Need-entry-requires Inv-loop μ-loop
 entry-requires c κs = search needs
@@ -41,7 +38,6 @@ entries-spec =
     Inv-loop
     μ-loop
     loop-holds
-    most-statements-in-requires
     entry-requires
     add-i
     loop-less

@@ -1,9 +1,5 @@
--- `script::stored::entry` is safe: the store is of its exact length, and its limits are small numbers. Assumes nothing.
-use native.Mathlib.Omega.{arith}
+-- `script::stored::entry` is safe: the name lies in the bytes. Assumes nothing.
 use borrow.Author.Needs.{needs}
-use Rattle.rules.proofs.Bounds.{statements-most}
-use Rattle.store.specs.Layout.{sizeIn}
-use Rattle.script.proofs.Exact.{exact-long}
 use Rattle.script.proofs.stored.entry.Statement.{statement}
 use Rattle.script.proofs.stored.entry.Tie as tie
 
@@ -13,11 +9,14 @@ slice-aggregate-say c = search needs
 say-requires : tie.Need-say-requires
 say-requires c κs = search needs
 
-name-at-requires : tie.Need-name-at-requires
-name-at-requires c κs = (exact-long _ (omega arith), c .before .before .before .before .pre)
+mul-get-name : tie.Need-mul-get-name
+mul-get-name c = search needs
+
+get-name-requires : tie.Need-get-name-requires
+get-name-requires c κs = search needs
 
 add-committed : tie.Need-add-committed
-add-committed c = omega (arith, c .before .before .before .before .before .before .pre, statements-most (sizeIn (c .before .before .before .before .before .before .args .store .now)))
+add-committed c = search needs
 
 committed-requires : tie.Need-committed-requires
 committed-requires c κs = search needs
@@ -34,7 +33,8 @@ entry-spec =
     (tie.spec
     slice-aggregate-say
     say-requires
-    name-at-requires
+    mul-get-name
+    get-name-requires
     add-committed
     committed-requires
     put-requires

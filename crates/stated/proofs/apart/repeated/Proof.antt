@@ -3,10 +3,10 @@ use Prim.Native.Nat.{ℕ, _+_}
 use mathlib.Core.Path.{sym, ap, _∙_}
 use native.Mathlib.Omega.{arith}
 use Rattle.rules.specs.Limits.{small}
-use Rattle.rules.proofs.Tests.{no-bool}
+use Rattle.laws.proofs.Tests.{no-bool}
 use Rattle.store.specs.Layout.{statementTable, placeOf}
 use Rattle.heading.proofs.Forms.{few-statements}
-use Rattle.chains.specs.Chains.{chainOf, stir, stirName}
+use Rattle.chains.specs.Chains.{chainOf, stirWords}
 use Rattle.stated.proofs.Hanging.{met-start, met-is, met-hangs}
 use borrow.Author.Needs.{needs}
 use Rattle.stated.proofs.apart.repeated.Statement.{statement}
@@ -18,23 +18,14 @@ mul-at c = search needs
 add-at : tie.Need-add-at
 add-at c = search needs
 
-get-requires : tie.Need-get-requires
-get-requires c κs = search needs
+with-words-requires : tie.Need-with-words-requires
+with-words-requires c κs = search needs
 
-stirred-requires : tie.Need-stirred-requires
-stirred-requires c κs = search needs
+add-with-words : tie.Need-add-with-words
+add-with-words c = search needs
 
-add-with-name : tie.Need-add-with-name
-add-with-name c = search needs
-
-with-name-requires : tie.Need-with-name-requires
-with-name-requires c κs = search needs
-
-add-with-name-2 : tie.Need-add-with-name-2
-add-with-name-2 c = search needs
-
-with-name-requires-2 : tie.Need-with-name-requires-2
-with-name-requires-2 c κs = search needs
+with-words-requires-2 : tie.Need-with-words-requires-2
+with-words-requires-2 c κs = search needs
 
 chain-of-requires : tie.Need-chain-of-requires
 chain-of-requires c κs = search needs
@@ -47,29 +38,26 @@ element-copy-out-left c = search needs
 
 cast-left : tie.Need-cast-left
 cast-left c =
-    let start = c .before .before .before .before .before .before .before in
+    let start = c .before .before .before .before .before in
     let store = start .args .store .now in
-    let at = placeOf statementTable small (start .args .i) in
-    let q = c .before .chain-of .ensures .0 ∙ ap chainOf (c .before .before .with-name2 .ensures ∙ ap (λ (m : ℕ). stirName store m (at + 44)) (c .before .before .before .with-name .ensures ∙ ap (λ (m : ℕ). stirName store m (at + 8)) (c .before .before .before .before .stirred .ensures ∙ ap (stir (start .args .salt)) (c .before .before .before .before .before .get .ensures .0)))) in
-    let met = met-start store (c .before .before .before .before .before .before .shared-slice-known .given) (start .args .salt) (start .args .count) (start .args .i) (start .pre .2) (start .pre .1) _ q (c .before .chain-of .ensures .1) in
-    record { fits = omega (arith, met .within, few-statements (start .pre .0)) }
+    let q = c .before .chain-of .ensures .0 ∙ ap chainOf (c .before .before .with-words2 .ensures ∙ ap (λ (m : ℕ). stirWords store m (placeOf statementTable small (start .args .i) + 44) 4) (c .before .before .before .with-words .ensures)) in
+    let walk = met-start store (c .before .before .before .before .shared-slice-known .given) (start .args .salt) (start .args .count) (start .args .i) (start .pre .2) (start .pre .1) _ q (c .before .chain-of .ensures .1) in
+    record { fits = omega (arith, walk .within, few-statements (start .pre .0)) }
 
 met-requires : tie.Need-met-requires
 met-requires c κs =
-    let start = c .before .before .before .before .before .before .before .before in
+    let start = c .before .before .before .before .before .before in
     let store = start .args .store .now in
-    let at = placeOf statementTable small (start .args .i) in
-    let q = c .before .before .chain-of .ensures .0 ∙ ap chainOf (c .before .before .before .with-name2 .ensures ∙ ap (λ (m : ℕ). stirName store m (at + 44)) (c .before .before .before .before .with-name .ensures ∙ ap (λ (m : ℕ). stirName store m (at + 8)) (c .before .before .before .before .before .stirred .ensures ∙ ap (stir (start .args .salt)) (c .before .before .before .before .before .before .get .ensures .0)))) in
-    let met = met-start store (c .before .before .before .before .before .before .before .shared-slice-known .given) (start .args .salt) (start .args .count) (start .args .i) (start .pre .2) (start .pre .1) _ q (c .before .before .chain-of .ensures .1) in
-    (start .pre .0, start .pre .1, met)
+    let q = c .before .before .chain-of .ensures .0 ∙ ap chainOf (c .before .before .before .with-words2 .ensures ∙ ap (λ (m : ℕ). stirWords store m (placeOf statementTable small (start .args .i) + 44) 4) (c .before .before .before .before .with-words .ensures)) in
+    let walk = met-start store (c .before .before .before .before .before .shared-slice-known .given) (start .args .salt) (start .args .count) (start .args .i) (start .pre .2) (start .pre .1) _ q (c .before .before .chain-of .ensures .1) in
+    (start .pre .0, start .pre .1, walk)
 
 returns : tie.Need-returns
 returns c =
-    let start = c .before .before .before .before .before .before .before .before .before .before in
+    let start = c .before .before .before .before .before .before .before .before in
     let store = start .args .store .now in
-    let at = placeOf statementTable small (start .args .i) in
-    let q = c .before .before .before .before .chain-of .ensures .0 ∙ ap chainOf (c .before .before .before .before .before .with-name2 .ensures ∙ ap (λ (m : ℕ). stirName store m (at + 44)) (c .before .before .before .before .before .before .with-name .ensures ∙ ap (λ (m : ℕ). stirName store m (at + 8)) (c .before .before .before .before .before .before .before .stirred .ensures ∙ ap (stir (start .args .salt)) (c .before .before .before .before .before .before .before .before .get .ensures .0)))) in
-    let met = met-is store (c .before .before .before .before .before .before .before .before .before .shared-slice-known .given) (start .args .salt) (start .args .count) (start .args .i) (start .pre .2) (start .pre .1) _ q (c .before .before .before .before .chain-of .ensures .1) in
+    let q = c .before .before .before .before .chain-of .ensures .0 ∙ ap chainOf (c .before .before .before .before .before .with-words2 .ensures ∙ ap (λ (m : ℕ). stirWords store m (placeOf statementTable small (start .args .i) + 44) 4) (c .before .before .before .before .before .before .with-words .ensures)) in
+    let met = met-is store (c .before .before .before .before .before .before .before .shared-slice-known .given) (start .args .salt) (start .args .count) (start .args .i) (start .pre .2) (start .pre .1) _ q (c .before .before .before .before .chain-of .ensures .1) in
     record { is = sym (c .if1 .taken) ∙ c .before .met .ensures ∙ met; hangs = λ e. no-bool e }
 
 sub-hang : tie.Need-sub-hang
@@ -77,19 +65,18 @@ sub-hang c = search needs
 
 hang-requires : tie.Need-hang-requires
 hang-requires c κs =
-    let start = c .before .before .before .before .before .before .before .before .before .before .before .before in
+    let start = c .before .before .before .before .before .before .before .before .before .before in
     let few = few-statements (start .pre .0) in
     (c .before .before .before .before .before .before .chain-of .ensures .1, omega (arith, start .pre .1), omega arith)
 
 returns-2 : tie.Need-returns-2
 returns-2 c =
-    let start = c .before .before .before .before .before .before .before .before .before .before .before .before .before in
+    let start = c .before .before .before .before .before .before .before .before .before .before .before in
     let store = start .args .store .now in
-    let at = placeOf statementTable small (start .args .i) in
-    let q = c .before .before .before .before .before .before .before .chain-of .ensures .0 ∙ ap chainOf (c .before .before .before .before .before .before .before .before .with-name2 .ensures ∙ ap (λ (m : ℕ). stirName store m (at + 44)) (c .before .before .before .before .before .before .before .before .before .with-name .ensures ∙ ap (λ (m : ℕ). stirName store m (at + 8)) (c .before .before .before .before .before .before .before .before .before .before .stirred .ensures ∙ ap (stir (start .args .salt)) (c .before .before .before .before .before .before .before .before .before .before .before .get .ensures .0)))) in
-    let met = met-is store (c .before .before .before .before .before .before .before .before .before .before .before .before .shared-slice-known .given) (start .args .salt) (start .args .count) (start .args .i) (start .pre .2) (start .pre .1) _ q (c .before .before .before .before .before .before .before .chain-of .ensures .1) in
-    let hangs = met-hangs store (c .before .before .before .before .before .before .before .before .before .before .before .before .shared-slice-known .given) (start .args .salt) (start .args .count) (start .args .i) (start .pre .2) (start .pre .1) _ q (c .before .before .before .before .before .before .before .chain-of .ensures .1) (few-statements (start .pre .0)) in
-    record { is = sym (c .before .before .before .if1 .left) ∙ c .before .before .before .before .met .ensures ∙ met; hangs = λ e. rw (c .hang .ensures .0, c .hang .ensures .1) hangs }
+    let q = c .before .before .before .before .before .before .before .chain-of .ensures .0 ∙ ap chainOf (c .before .before .before .before .before .before .before .before .with-words2 .ensures ∙ ap (λ (m : ℕ). stirWords store m (placeOf statementTable small (start .args .i) + 44) 4) (c .before .before .before .before .before .before .before .before .before .with-words .ensures)) in
+    let met = met-is store (c .before .before .before .before .before .before .before .before .before .before .shared-slice-known .given) (start .args .salt) (start .args .count) (start .args .i) (start .pre .2) (start .pre .1) _ q (c .before .before .before .before .before .before .before .chain-of .ensures .1) in
+    let hangs = met-hangs store (c .before .before .before .before .before .before .before .before .before .before .shared-slice-known .given) (start .args .salt) (start .args .count) (start .args .i) (start .pre .2) (start .pre .1) _ q (c .before .before .before .before .before .before .before .chain-of .ensures .1) in
+    record { is = sym (c .before .before .before .if1 .left) ∙ c .before .before .before .before .met .ensures ∙ met; hangs = λ e. rw (c .hang .ensures .0, c .hang .ensures .1) (hangs (few-statements (start .pre .0))) }
 
 pub repeated-spec : {M : Type 1} → statement M
 repeated-spec =
@@ -97,12 +84,9 @@ repeated-spec =
     (tie.spec
     mul-at
     add-at
-    get-requires
-    stirred-requires
-    add-with-name
-    with-name-requires
-    add-with-name-2
-    with-name-requires-2
+    with-words-requires
+    add-with-words
+    with-words-requires-2
     chain-of-requires
     mul-left
     element-copy-out-left

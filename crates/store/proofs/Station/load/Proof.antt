@@ -1,12 +1,11 @@
 -- `Station::load` meets its contract: each field is the number at its place, and the lock is a certificate. Assumes nothing.
 use Rattle.store.proofs.Values.{phase-number}
-use Rattle.store.specs.Meaning.{courseOf}
+use Rattle.store.specs.Meaning.{courseOf, headerOf}
 use Rattle.store.specs.Decode.{phaseNumber}
 use Rattle.rules.specs.Words.{Certificate}
 use Rattle.fields.specs.Places.{number}
 use Rattle.words.specs.Meaning.{blockOf}
 use mathlib.Core.Path.{_≡_, ap, _∙_}
-use Rattle.store.specs.Meaning.{headerOf}
 use borrow.Author.Needs.{needs}
 use Rattle.store.proofs.Station.load.Statement.{statement}
 use Rattle.store.proofs.Station.load.Tie as tie

@@ -1,10 +1,9 @@
 -- `tallied::apart::has_tally` meets its contract. Assumes nothing.
-use Prim.Native.Nat.{ℕ}
 use mathlib.Core.Path.{ap, _∙_}
 use native.Mathlib.Omega.{arith}
 use lib.Dec.{lit≤}
 use Rattle.heading.proofs.Forms.{few-tallies}
-use Rattle.chains.specs.Chains.{chainOf, stirName}
+use Rattle.chains.specs.Chains.{chainOf}
 use Rattle.tallied.proofs.Hanging.{has-start, has-is}
 use borrow.Author.Needs.{needs}
 use Rattle.tallied.proofs.apart.has_tally.Statement.{statement}
@@ -13,51 +12,29 @@ use Rattle.tallied.proofs.apart.has_tally.Tie as tie
 tallies-in-requires : tie.Need-tallies-in-requires
 tallies-in-requires c κs = search needs
 
-stirred-requires : tie.Need-stirred-requires
-stirred-requires c κs = search needs
-
-with-name-requires : tie.Need-with-name-requires
-with-name-requires c κs = search needs
-
 chain-of-requires : tie.Need-chain-of-requires
 chain-of-requires c κs = search needs
 
-mul-left : tie.Need-mul-left
-mul-left c = search needs
-
-element-copy-out-left : tie.Need-element-copy-out-left
-element-copy-out-left c = search needs
-
-cast-left : tie.Need-cast-left
-cast-left c =
-    let start = c .before .before .before .before .before .before in
-    let q = c .before .chain-of .ensures .0 ∙ ap chainOf (c .before .before .with-name .ensures ∙ ap (λ (m : ℕ). stirName (start .args .store .now) m (start .args .at)) (c .before .before .before .stirred .ensures)) in
-    let walk = has-start (start .args .store .now) (c .before .before .before .before .before .shared-slice-known .given) _ (c .before .before .before .before .tallies-in .ensures) (start .args .salt) (start .args .count) (start .pre .0 .is) (start .args .key) (start .args .at) (start .pre .1) _ q (c .before .chain-of .ensures .1) in
-    record { fits = omega (arith, walk .within, few-tallies (start .pre .0)) }
-
 has-block-requires : tie.Need-has-block-requires
 has-block-requires c κs =
-    let start = c .before .before .before .before .before .before in
-    let q = c .before .chain-of .ensures .0 ∙ ap chainOf (c .before .before .with-name .ensures ∙ ap (λ (m : ℕ). stirName (start .args .store .now) m (start .args .at)) (c .before .before .before .stirred .ensures)) in
+    let start = c .before .before .before in
+    let q = c .chain-of .ensures .0 ∙ ap chainOf (start .pre .1 .mixes) in
+    let walk = has-start (start .args .store .now) (c .before .before .shared-slice-known .given) _ (c .before .tallies-in .ensures) (start .pre .1 .salt) (start .args .count) (start .pre .0 .is) (start .args .key) (start .args .at) (start .pre .1 .hang) _ q (c .chain-of .ensures .1) in
     let k = start .pre .0 in
-    (lit≤ tt, omega (arith, k .long, k .room, c .before .before .before .before .tallies-in .ensures), few-tallies k, start .pre .2, has-start (start .args .store .now) (c .before .before .before .before .before .shared-slice-known .given) _ (c .before .before .before .before .tallies-in .ensures) (start .args .salt) (start .args .count) (start .pre .0 .is) (start .args .key) (start .args .at) (start .pre .1) _ q (c .before .chain-of .ensures .1))
+    (c .chain-of .ensures .1, lit≤ tt, omega (arith, k .long, k .room, c .before .tallies-in .ensures), few-tallies k, start .pre .2, walk)
 
 returns : tie.Need-returns
 returns c =
-    let start = c .before .before .before .before .before .before .before in
-    let q = c .before .before .chain-of .ensures .0 ∙ ap chainOf (c .before .before .before .with-name .ensures ∙ ap (λ (m : ℕ). stirName (start .args .store .now) m (start .args .at)) (c .before .before .before .before .stirred .ensures)) in
-    has-is (start .args .store .now) (c .before .before .before .before .before .before .shared-slice-known .given) _ (c .before .before .before .before .before .tallies-in .ensures) (start .args .salt) (start .args .count) (start .pre .0 .is) (start .args .key) (start .args .at) (start .pre .1) _ q (c .before .before .chain-of .ensures .1) _ (c .has-block .ensures)
+    let start = c .before .before .before .before in
+    let q = c .before .chain-of .ensures .0 ∙ ap chainOf (start .pre .1 .mixes) in
+    let has = has-is (start .args .store .now) (c .before .before .before .shared-slice-known .given) _ (c .before .before .tallies-in .ensures) (start .pre .1 .salt) (start .args .count) (start .pre .0 .is) (start .args .key) (start .args .at) (start .pre .1 .hang) _ q (c .before .chain-of .ensures .1) in
+    has _ (c .has-block .ensures)
 
 pub has-tally-spec : {M : Type 1} → statement M
 has-tally-spec =
     tie.close
     (tie.spec
     tallies-in-requires
-    stirred-requires
-    with-name-requires
     chain-of-requires
-    mul-left
-    element-copy-out-left
-    cast-left
     has-block-requires
     returns)

@@ -1,12 +1,10 @@
 -- `tallied::apart::repeated` meets its contract. Assumes nothing.
-use Prim.Native.Nat.{ℕ, _+_, _*_}
 use mathlib.Core.Path.{sym, ap, _∙_}
 use native.Mathlib.Omega.{arith}
 use lib.Dec.{lit≤}
-use Rattle.rules.proofs.Tests.{no-bool}
-use Rattle.store.specs.Layout.{tallySize}
+use Rattle.laws.proofs.Tests.{no-bool}
 use Rattle.heading.proofs.Forms.{few-tallies}
-use Rattle.chains.specs.Chains.{chainOf, stirName}
+use Rattle.chains.specs.Chains.{chainOf}
 use Rattle.tallied.proofs.Hanging.{met-start, met-is, met-hangs}
 use borrow.Author.Needs.{needs}
 use Rattle.tallied.proofs.apart.repeated.Statement.{statement}
@@ -24,72 +22,45 @@ add-at c = search needs
 get-requires : tie.Need-get-requires
 get-requires c κs = search needs
 
-stirred-requires : tie.Need-stirred-requires
-stirred-requires c κs = search needs
-
-add-with-name : tie.Need-add-with-name
-add-with-name c = search needs
-
-with-name-requires : tie.Need-with-name-requires
-with-name-requires c κs = search needs
+with-words-requires : tie.Need-with-words-requires
+with-words-requires c κs = search needs
 
 chain-of-requires : tie.Need-chain-of-requires
 chain-of-requires c κs = search needs
-
-mul-left : tie.Need-mul-left
-mul-left c = search needs
-
-element-copy-out-left : tie.Need-element-copy-out-left
-element-copy-out-left c = search needs
-
-cast-left : tie.Need-cast-left
-cast-left c =
-    let start = c .before .before .before .before .before .before .before in
-    let chained = start .pre .2 in
-    let at = c .before .before .before .before .before .tallies-in .result + tallySize * start .args .i + 8 in
-    let q = c .before .chain-of .ensures .0 ∙ ap chainOf (c .before .before .with-name .ensures ∙ ap (λ (m : ℕ). stirName (start .args .store .now) m at) (c .before .before .before .stirred .ensures)) in
-    let the-start = met-start (start .args .store .now) (c .before .before .before .before .before .before .shared-slice-known .given) _ (c .before .before .before .before .before .tallies-in .ensures) (start .args .salt) (start .args .count) (start .args .i) _ (c .before .before .before .before .get .ensures .0) chained (start .pre .1) _ q (c .before .chain-of .ensures .1) in
-    record { fits = omega (arith, the-start .within, few-tallies (start .pre .0)) }
 
 add-has-block : tie.Need-add-has-block
 add-has-block c = search needs
 
 has-block-requires : tie.Need-has-block-requires
 has-block-requires c κs =
-    let start = c .before .before .before .before .before .before .before .before in
-    let chained = start .pre .2 in
-    let at = c .before .before .before .before .before .before .tallies-in .result + tallySize * start .args .i + 8 in
-    let q = c .before .before .chain-of .ensures .0 ∙ ap chainOf (c .before .before .before .with-name .ensures ∙ ap (λ (m : ℕ). stirName (start .args .store .now) m at) (c .before .before .before .before .stirred .ensures)) in
-    let the-start = met-start (start .args .store .now) (c .before .before .before .before .before .before .before .shared-slice-known .given) _ (c .before .before .before .before .before .before .tallies-in .ensures) (start .args .salt) (start .args .count) (start .args .i) _ (c .before .before .before .before .before .get .ensures .0) chained (start .pre .1) _ q (c .before .before .chain-of .ensures .1) in
+    let start = c .before .before .before .before .before .before .before in
+    let q = c .before .before .chain-of .ensures .0 ∙ ap chainOf (c .before .before .before .with-words .ensures) in
+    let walk = met-start (start .args .store .now) (c .before .before .before .before .before .before .shared-slice-known .given) _ (c .before .before .before .before .before .tallies-in .ensures) (start .args .salt) (start .args .count) (start .args .i) _ (c .before .before .before .before .get .ensures .0) (start .pre .2) (start .pre .1) _ q (c .before .before .chain-of .ensures .1) in
     let k = start .pre .0 in
-    (lit≤ tt, omega (arith, k .long, k .room, c .before .before .before .before .before .before .tallies-in .ensures), few-tallies k, omega (arith, k .long, k .room, start .pre .1, c .before .before .before .before .before .before .tallies-in .ensures), the-start)
+    (c .before .before .chain-of .ensures .1, lit≤ tt, omega (arith, k .long, k .room, c .before .before .before .before .before .tallies-in .ensures), few-tallies k, omega (arith, k .long, k .room, start .pre .1, c .before .before .before .before .before .tallies-in .ensures), walk)
 
 returns : tie.Need-returns
 returns c =
-    let start = c .before .before .before .before .before .before .before .before .before .before in
-    let chained = start .pre .2 in
-    let at = c .before .before .before .before .before .before .before .before .tallies-in .result + tallySize * start .args .i + 8 in
-    let q = c .before .before .before .before .chain-of .ensures .0 ∙ ap chainOf (c .before .before .before .before .before .with-name .ensures ∙ ap (λ (m : ℕ). stirName (start .args .store .now) m at) (c .before .before .before .before .before .before .stirred .ensures)) in
-    let the-is = met-is (start .args .store .now) (c .before .before .before .before .before .before .before .before .before .shared-slice-known .given) _ (c .before .before .before .before .before .before .before .before .tallies-in .ensures) (start .args .salt) (start .args .count) (start .args .i) _ (c .before .before .before .before .before .before .before .get .ensures .0) chained (start .pre .1) _ q (c .before .before .before .before .chain-of .ensures .1) in
-    record { is = sym (c .if1 .taken) ∙ c .before .has-block .ensures ∙ the-is; hangs = λ e. no-bool e }
+    let start = c .before .before .before .before .before .before .before .before .before in
+    let q = c .before .before .before .before .chain-of .ensures .0 ∙ ap chainOf (c .before .before .before .before .before .with-words .ensures) in
+    let met = met-is (start .args .store .now) (c .before .before .before .before .before .before .before .before .shared-slice-known .given) _ (c .before .before .before .before .before .before .before .tallies-in .ensures) (start .args .salt) (start .args .count) (start .args .i) _ (c .before .before .before .before .before .before .get .ensures .0) (start .pre .2) (start .pre .1) _ q (c .before .before .before .before .chain-of .ensures .1) in
+    record { is = sym (c .if1 .taken) ∙ c .before .has-block .ensures ∙ met; hangs = λ e. no-bool e }
 
 sub-hang : tie.Need-sub-hang
 sub-hang c = search needs
 
 hang-requires : tie.Need-hang-requires
 hang-requires c κs =
-    let start = c .before .before .before .before .before .before .before .before .before .before .before .before in
+    let start = c .before .before .before .before .before .before .before .before .before .before .before in
     (c .before .before .before .before .before .before .chain-of .ensures .1, omega (arith, start .pre .1, few-tallies (start .pre .0)), omega (arith, few-tallies (start .pre .0)))
 
 returns-2 : tie.Need-returns-2
 returns-2 c =
-    let start = c .before .before .before .before .before .before .before .before .before .before .before .before .before in
-    let chained = start .pre .2 in
-    let at = c .before .before .before .before .before .before .before .before .before .before .before .tallies-in .result + tallySize * start .args .i + 8 in
-    let q = c .before .before .before .before .before .before .before .chain-of .ensures .0 ∙ ap chainOf (c .before .before .before .before .before .before .before .before .with-name .ensures ∙ ap (λ (m : ℕ). stirName (start .args .store .now) m at) (c .before .before .before .before .before .before .before .before .before .stirred .ensures)) in
-    let the-is = met-is (start .args .store .now) (c .before .before .before .before .before .before .before .before .before .before .before .before .shared-slice-known .given) _ (c .before .before .before .before .before .before .before .before .before .before .before .tallies-in .ensures) (start .args .salt) (start .args .count) (start .args .i) _ (c .before .before .before .before .before .before .before .before .before .before .get .ensures .0) chained (start .pre .1) _ q (c .before .before .before .before .before .before .before .chain-of .ensures .1) in
-    let the-hangs = met-hangs (start .args .store .now) (c .before .before .before .before .before .before .before .before .before .before .before .before .shared-slice-known .given) _ (c .before .before .before .before .before .before .before .before .before .before .before .tallies-in .ensures) (start .args .salt) (start .args .count) (start .args .i) _ (c .before .before .before .before .before .before .before .before .before .before .get .ensures .0) chained (start .pre .1) _ q (c .before .before .before .before .before .before .before .chain-of .ensures .1) in
-    record { is = sym (c .before .before .before .if1 .left) ∙ c .before .before .before .before .has-block .ensures ∙ the-is; hangs = λ e. rw (c .hang .ensures .0, c .hang .ensures .1) (the-hangs (few-tallies (start .pre .0))) }
+    let start = c .before .before .before .before .before .before .before .before .before .before .before .before in
+    let q = c .before .before .before .before .before .before .before .chain-of .ensures .0 ∙ ap chainOf (c .before .before .before .before .before .before .before .before .with-words .ensures) in
+    let met = met-is (start .args .store .now) (c .before .before .before .before .before .before .before .before .before .before .before .shared-slice-known .given) _ (c .before .before .before .before .before .before .before .before .before .before .tallies-in .ensures) (start .args .salt) (start .args .count) (start .args .i) _ (c .before .before .before .before .before .before .before .before .before .get .ensures .0) (start .pre .2) (start .pre .1) _ q (c .before .before .before .before .before .before .before .chain-of .ensures .1) in
+    let hangs = met-hangs (start .args .store .now) (c .before .before .before .before .before .before .before .before .before .before .before .shared-slice-known .given) _ (c .before .before .before .before .before .before .before .before .before .before .tallies-in .ensures) (start .args .salt) (start .args .count) (start .args .i) _ (c .before .before .before .before .before .before .before .before .before .get .ensures .0) (start .pre .2) (start .pre .1) _ q (c .before .before .before .before .before .before .before .chain-of .ensures .1) in
+    record { is = sym (c .before .before .before .if1 .left) ∙ c .before .before .before .before .has-block .ensures ∙ met; hangs = λ e. rw (c .hang .ensures .0, c .hang .ensures .1) (hangs (few-tallies (start .pre .0))) }
 
 pub repeated-spec : {M : Type 1} → statement M
 repeated-spec =
@@ -99,13 +70,8 @@ repeated-spec =
     mul-at
     add-at
     get-requires
-    stirred-requires
-    add-with-name
-    with-name-requires
+    with-words-requires
     chain-of-requires
-    mul-left
-    element-copy-out-left
-    cast-left
     add-has-block
     has-block-requires
     returns

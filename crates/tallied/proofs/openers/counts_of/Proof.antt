@@ -4,10 +4,10 @@ use mathlib.Core.Path.{_≡_, refl}
 use native.Mathlib.Omega.{arith}
 use lib.ListN.{length, length-set}
 use borrow.Author.Needs.{needs}
-use Rattle.rules.proofs.Bounds.{tallies-most}
+use Rattle.laws.proofs.Bounds.{tallies-most}
 use Rattle.store.specs.Layout.{sizeIn}
 use Rattle.tallied.specs.Tallies.{Counted}
-use Rattle.tallied.proofs.Counting.{counted-start, counted-more, counted-most, counted-whole, opener-small}
+use Rattle.tallied.proofs.Counting.{counted-start, counted-more, counted-same, counted-most, counted-whole, opener-small}
 use Rattle.tallied.proofs.openers.counts_of.Statement.{statement}
 use Rattle.tallied.proofs.openers.counts_of.Tie as tie
 
@@ -39,10 +39,10 @@ array-read-counts c = search needs
 
 add-counts : tie.Need-add-counts Inv-loop μ-loop
 add-counts c =
-    let l = c .before .before .loop in
-    let a = c .before .before .before .before in
-    let small = opener-small (a .args .store .now) (c .before .before .before .shared-slice-known .given) (l .i - 1) in
-    let m = counted-most (a .args .store .now) (l .i) (a .args .count - l .i) (l .counts) (l .inv .2) (c .opener-at .result) (omega (arith, c .opener-at .ensures)) in
+    let l = c .before .before .before .loop in
+    let a = c .before .before .before .before .before in
+    let small = opener-small (a .args .store .now) (c .before .before .before .before .shared-slice-known .given) (l .i - 1) in
+    let m = counted-most (a .args .store .now) (l .i) (a .args .count - l .i) (l .counts) (l .inv .2) (c .before .opener-at .result) (c .if1 .taken) (omega (arith, c .before .opener-at .ensures)) in
     record { fits = omega (arith, a .pre .room, tallies-most (sizeIn (a .args .store .now))) }
 
 mul-counts-2 : tie.Need-mul-counts-2 Inv-loop μ-loop
@@ -56,10 +56,19 @@ loop-less c = search needs
 
 loop-again : tie.Need-loop-again Inv-loop μ-loop
 loop-again c =
-    let l = c .before .before .loop in
-    let a = c .before .before .before .before .args in
-    let small = opener-small (a .store .now) (c .before .before .before .shared-slice-known .given) (l .i - 1) in
-    (omega (arith, l .inv .0), simp length-set (l .inv .1), counted-more (a .store .now) (l .i) (a .count) (l .counts) (c .before .loop-test .taken) (l .inv .0) (l .inv .1) (c .opener-at .result) (omega (arith, c .opener-at .ensures)) (c .opener-at .ensures) (l .inv .2))
+    let l = c .before .before .before .loop in
+    let a = c .before .before .before .before .before .args in
+    let small = opener-small (a .store .now) (c .before .before .before .before .shared-slice-known .given) (l .i - 1) in
+    (omega (arith, l .inv .0), simp length-set (l .inv .1), counted-more (a .store .now) (l .i) (a .count) (l .counts) (c .before .before .loop-test .taken) (l .inv .0) (c .before .opener-at .result) (c .before .opener-at .ensures) (l .inv .2) (l .inv .1) (c .if1 .taken) (omega (arith, c .before .opener-at .ensures)))
+
+loop-less-2 : tie.Need-loop-less-2 Inv-loop μ-loop
+loop-less-2 c = search needs
+
+loop-again-2 : tie.Need-loop-again-2 Inv-loop μ-loop
+loop-again-2 c =
+    let l = c .before .before .before .loop in
+    let a = c .before .before .before .before .before .args in
+    (omega (arith, l .inv .0), l .inv .1, counted-same (a .store .now) (l .i) (a .count) (l .counts) (c .before .before .loop-test .taken) (l .inv .0) (c .before .opener-at .result) (c .before .opener-at .ensures) (l .inv .2) (c .if1 .left))
 
 returns : tie.Need-returns Inv-loop μ-loop
 returns c =
@@ -84,4 +93,6 @@ counts-of-spec =
     array-write-counts
     loop-less
     loop-again
+    loop-less-2
+    loop-again-2
     returns)

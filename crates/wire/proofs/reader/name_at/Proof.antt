@@ -1,6 +1,6 @@
 -- `reader::name_at` meets its contract: here or not here. Assumes nothing.
 use native.Mathlib.Numerals.{add-one}
-use Rattle.rules.proofs.Bytes.{pow-pos}
+use Rattle.laws.proofs.Bytes.{pow-pos}
 use mathlib.Core.Path.{refl, sym, _∙_}
 use native.Mathlib.Omega.{arith}
 use Rattle.wire.specs.Fields.{numberOf, behind}

@@ -28,11 +28,9 @@ use denote.Ref.{now}
 use denote.Signature.{namedLft}
 use denote.Slice.{sliceVal, ShrSlice}
 use denote.Steps.{peeks, heard, nothing}
-use denote.Struct.Declared.{Declared}
 use denote.Struct.Laws as LL
 use denote.Enum.Laws as EL
 use denote.Struct.Rest.{all-own, own-open}
-use denote.Struct.Values.{Values}
 use denote.Triple.Statement.{Contract, Triple}
 use denote.Triple.Call.{calls-at}
 use denote.Triple.Entry.{Vals, onEntry}
@@ -45,6 +43,7 @@ use Rattle.wire.specs.Fields.{ended}
 use Rattle.wire.specs.Meaning.{readOf, placeOf}
 use Rattle.wire.specs.declared.reader.Reader.{Reader}
 use Rattle.wire.specs.declared.Read.{Read}
+use Rattle.wire.proofs.Readers.{D, L, vd}
 use Rattle.wire.proofs.reader.Reader as T
 use Rattle.wire.proofs.reader.Reader.Laws as T′
 use Rattle.wire.proofs.reader.Cursor as Cu
@@ -89,16 +88,6 @@ module _ {M : Type 1} (𝓤 : URA M) (H : Heap 𝓤) (A : Atoms 𝓤) (W : Given
   abbrev Own : Fml
   Own = B (κ, tt) .own d (mach ∷ [])
 
-  -- the reader's type and laws, and its fields' values
-  abbrev D : Declared
-  D = T.the-type (namedLft 1 0 tt (κ, tt))
-
-  abbrev L : LL.Laws D
-  L = T′.the-laws (namedLft 1 0 tt (κ, tt))
-
-  abbrev vd : Values (D .parts)
-  vd = (d .message, (d .cursor, tt))
-
   -- what the callee is passed
   abbrev passed : Vals leaf.signature (κ, tt)
   passed = (v ∷ [], (Cu′.lowered (d .cursor) ∷ [], tt))
@@ -113,8 +102,8 @@ module _ {M : Type 1} (𝓤 : URA M) (H : Heap 𝓤) (A : Atoms 𝓤) (W : Given
   apart : ent 𝓤 (onEntry 𝓤 H A end.signature (κ, tt) (q, tt) (d, tt) at) (sep 𝓤 (Leaf 𝓤 H A mem run .pre to) (sem 𝓤 H A Own))
   apart =
       qed W ((‵ (flft κ q) ⊛ ‵ ftrue) ∷ ‵ (owns (B (κ, tt) ∷ []) (d, tt) at) ∷ []) ∵
-      move ! (1 ∷ []) $ fsplit ! $ move ! (1 ∷ []) $ drop ! $ use1 W (‵ Own ⊛ ‵ Own) (LL.copy D (T′.the-copy (namedLft 1 0 tt (κ, tt))) 𝓤 H A W .twice d (mach ∷ [])) $ split ! $
-      use1 W (given (mach ∷ [] ≡ mach ∷ []) (‵ (all-own (D .parts) L vd))) (own-open 𝓤 H A W D L vd mach) $ learn ! (λ _.
+      move ! (1 ∷ []) $ fsplit ! $ move ! (1 ∷ []) $ drop ! $ use1 W (‵ Own ⊛ ‵ Own) (LL.copy (D κ) (T′.the-copy (namedLft 1 0 tt (κ, tt))) 𝓤 H A W .twice d (mach ∷ [])) $ split ! $
+      use1 W (given (mach ∷ [] ≡ mach ∷ []) (‵ (all-own (D κ .parts) (L κ) (vd κ d)))) (own-open 𝓤 H A W (D κ) (L κ) (vd κ d) mach) $ learn ! (λ _.
       -- [what the fields own; what the reader owns; the token]
       move ! (2 ∷ 0 ∷ []) $ use2 W (raw (Leaf 𝓤 H A mem run .pre to)) asked $ frame ! $ done !)
 

@@ -1,0 +1,133 @@
+-- The loop that looks at the statements before any chain is walked, from the last place down. Assumes nothing.
+use Prim.Native.Nat.{ℕ, zero, suc, _+_, _-_, _<_, _≤_}
+use mathlib.Core.Path.{_≡_, refl, sym, ap, _∙_, subst}
+use mathlib.Core.Bool.{Bool, true, false, not, _&&_, _||_}
+use mathlib.Core.List.{List}
+use mathlib.Core.Option.{Option, some}
+use native.Mathlib.Omega.{arith}
+use native.Mathlib.Numerals.{add-one}
+use native.Mathlib.Nat.{sub-zero}
+use native.Mathlib.Decide.{decLt}
+use lib.Dec.{leb, ltb, eqb}
+use lib.ListN.{length}
+use borrow.Author.Tests.{not-true, leb-true, ltb-true}
+use Rattle.rules.specs.Lists.{keep}
+use Rattle.rules.specs.Words.{Statement}
+use Rattle.rules.specs.Inputs.{commit, commits}
+use Rattle.laws.proofs.Tests.{by-bool, no-bool, and-left}
+use Rattle.store.specs.Layout.{statementTable, logTable, countOf}
+use Rattle.store.specs.Decode.{nth, rows, statementAt, statements, nameAt, names}
+use Rattle.linked.specs.Told.{Told}
+use Rattle.commit.specs.Chains.{voteIn, isVoted, isRipe, Tells}
+use Rattle.commit.specs.Looks.{ToldFrom, ToldBelow, Looked}
+use Rattle.commit.proofs.Order.{bind}
+use Rattle.commit.proofs.Voting.{voted-not, voted-so, ripe-not, ripe-by, keep-not, keep-so, keep-end}
+use Rattle.commit.proofs.Telling.{told-commits}
+use Rattle.commit.proofs.Course.{from-not, from-so}
+
+-- what was voted for is no new-view
+pub voted-propose : (view : ℕ) (x : Statement) (vote : ℕ) → vote ≡ voteIn view x → (vote ≡ 0 → ⊥) → x .isNewView ≡ false
+unfolding isVoted
+voted-propose view x vote e d =
+    not-true (x .isNewView)
+    (and-left (not (x .isNewView)) _ (and-left (not (x .isNewView) && eqb (x .view) view) _ (voted-so view x (λ z. d (e ∙ z)))))
+
+-- ---- the loop
+
+pub record Looking (b t : List ℕ) (view wait now count i votes settled : ℕ) : Type 0 where
+  pub few : votes + i ≤ count
+  pub counted : votes ≡ length (keep (isVoted view) (rows (statementAt b) i (count - i)))
+  pub told : ToldFrom b t view wait now i settled
+
+pub looking-start : (b t : List ℕ) (view wait now count : ℕ) → Looking b t view wait now count count 0 count
+looking-start b t view wait now count = record {
+  few = omega arith;
+  counted = ap length (sym (keep-end (isVoted view) (statementAt b) count));
+  told = λ j l m. absurd (omega arith);
+}
+
+module _ {b t : List ℕ} {view wait now count i votes settled : ℕ} (s : Looking b t view wait now count i votes settled) where
+  pub looking-end : count ≡ countOf statementTable b → i ≡ 0 → Looked b t view wait now count votes settled
+  unfolding statements
+  looking-end e z = record {
+    counted =
+        s .counted ∙ ap (λ (k : ℕ). length (keep (isVoted view) (rows (statementAt b) k (count - k)))) z
+        ∙ ap (λ (n : ℕ). length (keep (isVoted view) (rows (statementAt b) 0 n))) (sub-zero count ∙ e);
+    below = λ j l m. s .told j (omega arith) m;
+  }
+
+  module _ (pos : 0 < i) where
+    abbrev x : Statement
+    x = statementAt b (i - 1)
+
+    up : i ≤ count
+    up = omega (arith, s .few)
+
+    -- one more statement, of which the check told if it is due
+    further : (isRipe view wait now x ≡ true → nth t (x .height - 1) ≡ suc (i - 1)) → ToldFrom b t view wait now (i - 1) settled
+    further f j l m r =
+        elim (decLt (i - 1) j) [
+          | yes u ↦ s .told j (omega arith) m r
+          | no u ↦ (let z : i - 1 ≡ j = omega arith in same j z r)
+        ]
+      where
+        same : (j : ℕ) → i - 1 ≡ j → isRipe view wait now (statementAt b j) ≡ true → nth t (statementAt b j .height - 1) ≡ suc j
+        same j z r = subst (λ (j : ℕ). isRipe view wait now (statementAt b j) ≡ true → nth t (statementAt b j .height - 1) ≡ suc j) z f r
+
+    -- it is no propose of the view, or not voted for
+    pub looking-not : 0 ≡ voteIn view x → Looking b t view wait now count (i - 1) votes settled
+    looking-not z = record {
+      few = omega (arith, s .few);
+      counted = s .counted ∙ ap length (sym (keep-not (isVoted view) (statementAt b) count i pos up (voted-not view x (sym z))));
+      told = further (λ r. no-bool (sym r ∙ sym (ripe-not view x wait now (sym z))));
+    }
+
+    module _ (vote : ℕ) (read : vote ≡ voteIn view x) (d : vote ≡ 0 → ⊥) where
+      one-more : votes + 1 ≡ length (keep (isVoted view) (rows (statementAt b) (i - 1) (count - (i - 1))))
+      one-more =
+          add-one votes ∙ ap suc (s .counted)
+          ∙ ap length (sym (keep-so (isVoted view) (statementAt b) count i pos up (voted-so view x (λ z. d (read ∙ z)))))
+
+      -- it is not due yet, or the check told of it
+      pub looking-on : (r : Bool) → Tells t (x .height - 1) (i - 1) r → (ltb now (vote + wait) || r) ≡ true → Looking b t view wait now count (i - 1) (votes + 1) settled
+      looking-on r k e = record {
+        few = omega (arith, s .few);
+        counted = one-more;
+        told = further (λ q. go r k (leb-true (vote + wait) now (ripe-by view x wait now vote read d ∙ q)) (ltb now (vote + wait)) refl e);
+      }
+        where
+          go : (r : Bool) → Tells t (x .height - 1) (i - 1) r → vote + wait ≤ now → (u : Bool) → ltb now (vote + wait) ≡ u → (u || r) ≡ true → nth t (x .height - 1) ≡ suc (i - 1)
+          go true k l u q e = k
+          go false k l true q e = absurd (omega (arith, ltb-true now (vote + wait) q))
+          go false k l false q e = no-bool (sym e)
+
+      -- it is due, and nothing is told of it
+      pub looking-fresh : Looking b t view wait now count (i - 1) (votes + 1) (i - 1)
+      looking-fresh = record { few = omega (arith, s .few); counted = one-more; told = λ j l m. absurd (omega arith) }
+
+-- ---- where the check told of all that is due
+
+module _ {b t : List ℕ} (tells : Told b t) (view wait now count : ℕ) where
+  abbrev p : Statement → Bool
+  p = isRipe view wait now
+
+  abbrev from : ℕ → Option (List ℕ)
+  from i = commits (statements b) (keep p (rows (statementAt b) i (count - i))) (names b)
+
+  adds-none : (i : ℕ) → i ≤ count → ToldBelow b t view wait now i → from i ≡ some (names b) → from 0 ≡ some (names b)
+  unfolding names
+  adds-none zero l f e = e
+  adds-none (suc i) l f e =
+      let z : suc i - 1 ≡ i = omega arith in
+      adds-none i (omega arith) (λ j u v. f j u (omega arith))
+      (ap from (sym z)
+      ∙ by-bool (p (statementAt b (suc i - 1)))
+      (λ r.
+      let k = f (suc i - 1) (omega arith) (omega arith) r in
+      from-so b p count (names b) (suc i) (omega arith) l r ∙ ap (λ (o : Option (List ℕ)). bind o (commit (statements b) (statementAt b (suc i - 1)))) e
+      ∙ told-commits tells (statementAt b (suc i - 1) .height - 1) (suc i - 1) k (nameAt b) (countOf logTable b) (tells .settles _ (suc i - 1) k .logged) (λ j m. refl))
+      (λ r. from-not b p count (names b) (suc i) (omega arith) l r ∙ e))
+
+  pub quiet-log : ToldBelow b t view wait now count → from 0 ≡ some (names b)
+  unfolding commits
+  quiet-log f = adds-none count (omega arith) f (ap (λ (ys : List Statement). commits (statements b) ys (names b)) (keep-end p (statementAt b) count))

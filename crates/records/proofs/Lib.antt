@@ -1,0 +1,5 @@
+pub mod Places
+pub mod Writes
+pub mod Changes
+pub mod Entered
+pub mod Sized
