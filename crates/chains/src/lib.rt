@@ -8,12 +8,10 @@ ghost use Rattle.rules.specs.Lists.{any};
 ghost use Rattle.store.specs.Decode.{nth};
 ghost use Rattle.chains.specs.Chains.{chains, stir, stirWords, chainOf, behind, Walk, isOf};
 use settings::Settings;
+use store::NAME;
 
 // How many chains there are.
 pub const CHAINS: usize = 2_048;
-
-// Where a record's name is, behind its view and height.
-const NAME: usize = 8;
 
 // What a check begins to stir with: another number at each clock, so that names that were chosen for one chain are not on one at the next.
 pub fn salt(clock: u32) -> u64 {

@@ -16,13 +16,10 @@ ghost use Rattle.linked.specs.Told.{nameBelow};
 use chains::CHAINS;
 use fields::Name;
 use settings::Settings;
+use store::LINK;
+use store::NAME;
 use store::STATEMENT_SIZE;
 use store::STATEMENTS;
-
-// Where a statement's name and link are.
-const NAME: usize = 8;
-
-const LINK: usize = 44;
 
 // Whether statement i is the propose of this height, name and parent.
 pub fn links(store: &[u8], i: usize, height: u32, name: Name, parent: Name) -> bool

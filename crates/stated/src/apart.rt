@@ -10,12 +10,10 @@ ghost use Rattle.chains.specs.Chains.{behind, Walk, Chained};
 ghost use Rattle.stated.specs.Stated.{bare, statementChain, isSame, Met};
 use chains::CHAINS;
 use settings::Settings;
+use store::LINK;
 use store::STATEMENT_SIZE;
 use store::STATEMENTS;
 use wire::Statement;
-
-// Where a statement's link is.
-const LINK: usize = 44;
 
 // Whether one of the last so many statements is the same as this one, on their chain.
 fn has_statement(

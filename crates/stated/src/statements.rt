@@ -13,23 +13,18 @@ ghost use Rattle.settings.specs.Made.{settingsOf};
 ghost use Rattle.stated.specs.Stated.{voteInOrder, newViewSaid, proposeSaid};
 use allowed::clauses;
 use settings::Settings;
+use store::AUTHOR;
+use store::HEIGHT;
+use store::LINK;
+use store::MASK;
+use store::NAME;
 use store::STATEMENT_SIZE;
 use store::STATEMENTS;
 use store::Station;
 use tallied::block;
 
-// Where a statement's height, name, author, mask and link are, and the last four bytes of the link.
-const HEIGHT: usize = 4;
-
-const NAME: usize = 8;
-
-const AUTHOR: usize = 41;
-
-const MASK: usize = 42;
-
-const LINK: usize = 44;
-
-const CERT: usize = 72;
+// Where the last four bytes of a statement's link are: all of a new-view's.
+pub const CERT: usize = LINK + 28;
 
 // Whether a vote, if there is one, was not after the clock.
 fn vote_in_order(vote: u32, clock: u32) -> bool

@@ -14,18 +14,14 @@ ghost use Rattle.heading.specs.Lent.{Counts};
 ghost use Rattle.chains.specs.Chains.{Chained};
 ghost use Rattle.tallied.specs.Tallies.{tallyChain};
 ghost use Rattle.stated.specs.Stated.{AllCertify, OwnBefore, Follows};
+use super::statements::CERT;
 use chains::CHAINS;
 use settings::Settings;
+use store::LINK;
+use store::NAME;
 use store::STATEMENT_SIZE;
 use store::STATEMENTS;
 use tallied::apart;
-
-// Where a statement's name and link are, and the last four bytes of the link: all of a new-view's.
-const NAME: usize = 8;
-
-const LINK: usize = 44;
-
-const CERT: usize = 72;
 
 // View and height of the block that statement i certifies: a new-view's view is its link, a propose's block is one below.
 fn certified_key(store: &[u8], i: usize) -> u64

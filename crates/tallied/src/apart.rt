@@ -10,10 +10,8 @@ ghost use Rattle.tallied.specs.Tallies.{tallyChain, Met, Apart, Sought, 
 use super::good;
 use chains::CHAINS;
 use settings::Settings;
+use store::NAME;
 use store::TALLY_SIZE;
-
-// Where a tally's name is.
-const NAME: usize = 8;
 
 // Whether a later tally is of the block of tally i; if none is, tally i hangs on its chain.
 fn repeated(

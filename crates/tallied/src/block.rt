@@ -11,13 +11,12 @@ ghost use Rattle.fields.specs.Places.{number};
 ghost use Rattle.settings.specs.Made.{settingsOf};
 use allowed::clauses;
 use settings::Settings;
+use store::HEIGHT;
 
-// Where the lower halves of view and height are, and the height.
+// Where the lower halves of view and height are.
 const VIEW_LOW: usize = 2;
 
-const HEIGHT: usize = 4;
-
-const HEIGHT_LOW: usize = 6;
+const HEIGHT_LOW: usize = HEIGHT + 2;
 
 // Whether the view is allowed. The last view is below 65,536, so the upper half is zero; by halves, it isn't put together from bytes.
 pub fn view_good(store: &[u8], settings: Settings, at: usize) -> bool

@@ -12,11 +12,8 @@ ghost use Rattle.store.specs.Decode.{tallyAt, tallies};
 ghost use Rattle.heading.specs.Lent.{Counts};
 use super::block;
 use settings::Settings;
-
-// Where a tally's name and mask are.
-const NAME: usize = 8;
-
-const VOTERS: usize = 40;
+use store::NAME;
+use store::VOTERS;
 
 // Whether who opened a tally, if an author did, is one of these stations and among its voters.
 fn opener_good(settings: Settings, mask: u16, opener: u8) -> bool

@@ -17,30 +17,12 @@ mod wire;
 
 use acts::Station;
 use check::Index;
-use station::Size;
-
-/// Why a call was refused, with the numbers of 01 and 02.
-#[derive(Clone, Copy, Debug, PartialEq, Eq)]
-#[repr(u32)]
-pub(crate) enum Refusal {
-    Length = 1,
-    Store = 2,
-    Stopped = 3,
-    Unreadable = 4,
-    NotAllowed = 5,
-    Full = 6,
-    Split = 7,
-    Clock = 8,
-    NotTaken = 9,
-    Settings = 10,
-    Ahead = 11,
-    UsedUp = 12,
-}
+use station::{Refusal, Size};
 
 pub(crate) type Outcome = Result<(), Refusal>;
 
 fn refused(refusal: Refusal) -> u64 {
-    u64::from(refusal as u32) << 32
+    u64::from(refusal.number()) << 32
 }
 
 /// A fresh store, as `station_fresh` makes it.

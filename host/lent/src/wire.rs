@@ -123,7 +123,18 @@ impl<'a> Message<'a> {
     }
 }
 
-/// A new-view as the store's record, not voted for.
+/// A statement as the store's record, not voted for and without its link.
+fn unlinked(kind: u8, view: u32, height: u32, name: &Name, mask: u16, author: u8) -> Statement {
+    let mut record = [0; 80];
+    record[..8].copy_from_slice(&key(view, height).to_be_bytes());
+    record[8..40].copy_from_slice(name);
+    record[40] = kind;
+    record[41] = author;
+    put_two(&mut record, 42, mask);
+    record
+}
+
+/// A new-view as the store's record.
 pub fn new_view(
     view: u32,
     height: u32,
@@ -132,17 +143,12 @@ pub fn new_view(
     mask: u16,
     author: u8,
 ) -> Statement {
-    let mut record = [0; 80];
-    record[..8].copy_from_slice(&key(view, height).to_be_bytes());
-    record[8..40].copy_from_slice(name);
-    record[40] = 1;
-    record[41] = author;
-    put_two(&mut record, 42, mask);
+    let mut record = unlinked(1, view, height, name, mask, author);
     put_four(&mut record, 72, certificate_view);
     record
 }
 
-/// A propose as the store's record, not voted for.
+/// A propose as the store's record.
 pub fn propose(
     view: u32,
     height: u32,
@@ -151,12 +157,7 @@ pub fn propose(
     mask: u16,
     author: u8,
 ) -> Statement {
-    let mut record = [0; 80];
-    record[..8].copy_from_slice(&key(view, height).to_be_bytes());
-    record[8..40].copy_from_slice(name);
-    record[40] = 2;
-    record[41] = author;
-    put_two(&mut record, 42, mask);
+    let mut record = unlinked(2, view, height, name, mask, author);
     record[44..76].copy_from_slice(parent);
     record
 }

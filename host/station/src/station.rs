@@ -62,7 +62,8 @@ impl Station {
         Ok(station)
     }
 
-    /// A message from another station, whose signatures the host has checked. Refusals: 3, 4, 5, 6.
+    /// A message from another station, whose signatures the host has checked. Refusals: 3, 4, 5, 11,
+    /// 12, 6.
     pub fn step(&mut self, message: &[u8]) -> Result<Effects<'_>, Refusal> {
         self.take(Input::Message(message))
     }
