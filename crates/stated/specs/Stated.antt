@@ -27,6 +27,10 @@ bare x = statementOf x none
 unfoldable pub voteInOrder : ℕ → Option ℕ → Bool
 voteInOrder clock v = elim v [ none ↦ true | some c ↦ leb c clock ]
 
+-- view, height and mask as they were read of the statement at a place
+abbrev pub Read : List ℕ → ℕ → ℕ → ℕ → ℕ → Type 0
+Read b at view height mask = (view ≡ number b at 4) × (height ≡ number b (at + 4) 4) × (mask ≡ number b (at + 42) 2)
+
 -- what the statement at a place says of the block that it certifies: a new-view of its certificate, a propose of its parent
 unfoldable pub newViewSaid : Settings → List ℕ → ℕ → Bool
 unfolding certificateAllowed

@@ -43,10 +43,10 @@ begins-named b at d = ne-eqb (number b at 32) 0 (λ e. d (zero-front b at 8 24 e
 
 -- ---- a tally, by the numbers of its record: what is bad makes it bad
 
-lost : (a q : Bool) → q ≡ false → false ≡ (a && q)
+pub lost : (a q : Bool) → q ≡ false → false ≡ (a && q)
 lost a q e = sym (ap (λ (x : Bool). a && x) e ∙ and-false a)
 
-kept : (a b c d x : Bool) → a ≡ true → b ≡ true → c ≡ true → d ≡ true → x ≡ (a && b && c && d && x)
+pub kept : (a b c d x : Bool) → a ≡ true → b ≡ true → c ≡ true → d ≡ true → x ≡ (a && b && c && d && x)
 kept a b c d x p q r s = rw (p, q, r, s) refl
 
 module _ (g : Settings) (now : ℕ) (b : List ℕ) (bytes : Bytes b) (i at : ℕ) (e : at ≡ placeOf tallyTable (sizeIn b) i) where
