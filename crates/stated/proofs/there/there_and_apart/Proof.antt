@@ -38,8 +38,7 @@ abbrev μ-loop : tie.MeasureT-loop
 -- src/there.rt:236:5
 loop-holds : tie.Need-loop-holds Inv-loop μ-loop
 loop-holds c =
-    let start = c .before in
-    (
+    let start = c .before in (
       omega arith,
       chained-none _ _ _ _ (record { heads-are = refl; nexts-are = refl }),
       distinct-end (statementAt _) _ sameStatement _ (omega arith),
@@ -135,8 +134,7 @@ loop-again c =
     let store = start .args .store .now in
     let e : loop .i - 1 + 1 ≡ loop .i = omega (arith, more) in
     let less : loop .i - 1 < start .args .stored = omega (arith, loop .inv .0, more) in
-    let there = sym (c .before .before .before .before .before .before .before .there .ensures) ∙ not-false _ (c .before .before .before .before .before .before .if1 .left) in
-    (
+    let there = sym (c .before .before .before .before .before .before .before .there .ensures) ∙ not-false _ (c .before .before .before .before .before .before .if1 .left) in (
       omega (arith, loop .inv .0),
       c .before .repeated .ensures .hangs (c .if2 .left),
       distinct-next (statementAt store) _ sameStatement (loop .i - 1) less (sym (c .before .repeated .ensures .is) ∙ c .if2 .left) ∙ rw e (loop .inv .2),
