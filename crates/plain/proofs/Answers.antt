@@ -20,10 +20,10 @@ use Rattle.laws.proofs.Bytes as bytes
 use Rattle.fields.specs.Places.{number, Bytes}
 use Rattle.lent_list.specs.Lists.{Input, offer, kindOf, bytesOf, inputOf, hasLength, hasForm}
 use Rattle.settings.specs.Made.{sizeFrom}
-use Rattle.slots.specs.Slots.{isInput}
+use Rattle.slots.specs.Slots.{isInput, isKept}
 use Rattle.lent_list.proofs.Rooms.{answer-room}
 use Rattle.lent_list.proofs.Kept.{Handed, kept-input, most-number}
-use Rattle.lent_list.specs.Plain.{answerTo, isKept, folded, held, Answer, refusal, entering, kept, plainly, plainOffer, Gives}
+use Rattle.lent_list.specs.Plain.{answerTo, folded, held, Answer, refusal, entering, kept, plainly, plainOffer, Gives}
 use Rattle.plain_tables.specs.Meaning.{state}
 use Rattle.plain_messages.specs.Whole.{Whole}
 use Rattle.plain_turns.specs.Turns.{Answered}

@@ -21,12 +21,12 @@ use Rattle.fields.specs.Places.{number}
 use Rattle.wire.proofs.Reading.{be-number}
 use Rattle.settings.specs.Made.{settingsOf}
 use Rattle.settings.specs.declared.Settings.{Settings}
-use Rattle.slots.specs.Slots.{isInput}
+use Rattle.slots.specs.Slots.{isInput, isKept}
 use Rattle.slots.proofs.Inputs.{input-fits, offer-input}
 use Rattle.journal.specs.Journal.{slotsOf}
 use Rattle.lent_list.specs.Lists as lists
 use Rattle.lent_list.specs.Lists.{recordsIn, slotsIn, hasLength, hasForm, settingsIn, countIn, arePlaced, inputOf, inputsOf, inputsAfter}
-use Rattle.lent_list.specs.Plain.{answerTo, isKept, folded, held}
+use Rattle.lent_list.specs.Plain.{answerTo, folded, held}
 use Rattle.lent_list.specs.Meaning.{part, heldOf, Within, Stands}
 use Rattle.lent_list.specs.declared.Held.{Held}
 use Rattle.lent_list.specs.declared.Held.the-variants.{Input, Nothing}

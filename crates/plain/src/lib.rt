@@ -59,7 +59,7 @@ fn fold(list: &[u8]) -> Folded
             }
             Held::Input { kind, start, end } => {
                 let t = turn_by(engine, kind, &list[start..end], &mut out);
-                if !lent_list::is_kept(t.number) {
+                if !slots::is_kept(t.number) {
                     return Folded {
                         good: false,
                         engine,
