@@ -1,9 +1,9 @@
--- `plain::turn_by` meets its contract. Assumes nothing.
+-- `plain_inputs::turn_by` meets its contract. Assumes nothing.
 use native.Mathlib.Omega.{arith}
-use Rattle.plain.proofs.Folding.{by-tick, by-offer, by-step}
+use Rattle.plain_inputs.proofs.Inputs.{by-tick, by-offer, by-step}
 use borrow.Author.Needs.{needs}
-use Rattle.plain.proofs.turn_by.Statement.{statement}
-use Rattle.plain.proofs.turn_by.Tie as tie
+use Rattle.plain_inputs.proofs.turn_by.Statement.{statement}
+use Rattle.plain_inputs.proofs.turn_by.Tie as tie
 
 tick-requires : tie.Need-tick-requires
 tick-requires c κs = search needs

@@ -1,9 +1,9 @@
--- `plain::barred` meets its contract. Assumes nothing.
+-- `plain_lists::barred` meets its contract. Assumes nothing.
 use mathlib.Core.Path.{sym, _∙_}
-use Rattle.plain.proofs.Folding.{out-short, list-wrong, form-wrong, not-barred}
+use Rattle.plain_lists.proofs.Bars.{out-short, list-wrong, form-wrong, form-good}
 use borrow.Author.Needs.{needs}
-use Rattle.plain.proofs.barred.Statement.{statement}
-use Rattle.plain.proofs.barred.Tie as tie
+use Rattle.plain_lists.proofs.barred.Statement.{statement}
+use Rattle.plain_lists.proofs.barred.Tie as tie
 
 returns : tie.Need-returns
 returns c = out-short (c .before .before .before .args .list .now) (c .before .before .before .args .out .now) (c .if1 .taken)
@@ -15,7 +15,7 @@ has-form-requires : tie.Need-has-form-requires
 has-form-requires c κs = sym (c .before .has-length .ensures) ∙ c .if2 .taken
 
 returns-2 : tie.Need-returns-2
-returns-2 c = not-barred (c .before .before .before .before .before .before .before .args .list .now) (c .before .before .before .before .before .before .before .args .out .now) (c .before .before .before .before .if1 .left) (c .before .before .before .has-length .ensures) (c .before .before .if2 .taken) (c .before .has-form .ensures) (c .if3 .taken)
+returns-2 c = form-good (c .before .before .before .before .before .before .before .args .list .now) (c .before .before .before .before .before .before .before .args .out .now) (c .before .before .before .before .if1 .left) (c .before .before .before .has-length .ensures) (c .before .before .if2 .taken) (c .before .has-form .ensures) (c .if3 .taken)
 
 returns-3 : tie.Need-returns-3
 returns-3 c = form-wrong (c .before .before .before .before .before .before .before .args .list .now) (c .before .before .before .before .before .before .before .args .out .now) (c .before .before .before .before .if1 .left) (c .before .before .before .has-length .ensures) (c .before .before .if2 .taken) (c .before .has-form .ensures) (c .if3 .left)

@@ -1,4 +1,4 @@
--- `plain::write_log` meets its contract. Assumes nothing.
+-- `plain_names::write_log` meets its contract. Assumes nothing.
 use Prim.Native.Nat.{_-_, _*_, _≤_}
 use mathlib.Core.Path.{_≡_, refl, sym, _∙_}
 use native.Mathlib.Omega.{arith}
@@ -6,10 +6,10 @@ use lib.ListN.{length, drop}
 use Rattle.outgoing.specs.Wrote.{wrote}
 use Rattle.lent_list.specs.Plain.{logBytes}
 use Rattle.plain_tables.specs.Meaning.{names}
-use Rattle.plain.proofs.Logs.{log-long, log-ends, log-next}
+use Rattle.plain_names.proofs.Writing.{log-long, log-ends, log-next}
 use borrow.Author.Needs.{needs}
-use Rattle.plain.proofs.write_log.Statement.{statement}
-use Rattle.plain.proofs.write_log.Tie as tie
+use Rattle.plain_names.proofs.write_log.Statement.{statement}
+use Rattle.plain_names.proofs.write_log.Tie as tie
 
 abbrev Inv-loop : tie.InvT-loop
 Inv-loop out₀ log n k₀ out k =

@@ -1,4 +1,4 @@
--- `plain::fold` meets its contract. Assumes nothing.
+-- `plain_answers::fold` meets its contract. Assumes nothing.
 use Prim.Native.Nat.{ℕ, _-_, _≤_}
 use mathlib.Core.Path.{_≡_, _∙_}
 use native.Mathlib.Omega.{arith}
@@ -10,10 +10,10 @@ use Rattle.lent_list.specs.Plain.{folded, held}
 use Rattle.lent_list.proofs.Lengths.{lengths, slots-counted}
 use Rattle.plain_tables.specs.Meaning.{state}
 use Rattle.plain_messages.specs.Whole.{Whole}
-use Rattle.plain.proofs.Folding.{good-head, fresh-is-whole, fold-starts, fold-ends, fold-skips, fold-next, fold-stops, held-input, name-long}
+use Rattle.plain_answers.proofs.Folding.{good-head, fresh-is-whole, fold-starts, fold-ends, fold-skips, fold-next, fold-stops, held-input, name-long}
 use borrow.Author.Needs.{needs}
-use Rattle.plain.proofs.fold.Statement.{statement}
-use Rattle.plain.proofs.fold.Tie as tie
+use Rattle.plain_answers.proofs.fold.Statement.{statement}
+use Rattle.plain_answers.proofs.fold.Tie as tie
 
 abbrev Inv-loop : tie.InvT-loop
 Inv-loop list out₀ engine₀ count place₀ out engine place =

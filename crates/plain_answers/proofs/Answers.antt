@@ -1,5 +1,5 @@
 -- A call, test by test: barred, folded to nothing, or answered by the rules. Assumes nothing.
-use Prim.Native.Nat.{ℕ, suc, _+_, _-_, _*_, _^_, _<_, _≤_}
+use Prim.Native.Nat.{ℕ, suc, _-_, _*_, _^_, _<_, _≤_}
 use mathlib.Core.Path.{_≡_, refl, sym, ap, ap₂, _∙_, subst}
 use mathlib.Core.Bool.{Bool, true, false, _&&_}
 use mathlib.Core.List.{List, [], _∷_}
@@ -8,30 +8,29 @@ use native.Mathlib.Omega.{arith}
 use lib.ListN.{length, take}
 use lib.Seq.{length-take-le}
 use lib.Dec.{leb, eqb}
-use borrow.Author.Tests.{leb-true, eqb-true, eq-eqb, ne-eqb}
+use borrow.Author.Tests.{eqb-true}
 use Rattle.rules.specs.Limits.{Size, small, leastOut, leastOutSmall}
-use Rattle.rules.specs.Lists.{be}
 use Rattle.rules.specs.Messages.{outgoing}
 use Rattle.rules.specs.Words.{State}
-use Rattle.rules.specs.Refusals as rules
 use Rattle.laws.proofs.Tests.{by-bool}
-use Rattle.laws.proofs.Truths.{and-2}
 use Rattle.laws.proofs.Bytes as bytes
 use Rattle.fields.specs.Places.{number, Bytes}
-use Rattle.lent_list.specs.Lists.{Input, offer, kindOf, bytesOf, inputOf, hasLength, hasForm}
+use Rattle.lent_list.specs.Lists.{Input, kindOf, bytesOf, inputOf, hasLength, hasForm}
 use Rattle.settings.specs.Made.{sizeFrom}
 use Rattle.slots.specs.Slots.{isInput, isKept}
 use Rattle.lent_list.proofs.Rooms.{answer-room}
 use Rattle.lent_list.proofs.Kept.{Handed, kept-input, most-number}
-use Rattle.lent_list.specs.Plain.{answerTo, folded, held, Answer, refusal, entering, kept, plainly, plainOffer, Gives}
+use Rattle.lent_list.specs.Plain.{answerTo, held, Answer, refusal, entering, kept, plainly, Gives}
 use Rattle.plain_tables.specs.Meaning.{state}
 use Rattle.plain_messages.specs.Whole.{Whole}
 use Rattle.plain_turns.specs.Turns.{Answered}
-use Rattle.plain.specs.Meaning.{FoldedTo, bar}
-use Rattle.plain.specs.declared.Folded.{Folded}
+use Rattle.plain_answers.specs.Meaning.{FoldedTo}
+use Rattle.plain_answers.specs.declared.Folded.{Folded}
 use Rattle.plain_turns.specs.declared.Turn.{Turn}
 use Rattle.plain_tables.specs.declared.Engine.{Engine}
-use Rattle.plain.proofs.Folding.{formless, came}
+use Rattle.plain_lists.specs.Meaning.{bar}
+use Rattle.plain_lists.proofs.Bars.{bar-form, bar-short, not-barred, open-list, open-out}
+use Rattle.plain_answers.proofs.Folding.{formless, came}
 
 -- the bytes of a slice, as a list's
 pub plain-bytes : (s : List ℕ) → Bytes s → bytes.Bytes s
@@ -46,35 +45,6 @@ small-group w = ap sizeFrom (w .sized .small)
 module _ (l o : List ℕ) where
   abbrev lengths-good : Bool
   lengths-good = hasLength l && leb (leastOut small) (length o)
-
-  abbrev by-form : Bool → ℕ
-  by-form z = elim z [ false ↦ 2 | true ↦ 0 ]
-
-  abbrev by-lengths : Bool → ℕ
-  by-lengths z = elim z [ false ↦ 1 | true ↦ by-form (hasForm l) ]
-
-  pub bar-short : lengths-good ≡ false → bar l o ≡ 1
-  unfolding bar
-  bar-short e = ap by-lengths e
-
-  pub bar-form : {z : Bool} → lengths-good ≡ true → hasForm l ≡ z → bar l o ≡ by-form z
-  unfolding bar
-  bar-form e f = ap by-lengths e ∙ ap by-form f
-
-  pub bar-small : bar l o < 2 ^ 32
-  bar-small =
-      by-bool lengths-good (λ e. by-bool (hasForm l) (λ f. omega (arith, bar-form e f)) (λ f. omega (arith, bar-form e f))) (λ e. omega (arith, bar-short e))
-
-  pub not-barred : bar l o ≡ 0 → (lengths-good ≡ true) × (hasForm l ≡ true)
-  not-barred z =
-      by-bool lengths-good (λ e. by-bool (hasForm l) (λ f. (e, f)) (λ f. absurd (omega (arith, bar-form e f)))) (λ e. absurd (omega (arith, bar-short e)))
-
-  pub open-list : {q : ℕ} → q ≡ bar l o → q ≡ 0 → (hasLength l ≡ true) × (hasForm l ≡ true)
-  open-list e z = let t = not-barred (sym e ∙ z) in (and-2 (hasLength l) (leb (leastOut small) (length o)) (t .0) .0, t .1)
-
-  pub open-out : {q : ℕ} → q ≡ bar l o → q ≡ 0 → leastOutSmall ≤ length o
-  unfolding leastOut
-  open-out e z = leb-true leastOutSmall (length o) (and-2 (hasLength l) (leb (leastOut small) (length o)) (not-barred (sym e ∙ z) .0) .1)
 
   module _ (x : Input) where
     abbrev looked : Option State → Answer
@@ -94,13 +64,13 @@ module _ (l o : List ℕ) where
     is-barred {q} {r} e n d =
         by-bool lengths-good
         (λ p.
-        by-bool (hasForm l) (λ f. absurd (n (e ∙ bar-form p f)))
-        (λ f. refused-by 2 (plain-by p ∙ ap looked (formless l f)) (d ∙ ap (_* 2 ^ 32) (e ∙ bar-form p f))))
-        (λ p. refused-by 1 (plain-by p) (d ∙ ap (_* 2 ^ 32) (e ∙ bar-short p)))
+        by-bool (hasForm l) (λ f. absurd (n (e ∙ bar-form l o p f)))
+        (λ f. refused-by 2 (plain-by p ∙ ap looked (formless l f)) (d ∙ ap (_* 2 ^ 32) (e ∙ bar-form l o p f))))
+        (λ p. refused-by 1 (plain-by p) (d ∙ ap (_* 2 ^ 32) (e ∙ bar-short l o p)))
 
     module _ {q : ℕ} (e : q ≡ bar l o) (z : q ≡ 0) {f : Folded} (g : FoldedTo (held l) f) where
       passes : lengths-good ≡ true
-      passes = not-barred (sym e ∙ z) .0
+      passes = not-barred l o (sym e ∙ z) .0
 
       pub no-state : {r : ℕ} → f .good ≡ false → r ≡ 2 * 2 ^ 32 → Gives (plainly x l o) r l o
       no-state u d = refused-by 2 (plain-by passes ∙ ap looked (sym (came g u))) d
@@ -139,13 +109,13 @@ module _ (l o : List ℕ) where
               × ((t .number < 256) × (length (take (t .count - 0) o₁) < 2 ^ 32) × (length (take (t .count - 0) o₁) ≤ length o))
           may-enter {k} {bs} a d b n = (
             (
-              open-list e z .0,
+              open-list l o e z .0,
               λ m. ap₂ isInput a d ∙ kept-input (state (f .engine)) x (subst bytes.Bytes d b) n (ap isKept (sym (y .turned .number)) ∙ m),
             ),
             (
               omega (arith, most-number (state (f .engine)) x, y .turned .number),
               omega (arith, part-length, count-few),
-              omega (arith, part-length, count-few, open-out e z),
+              omega (arith, part-length, count-few, open-out l o e z),
             ),
           )
 
@@ -157,19 +127,3 @@ unfolding inputOf
 handed k bs h =
     by-bool (eqb k 1) (λ e. rw (e, inputOf) tt)
     (λ e. by-bool (eqb k 2) (λ f. rw (e, inputOf, f) (h (eqb-true k 2 f))) (λ f. rw (e, inputOf, f) tt))
-
--- ---- an offered name
-
-module _ (name l o : List ℕ) where
-  abbrev by-name : Bool → Answer
-  by-name z = elim z [ false ↦ refusal 1 l o | true ↦ plainly (offer name) l o ]
-
-  named : {z : Bool} → eqb (length name) 32 ≡ z → plainOffer name l o ≡ by-name z
-  unfolding plainOffer
-  named e = ap by-name e
-
-  pub name-short : {r : ℕ} → (length name ≡ 32 → ⊥) → r ≡ 1 * 2 ^ 32 → Gives (plainOffer name l o) r l o
-  name-short n d = rw (named (ne-eqb (length name) 32 n)) (unfold refusal in record { result = d; list = refl; out = refl })
-
-  pub name-good : {r : ℕ} {l′ o′ : List ℕ} → length name ≡ 32 → Gives (plainly (offer name) l o) r l′ o′ → Gives (plainOffer name l o) r l′ o′
-  name-good n h = rw (named (eq-eqb (length name) 32 n)) h

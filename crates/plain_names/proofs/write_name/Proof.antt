@@ -1,12 +1,12 @@
--- `plain::write_name` meets its contract. Assumes nothing.
+-- `plain_names::write_name` meets its contract. Assumes nothing.
 use native.Mathlib.Omega.{arith}
 use mathlib.Core.Path.{_∙_}
 use Rattle.fields.proofs.Names.{name-lt}
 use Rattle.fields.specs.Names.{nameOf}
 use Rattle.outgoing.proofs.Writing.{put-wrote}
 use borrow.Author.Needs.{needs}
-use Rattle.plain.proofs.write_name.Statement.{statement}
-use Rattle.plain.proofs.write_name.Tie as tie
+use Rattle.plain_names.proofs.write_name.Statement.{statement}
+use Rattle.plain_names.proofs.write_name.Tie as tie
 
 put-name-requires : tie.Need-put-name-requires
 put-name-requires c κs = search needs

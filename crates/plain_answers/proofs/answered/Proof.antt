@@ -1,14 +1,15 @@
--- `plain::answered` meets its contract. Assumes nothing.
-use Prim.Native.Nat.{ℕ, _+_, _-_}
+-- `plain_answers::answered` meets its contract. Assumes nothing.
+use Prim.Native.Nat.{ℕ}
 use mathlib.Core.Path.{_≡_, refl, sym, _∙_}
 use native.Mathlib.Omega.{arith}
 use lib.ListN.{length, length-replicate}
 use Rattle.rules.specs.Limits.{leastOutSmall}
 use Rattle.lent_list.specs.Lists.{inputOf}
-use Rattle.plain.proofs.Answers.{bar-small, open-list, is-barred, no-state, answered-by, count-fits, may-enter, handed, plain-bytes}
+use Rattle.plain_lists.proofs.Bars.{bar-small, open-list}
+use Rattle.plain_answers.proofs.Answers.{is-barred, no-state, answered-by, count-fits, may-enter, handed, plain-bytes}
 use borrow.Author.Needs.{needs}
-use Rattle.plain.proofs.answered.Statement.{statement}
-use Rattle.plain.proofs.answered.Tie as tie
+use Rattle.plain_answers.proofs.answered.Statement.{statement}
+use Rattle.plain_answers.proofs.answered.Tie as tie
 
 barred-requires : tie.Need-barred-requires
 barred-requires c κs = search needs

@@ -1,10 +1,10 @@
--- `plain::plain_log` meets its contract. Assumes nothing.
+-- `plain_answers::log_of` meets its contract. Assumes nothing.
 use native.Mathlib.Omega.{arith}
-use Rattle.plain.proofs.Answers.{bar-small, open-list}
-use Rattle.plain.proofs.Logs.{log-barred, log-none, log-fits, log-told}
+use Rattle.plain_lists.proofs.Bars.{bar-small, open-list}
+use Rattle.plain_answers.proofs.Logs.{log-barred, log-none, log-fits, log-told}
 use borrow.Author.Needs.{needs}
-use Rattle.plain.proofs.plain_log.Statement.{statement}
-use Rattle.plain.proofs.plain_log.Tie as tie
+use Rattle.plain_answers.proofs.log_of.Statement.{statement}
+use Rattle.plain_answers.proofs.log_of.Tie as tie
 
 barred-requires : tie.Need-barred-requires
 barred-requires c κs = search needs
@@ -39,8 +39,8 @@ same-length-3 c = search needs
 returns-3 : tie.Need-returns-3
 returns-3 c = let a = c .before .before .before .before .before .before .before .before .args in log-none (a .list .now) (a .out .now) (c .before .before .before .before .barred .ensures) (c .before .before .before .if1 .left) (c .before .before .fold .ensures) (c .before .if2 .left) (c .refuse2 .ensures)
 
-pub plain-log-spec : {M : Type 1} → statement M
-plain-log-spec =
+pub log-of-spec : {M : Type 1} → statement M
+log-of-spec =
     tie.close
     (tie.spec
     barred-requires
