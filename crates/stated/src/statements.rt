@@ -5,6 +5,7 @@ ghost use lib.ListN.{length};
 ghost use Rattle.rules.specs.Limits.{mostStatements};
 ghost use Rattle.rules.specs.Lists.{all};
 ghost use Rattle.rules.specs.WellFormed.{statementGood};
+ghost use Rattle.fields.specs.Places.{number};
 ghost use Rattle.store.specs.Layout.{sizeIn, storeLength, statementTable};
 ghost use Rattle.tallies.specs.Values.{voteOf};
 ghost use Rattle.store.specs.Decode.{statementAt, statements};
@@ -54,15 +55,8 @@ fn new_view_said(
 }
 
 // Whether what a propose says of its parent is allowed.
-fn propose_said(
-    store: &[u8],
-    settings: Settings,
-    at: usize,
-    view: u64,
-    height: u64,
-    mask: u16,
-) -> bool
-    requires { ⌜ (at + 80 ≤ length (now store)) × Read (now store) at view height mask ⌝ }
+fn propose_said(store: &[u8], settings: Settings, at: usize, height: u64, mask: u16) -> bool
+    requires { ⌜ (at + 80 ≤ length (now store)) × (height ≡ number (now store) (at + 4) 4) × (mask ≡ number (now store) (at + 42) 2) ⌝ }
     ensures { λ r. ⌜ r ≡ proposeSaid (settingsOf settings) (now (store .entry)) at ⌝ }
 {
     if height < 1 {
@@ -98,7 +92,7 @@ fn statement_good(store: &[u8], station: Station, i: usize) -> bool
     if store::kind_at(store, i) == 1 {
         return new_view_said(store, settings, at, view, height, mask);
     }
-    propose_said(store, settings, at, view, height, mask)
+    propose_said(store, settings, at, height, mask)
 }
 
 // Whether every statement is good.

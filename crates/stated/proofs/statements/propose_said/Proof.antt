@@ -14,7 +14,7 @@ use Rattle.tallied.proofs.block.height_good.Reads as height-good-reads
 returns : tie.Need-returns
 returns c =
     let start = c .before .before in
-    propose-low (settingsOf (start .args .settings)) (start .args .store .now) (start .args .at) _ (start .pre .1 .1) (c .if1 .taken)
+    propose-low (settingsOf (start .args .settings)) (start .args .store .now) (start .args .at) _ (start .pre .1) (c .if1 .taken)
 
 -- src/statements.rt:71:40
 add-all-zero : tie.Need-add-all-zero
@@ -37,7 +37,7 @@ returns-2 : tie.Need-returns-2
 returns-2 c =
     let start = c .before .before .before .before .before in
     rw (c .mask-allowed .ensures, c .before .height-good .ensures)
-    (propose-said (settingsOf (start .args .settings)) (start .args .store .now) (start .args .at) _ _ _ (start .pre .1 .1) (start .pre .1 .2) (c .before .before .all-zero .ensures) (omega (arith, c .before .before .before .if1 .left)))
+    (propose-said (settingsOf (start .args .settings)) (start .args .store .now) (start .args .at) _ _ _ (start .pre .1) (start .pre .2) (c .before .before .all-zero .ensures) (omega (arith, c .before .before .before .if1 .left)))
 
 pub propose-said-spec : {M : Type 1} → statement M
 propose-said-spec =

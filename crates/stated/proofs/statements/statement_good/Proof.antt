@@ -128,7 +128,7 @@ returns-5 c =
 -- src/statements.rt:101:5
 propose-said-requires : tie.Need-propose-said-requires
 propose-said-requires c κs =
-    (omega (arith, c .before .before .before .before .before .before .before .before .before .before .before .before .before .before .before .before .before .before .pre .0, c .before .before .before .before .before .before .before .before .before .before .before .before .before .before .before .before .before .before .pre .1), (c .before .before .before .before .before .before .before .before .before .before .before .before .before .before .before .get .ensures .0, c .before .before .before .before .before .before .before .before .before .before .before .before .get2 .ensures .0, c .before .before .get4 .ensures .0))
+    (omega (arith, c .before .before .before .before .before .before .before .before .before .before .before .before .before .before .before .before .before .before .pre .0, c .before .before .before .before .before .before .before .before .before .before .before .before .before .before .before .before .before .before .pre .1), c .before .before .before .before .before .before .before .before .before .before .before .before .get2 .ensures .0, c .before .before .get4 .ensures .0)
 
 -- src/statements.rt:76:1
 returns-6 : tie.Need-returns-6
