@@ -1,13 +1,13 @@
--- `acts::used_up` meets its contract. Assumes nothing.
+-- `storing::used_up` meets its contract. Assumes nothing.
 use mathlib.Core.Path.{sym, ap, _∙_}
 use lib.Dec.{leb}
 use borrow.Author.Needs.{needs}
 use Rattle.rules.specs.Limits.{mostOpened}
 use Rattle.store.specs.Decode.{tallies}
 use Rattle.store.specs.declared.Found.{Found}
-use Rattle.acts.specs.Plans.{usedBy}
-use Rattle.acts.proofs.used_up.Statement.{statement}
-use Rattle.acts.proofs.used_up.Tie as tie
+use Rattle.storing.specs.Records.{usedBy}
+use Rattle.storing.proofs.used_up.Statement.{statement}
+use Rattle.storing.proofs.used_up.Tie as tie
 
 enum-told : tie.Need-enum-told
 enum-told c = search needs

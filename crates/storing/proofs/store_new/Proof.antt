@@ -1,7 +1,6 @@
--- `acts::store_new` meets its contract. Assumes nothing.
-use Rattle.acts.proofs.Statements.{certificate-fits, certificate-found, certified-clock, own-fits, own-found, one-more-fits, new-stored}
+-- `storing::store_new` meets its contract. Assumes nothing.
+use Rattle.storing.proofs.Statements.{sendable-certifies, voter-block, certificate-fits, certificate-found, certified-clock, own-fits, own-found, one-more-fits, new-stored}
 use Rattle.tallies.specs.Meaning.{withVoters}
-use Rattle.acts.proofs.Places.{voter-block, sendable-certifies}
 use Rattle.rules.specs.Words.{ownBlock}
 use Rattle.store.specs.Decode.{stateOf}
 use Rattle.wire.specs.Meaning.{statementOf}
@@ -9,8 +8,8 @@ use Rattle.words.specs.Meaning.{blockOf}
 use mathlib.Core.Path.{refl}
 use mathlib.Core.Option.{none}
 use borrow.Author.Needs.{needs}
-use Rattle.acts.proofs.store_new.Statement.{statement}
-use Rattle.acts.proofs.store_new.Tie as tie
+use Rattle.storing.proofs.store_new.Statement.{statement}
+use Rattle.storing.proofs.store_new.Tie as tie
 
 certificate-of-requires : tie.Need-certificate-of-requires
 certificate-of-requires c κs =

@@ -1,11 +1,11 @@
--- `acts::find_certificate` meets its contract. Assumes nothing.
-use Rattle.acts.proofs.Plans.{certified-genesis, certified-block}
+-- `storing::find_certificate` meets its contract. Assumes nothing.
+use Rattle.storing.proofs.Records.{certified-genesis, certified-block}
 use Rattle.words.specs.Meaning.{blockOf}
 use Rattle.store.specs.Decode.{tallies}
 use mathlib.Core.Path.{sym, _∙_}
 use borrow.Author.Needs.{needs}
-use Rattle.acts.proofs.find_certificate.Statement.{statement}
-use Rattle.acts.proofs.find_certificate.Tie as tie
+use Rattle.storing.proofs.find_certificate.Statement.{statement}
+use Rattle.storing.proofs.find_certificate.Tie as tie
 
 returns : tie.Need-returns
 unfolding blockOf

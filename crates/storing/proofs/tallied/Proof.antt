@@ -1,6 +1,6 @@
--- `acts::tallied` meets its contract: what was found decides. Assumes nothing.
-use Rattle.acts.proofs.Plans.{needed-few, tallied-full, tallied-fits, tallied-done}
-use Rattle.acts.specs.Plans.{needed}
+-- `storing::tallied` meets its contract: what was found decides. Assumes nothing.
+use Rattle.storing.proofs.Records.{needed-few, tallied-full, tallied-fits, tallied-done}
+use Rattle.storing.specs.Records.{needed}
 use Rattle.store.proofs.Loaded.{loaded-tallies}
 use Rattle.store.proofs.Forms.{form-long, form-tallies}
 use Rattle.words.specs.Meaning.{blockOf}
@@ -9,8 +9,8 @@ use Prim.Native.Nat.{_+_}
 use mathlib.Core.Path.{ap₂}
 use borrow.Author.Needs.{needs}
 use Rattle.tallies.specs.Meaning.{votersOf, authorOf}
-use Rattle.acts.proofs.tallied.Statement.{statement}
-use Rattle.acts.proofs.tallied.Tie as tie
+use Rattle.storing.proofs.tallied.Statement.{statement}
+use Rattle.storing.proofs.tallied.Tie as tie
 
 load-requires : tie.Need-load-requires
 load-requires c κs =

@@ -1,9 +1,9 @@
--- `acts::needed` meets its contract. Assumes nothing.
-use Rattle.acts.proofs.Plans.{needed-genesis, needed-none, needed-one}
+-- `storing::needed` meets its contract. Assumes nothing.
+use Rattle.storing.proofs.Records.{needed-genesis, needed-none, needed-one}
 use Rattle.words.specs.Meaning.{blockOf}
 use borrow.Author.Needs.{needs}
-use Rattle.acts.proofs.needed.Statement.{statement}
-use Rattle.acts.proofs.needed.Tie as tie
+use Rattle.storing.proofs.needed.Statement.{statement}
+use Rattle.storing.proofs.needed.Tie as tie
 
 returns : tie.Need-returns
 unfolding blockOf

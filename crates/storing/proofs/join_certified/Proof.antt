@@ -1,5 +1,5 @@
--- `acts::join_certified` meets its contract. Assumes nothing.
-use Rattle.acts.proofs.Plans.{certified-block}
+-- `storing::join_certified` meets its contract. Assumes nothing.
+use Rattle.storing.proofs.Records.{certified-block}
 use Rattle.joining.proofs.Joining.{certificate-joins, certified-some, certified-none}
 use Rattle.words.specs.Meaning.{blockOf}
 use Rattle.store.specs.Decode.{tallies, stateOf}
@@ -7,8 +7,8 @@ use mathlib.Core.Path.{_∙_}
 use Rattle.rules.specs.Words.{moment}
 use borrow.Author.Needs.{needs}
 use Rattle.tallies.specs.Meaning.{withVoters, votersOf, authorOf}
-use Rattle.acts.proofs.join_certified.Statement.{statement}
-use Rattle.acts.proofs.join_certified.Tie as tie
+use Rattle.storing.proofs.join_certified.Statement.{statement}
+use Rattle.storing.proofs.join_certified.Tie as tie
 
 join-found-requires : tie.Need-join-found-requires
 unfolding blockOf
