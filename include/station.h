@@ -4,8 +4,8 @@
  * and makes no call back. The buffers of one call must not overlap.
  *
  * Each call answers refusal * 2^32 + count. A result below 2^32 is done: the count of bytes written to the front of the
- * out buffer, with the rest of it as it was. A refusal's count is 0 and the out buffer stays as it was. STATION_REFUSAL
- * and STATION_COUNT take a result apart.
+ * out buffer, with the rest of it as it was. A refusal's count is 0 and the out buffer stays as it was. Where that is
+ * otherwise a call says so below. STATION_REFUSAL and STATION_COUNT take a result apart.
  *
  *    1  store of neither length, offered name not 32 bytes, or out buffer too short          nothing changes
  *    2  store not well formed (docs/STORE.md)                                                nothing changes
@@ -89,9 +89,10 @@ uint64_t journal_put(uint8_t *slot, size_t slot_len, uint64_t sequence, uint64_t
 uint64_t journal_write(uint8_t *journal, size_t journal_len, uint64_t kind, const uint8_t *input, size_t input_len);
 
 /* Hands the input of each whole record to the station. Done: the count is the number of records. Refusals 1 (also for a report
- * below 12 + 4 bytes for each slot, and for 2^32 slots or more) and 2; 13 with the place as count where a slot stops it, and
- * then the store holds the state of the records before it. On 0 and 13 the report has the number of records, the place where
- * reading ended, the number of torn slots before it and their places, 4 bytes each, big-endian. */
+ * below 12 + 4 bytes for each slot, and for 2^32 slots or more) and 2; 13 with the place as count where a slot stops it. Store
+ * and out buffer are then as the calls of the records leave them, with 13 of those before the place. On 0 and 13 the report has
+ * the number of records, the place where reading ended, the number of torn slots before it and their places, 4 bytes each,
+ * big-endian; the rest of it stays as it was. */
 uint64_t journal_replay(const uint8_t *journal, size_t journal_len, uint8_t *store, size_t store_len, uint8_t *out, size_t out_len, uint8_t *report, size_t report_len);
 
 /* A number for a wall display. For each propose voted for in the view now held and not yet in the log, by place in the
@@ -135,8 +136,8 @@ uint64_t envelope_write(const uint8_t *bytes, size_t bytes_len, const uint8_t *l
  * the top, which is place 0. Nothing is written. */
 uint64_t slip_check(uint64_t kind, uint64_t n, const uint8_t *slip, size_t slip_len);
 
-/* Writes the slip of a logged block of this name of 32 bytes. Done: the count of bytes written. Refusals 1 and 2; 15 with
- * count 0, and nothing written, for a name that is not logged. The store is only read. */
+/* Writes the slip of a logged block of this name of 32 bytes. Done: the count of bytes written. Refusals 1 (also for a name
+ * not of 32 bytes) and 2; 15 with count 0, and nothing written, for a name that is not logged. The store is only read. */
 uint64_t slip_write(const uint8_t *store, size_t store_len, const uint8_t *name, size_t name_len, uint8_t *out, size_t out_len);
 
 /* The plain engine, which answers as a station with the small limits does and keeps no state but its inputs: each call works

@@ -1,4 +1,4 @@
-/* Every call of station.h, and every refusal number that a host can meet, each with what it leaves, for stores of both
+/* The calls on a store (station_*), and each of their refusal numbers, 1 to 12, with what it leaves, for stores of both
    lengths. */
 #include <stdio.h>
 #include <stdlib.h>

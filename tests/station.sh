@@ -1,5 +1,5 @@
 #!/bin/bash
-# The C face, for stores of both lengths: every call and every refusal number, stores that are not well formed, and
+# The C face. For stores of both lengths: the calls on a store and their refusal numbers, stores that are not well formed, and
 # recorded runs replayed, also on damaged stores; recorded pairs of reports; relay envelopes; slips; the journal, with
 # power cuts after any byte; and the plain engine beside the station.
 set -euo pipefail

@@ -1,5 +1,5 @@
-/* Stores that are not well formed, of both lengths: each gets its number and keeps every byte. An empty message is unreadable, 4, exactly
-   where the store is well formed, so the answer shows the check alone. */
+/* Stores that are not well formed, of both lengths: each gets its number and keeps every byte. To a station that runs an empty message
+   is unreadable, 4, exactly where the store is well formed, so the answer shows the check alone. */
 #include <stdio.h>
 #include <string.h>
 

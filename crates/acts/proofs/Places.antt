@@ -21,7 +21,6 @@ use Rattle.wire.specs.declared.Statement as code
 use Rattle.store.specs.Layout.{statementTable, sizeIn, countOf}
 use Rattle.store.specs.Decode.{rows, statementAt, statements, tallies, stateFrom, stateOf, Left}
 use Rattle.store.specs.Searches.{pick, firstFrom, blockAt}
-use Rattle.tallies.specs.Meaning.{withVoters}
 use Rattle.joining.specs.Changes.{joining}
 use Rattle.records.specs.Changes.{noting}
 use Rattle.store.specs.declared.Found.{Found}
@@ -31,12 +30,12 @@ use Rattle.records.proofs.Places.{alter-found}
 use Rattle.kept.specs.Said.{Sendable}
 use Rattle.kept.proofs.Statements.{stored-sendable}
 use Rattle.kept.proofs.Facts.{sizes-of, clocks-of}
-use Rattle.words.specs.Meaning.{Certifies}
-use Rattle.words.proofs.Statements.{same-unvoted, certifies-allowed}
+use Rattle.words.proofs.Statements.{same-unvoted}
+use Rattle.storing.proofs.Rooms.{same-cong, own-any, there-length, there-same}
+use Rattle.storing.proofs.Statements.{sendable-certifies}
 use Rattle.acts.specs.Works.{Formed}
 use Rattle.acts.specs.Answers.{Stands}
 use Rattle.acts.proofs.Works.{formed-parts, left-then}
-use Rattle.acts.proofs.Rooms.{same-cong, own-any, there-length, there-same}
 use Rattle.acts.proofs.Answers.{same-self}
 
 -- ---- records that differ
@@ -64,20 +63,11 @@ module _ {A : Type 0} (f : ℕ → A) where
 
 -- ---- what may be sent
 
-pub sendable-certifies : (g : Settings) (x : code.Statement) → Sendable g (message (statementOf x none)) → Certifies (statementOf x none)
-sendable-certifies g x m = certifies-allowed g (statementOf x none) (m .isAllowed)
-
 pub sendable-linked : (g : Settings) (x : code.Statement) → Sendable g (message (statementOf x none)) → Linked x
 unfolding statementOf
 sendable-linked g x m = sendable-certifies g x m .view
 
--- ---- a block by its place
-
-pub voter-block : (x : Statement) (m : ℕ) {u : Certificate} → u ≡ ownBlock x 0 → withVoters m u ≡ ownBlock x m
-unfolding ownBlock
-voter-block x m e = ap (withVoters m) e
-
--- whatever mask it comes with
+-- ---- a block by its place, whatever mask it comes with
 own-place : (x : Statement) (m i : ℕ) (us : List Tally) → firstFrom (ofBlock (ownBlock x 0)) i us ≡ firstFrom (ofBlock (ownBlock x m)) i us
 unfolding firstFrom sameBlock ownBlock
 own-place x m i [] = refl

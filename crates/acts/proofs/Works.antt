@@ -10,25 +10,17 @@ use Rattle.rules.specs.Words.{Statement, message, State}
 use Rattle.rules.specs.Inputs.{Work, saying, _▸_, quit}
 use Rattle.outgoing.specs.Wrote.{Says}
 use Rattle.outgoing.proofs.Writing.{says-none, says-both, says-one, says-length, says-outgoing}
-use Rattle.store.specs.Layout.{statementTable, tallyTable, sizeIn, countOf}
-use Rattle.store.specs.Decode.{statementAt, tallyAt, statements, tallies, stateFrom, stateOf, Left}
-use Rattle.store.proofs.Rows.{rows-length}
+use Rattle.store.specs.Layout.{sizeIn}
+use Rattle.store.specs.Decode.{stateFrom, stateOf, Left}
 use Rattle.store.proofs.Forms.{form-statements, form-tallies}
 use Rattle.kept.specs.Parts as kept
 use Rattle.kept.proofs.WellFormed.{parts, whole}
 use Rattle.kept.proofs.Keeps.{Keeps}
 use Rattle.laws.proofs.Lengths.{weight, bytes, bytes-cons, bytes-none, length-effect, size-most}
+use Rattle.storing.proofs.Records.{count-statements, count-tallies}
 use Rattle.acts.specs.Works.{Formed, Works}
 
 -- ---- stores
-
-pub count-statements : (b : List ℕ) → length (stateOf b .statements) ≡ countOf statementTable b
-unfolding stateOf stateFrom statements
-count-statements b = rows-length (statementAt b) 0 (countOf statementTable b)
-
-pub count-tallies : (b : List ℕ) → length (stateOf b .tallies) ≡ countOf tallyTable b
-unfolding stateOf stateFrom tallies
-count-tallies b = rows-length (tallyAt b) 0 (countOf tallyTable b)
 
 -- a store's limits are its state's
 pub state-size : (b : List ℕ) → stateOf b .settings .size ≡ sizeIn b

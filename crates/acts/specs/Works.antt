@@ -1,12 +1,10 @@
 -- What an act leaves: the store of a rule's next state, and its words written into the out buffer from a place on. Assumes nothing.
 use Prim.Native.Nat.{ℕ}
 use mathlib.Core.Path.{_≡_}
-use mathlib.Core.Bool.{Bool, true, false}
+use mathlib.Core.Bool.{true}
 use mathlib.Core.List.{List}
 use Rattle.rules.specs.Messages.{outgoing}
-use Rattle.rules.specs.Words.{State}
 use Rattle.rules.specs.Inputs.{Work}
-use Rattle.rules.specs.Refusals.{hasRoom}
 use Rattle.rules.specs.WellFormed.{wellFormed}
 use Rattle.outgoing.specs.Wrote.{Says}
 use Rattle.store.specs.Decode.{stateOf, Form, Left}
@@ -20,13 +18,3 @@ pub record Formed (b : List ℕ) : Type 0 where
 pub record Works (w : Work) (o : List ℕ) (at : ℕ) (b′ : List ℕ) (o′ : List ℕ) (end : ℕ) : Type 0 where
   pub left : Left b′ (w .now)
   pub says : Says o at (outgoing (w .out)) o′ end
-
--- the next state where there is room for it, else the state as it was
-unfoldable pub fitting : State → State → State
-unfolding hasRoom
-fitting next s = elim (hasRoom next) [ true ↦ next | false ↦ s ]
-
--- a change is made if there is room, and the answer says whether there was
-pub record Tried (next s : State) (b′ : List ℕ) (r : Bool) : Type 0 where
-  pub room : r ≡ hasRoom next
-  pub left : Left b′ (fitting next s)

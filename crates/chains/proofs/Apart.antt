@@ -1,14 +1,14 @@
 -- Records found apart from the last one down, and a test of places for a test of records. Each once, for every table. Assumes nothing.
 use Prim.Native.Nat.{ℕ, zero, suc, _+_, _-_, _<_, _≤_}
-use mathlib.Core.Path.{_≡_, refl, ap, _∙_}
+use mathlib.Core.Path.{_≡_, refl, sym, ap, _∙_}
 use mathlib.Core.Bool.{Bool, true, false, not, and-false}
 use native.Mathlib.Omega.{arith}
 use native.Mathlib.Nat.{sub-zero}
 use native.Mathlib.Numerals.{add-one}
-use Rattle.rules.specs.Lists.{any, distinct}
-use Rattle.laws.proofs.Tests.{by-bool}
+use Rattle.rules.specs.Lists.{any, all, distinct}
+use Rattle.laws.proofs.Tests.{by-bool, no-bool}
 use Rattle.store.specs.Decode.{rows}
-use Rattle.store.proofs.Rows.{rows-from}
+use Rattle.store.proofs.Rows.{rows-from, rows-all}
 use Rattle.heading.proofs.Walks.{distinct-here}
 use Rattle.chains.specs.Chains.{places}
 
@@ -20,6 +20,14 @@ any-same f p q i (suc n) h =
     let e = h i (omega arith) (omega arith) in
     let rest = any-same f p q (suc i) n (λ k a b. h k (omega arith) (omega arith)) in
     by-bool (p (f i)) (λ t. rw (e, t, any)) (λ t. rw (e, t, any) rest)
+
+-- down to the first record it is the whole
+pub whole-rows : {A : Type 0} (f : ℕ → A) (i n m : ℕ) → n ≡ m → i ≤ 0 → rows f 0 m ≡ rows f i (n - i)
+whole-rows f i n m e l = let z : i ≡ 0 = omega arith in rw (z, sub-zero, e)
+
+-- a record that fails a test spoils the whole
+pub all-not : {A : Type 0} (f : ℕ → A) (p : A → Bool) (i n m : ℕ) → n ≡ m → i < n → p (f i) ≡ false → all p (rows f 0 m) ≡ false
+all-not f p i n m e l t = by-bool (all p (rows f 0 m)) (λ q. no-bool (sym (rows-all p f 0 m q i (omega arith) (omega arith)) ∙ t)) (λ q. q)
 
 module _ {A : Type 0} (f : ℕ → A) (same : A → A → Bool) where
   -- a record met again below spoils the whole
@@ -33,4 +41,4 @@ module _ {A : Type 0} (f : ℕ → A) (same : A → A → Bool) where
   distinct-not i n m e l t = rw (← e) (distinct-below i n (omega arith) (distinct-here f n same i l t))
 
   pub distinct-whole : (i n m : ℕ) → n ≡ m → i ≤ 0 → distinct same (rows f i (n - i)) ≡ true → distinct same (rows f 0 m) ≡ true
-  distinct-whole i n m e l t = let z : i ≡ 0 = omega arith in rw (z, sub-zero, e) at t
+  distinct-whole i n m e l t = ap (distinct same) (whole-rows f i n m e l) ∙ t

@@ -1,17 +1,24 @@
 -- What is the same has the same chain; and the halves' product fits a word. Assumes nothing.
 use Prim.Native.Nat.{ℕ, zero, suc, _+_, _-_, _*_, _%_, _/_, _^_, _<_, _≤_}
-use mathlib.Core.Path.{_≡_, refl, sym, ap, _∙_}
+use mathlib.Core.Path.{_≡_, refl, sym, ap, ap₂, _∙_}
 use mathlib.Core.Bool.{true}
 use mathlib.Core.List.{List}
 use native.Mathlib.Omega.{arith}
-use native.Mathlib.Nat.{mul-le-mul-left, mul-le-mul-right}
+use native.Mathlib.Nat.{add-zero, mul-le-mul-left, mul-le-mul-right, mul-add-div-right, mul-add-mod-self-right, div-eq-of-lt, mod-eq-of-lt}
 use lib.Dec.{eqb}
 use borrow.Author.Tests.{eqb-true}
 use Rattle.laws.proofs.Tests.{and-left, and-right}
 use Rattle.fields.specs.Places.{Bytes, number}
 use Rattle.fields.proofs.Laws.{number-lt, number-split}
-use Rattle.fields.proofs.Differ.{digit-high, digit-low}
-use Rattle.chains.specs.Chains.{stir, stirWords, chainOf, blockChain, recordChain, isOf}
+use Rattle.chains.specs.Chains.{stir, stirWords, stirName, chainOf, blockChain, recordChain, isOf}
+
+-- a number's last digit, and what stands before it
+module _ (n h l p : ℕ) (e : n ≡ h * p + l) (less : l < p) where
+  digits-high : n / p ≡ h
+  digits-high = ap (_/ p) e ∙ mul-add-div-right (omega arith) h l ∙ ap (h +_) (div-eq-of-lt less) ∙ add-zero h
+
+  digits-low : n % p ≡ l
+  digits-low = ap (_% p) e ∙ mul-add-mod-self-right h p l ∙ mod-eq-of-lt less
 
 pub halves-fit : (s : ℕ) → s < 2 ^ 64 → s % 2 ^ 32 * (s / 2 ^ 32) < 2 ^ 64
 halves-fit s l =
@@ -19,17 +26,22 @@ halves-fit s l =
     let high : s / 2 ^ 32 ≤ 2 ^ 32 - 1 = omega arith in
     omega (arith, mul-le-mul-right (s / 2 ^ 32) low, mul-le-mul-left (2 ^ 32 - 1) high)
 
--- the same bytes are the same words
-module _ (b : List ℕ) (bytes : Bytes b) (at to : ℕ) where
-  pub words-alike : (m k : ℕ) → number b at (8 * k) ≡ number b to (8 * k) → stirWords b m at k ≡ stirWords b m to k
-  unfolding stirWords
-  words-alike m zero e = refl
-  words-alike m (suc k) e =
+-- the words at a place are those of the number there; so the same bytes are the same words
+module _ (b : List ℕ) (bytes : Bytes b) where
+  pub words-name : (m at k : ℕ) → stirWords b m at k ≡ stirName m (number b at (8 * k)) k
+  unfolding stirWords stirName
+  words-name m at zero = refl
+  words-name m at (suc k) =
       let w : 8 * suc k ≡ 8 * k + 8 = omega arith in
-      let r = sym (number-split b at (8 * k) 8) ∙ ap (number b at) (sym w) ∙ e ∙ ap (number b to) w ∙ number-split b to (8 * k) 8 in
-      let high = digit-high (256 ^ 8) _ _ _ _ (number-lt b bytes (at + 8 * k) 8) (number-lt b bytes (to + 8 * k) 8) r in
-      let low = digit-low (256 ^ 8) _ _ _ _ (number-lt b bytes (at + 8 * k) 8) (number-lt b bytes (to + 8 * k) 8) r in
-      rw (words-alike m k high, low)
+      let n = number b at (8 * suc k) in
+      let split = ap (number b at) w ∙ number-split b at (8 * k) 8 in
+      let last = number-lt b bytes (at + 8 * k) 8 in
+      let high : number b at (8 * k) ≡ n / 256 ^ 8 = sym (digits-high n (number b at (8 * k)) (number b (at + 8 * k) 8) (256 ^ 8) split last) in
+      let low : number b (at + 8 * k) 8 ≡ n % 256 ^ 8 = sym (digits-low n (number b at (8 * k)) (number b (at + 8 * k) 8) (256 ^ 8) split last) in
+      ap₂ stir (words-name m at k ∙ ap (λ (x : ℕ). stirName m x k) high) low
+
+  pub words-alike : (at to m k : ℕ) → number b at (8 * k) ≡ number b to (8 * k) → stirWords b m at k ≡ stirWords b m to k
+  words-alike at to m k e = words-name m at k ∙ ap (λ (x : ℕ). stirName m x k) e ∙ sym (words-name m to k)
 
 -- the first word before the others
 pub words-first : (b : List ℕ) (m at k : ℕ) → stirWords b m at (suc k) ≡ stirWords b (stir m (number b at 8)) (at + 8) k

@@ -27,6 +27,12 @@ unfolding stir
 stirWords b m at zero = m
 stirWords b m at (suc k) = stir (stirWords b m at k) (number b (at + 8 * k) 8)
 
+-- the same of a number of so many words
+unfoldable pub stirName : ℕ → ℕ → ℕ → ℕ
+unfolding stir
+stirName m n zero = m
+stirName m n (suc k) = stir (stirName m (n / 256 ^ 8) k) (n % 256 ^ 8)
+
 abbrev pub chainOf : ℕ → ℕ
 chainOf m = m / 2 ^ 32 % chains
 

@@ -64,7 +64,7 @@ pub fn hang(
 }
 
 // Whether a record of this block is among the last so many of a table, on their chain: a walk along it.
-fn walked(
+pub fn walked(
     store: &[u8],
     base: usize,
     size: usize,
@@ -89,7 +89,7 @@ fn walked(
     false
 }
 
-// The same of a chain, without a walk where it is empty, as most are.
+// The same of a chain, without a walk where it is empty, as most are while records hang.
 pub fn has_block(
     store: &[u8],
     base: usize,

@@ -7,5 +7,6 @@ pub mod Walks
 pub mod Voting
 pub mod Places
 pub mod Course
+pub mod Viewing
 pub mod Looking
 pub mod Ticks

@@ -1,36 +1,28 @@
 -- The loop that looks at the statements before any chain is walked, from the last place down. Assumes nothing.
 use Prim.Native.Nat.{ℕ, zero, suc, _+_, _-_, _<_, _≤_}
 use mathlib.Core.Path.{_≡_, refl, sym, ap, _∙_, subst}
-use mathlib.Core.Bool.{Bool, true, false, not, _&&_, _||_}
+use mathlib.Core.Bool.{Bool, true, not}
 use mathlib.Core.List.{List}
 use mathlib.Core.Option.{Option, some}
 use native.Mathlib.Omega.{arith}
 use native.Mathlib.Numerals.{add-one}
 use native.Mathlib.Nat.{sub-zero}
 use native.Mathlib.Decide.{decLt}
-use lib.Dec.{leb, ltb, eqb}
 use lib.ListN.{length}
-use borrow.Author.Tests.{not-true, leb-true, ltb-true}
+use borrow.Author.Tests.{leb-true}
 use Rattle.rules.specs.Lists.{keep}
 use Rattle.rules.specs.Words.{Statement}
 use Rattle.rules.specs.Inputs.{commit, commits}
-use Rattle.laws.proofs.Tests.{by-bool, no-bool, and-left}
+use Rattle.laws.proofs.Tests.{by-bool, no-bool}
 use Rattle.store.specs.Layout.{statementTable, logTable, countOf}
 use Rattle.store.specs.Decode.{nth, rows, statementAt, statements, nameAt, names}
 use Rattle.linked.specs.Told.{Told}
-use Rattle.commit.specs.Chains.{voteIn, isVoted, isRipe, Tells}
-use Rattle.commit.specs.Looks.{ToldFrom, ToldBelow, Looked}
+use Rattle.commit.specs.Chains.{voteIn, isVoted, isRipe}
+use Rattle.commit.specs.Looks.{OthersFrom, ToldFrom, ToldBelow, Looked}
 use Rattle.commit.proofs.Order.{bind}
-use Rattle.commit.proofs.Voting.{voted-not, voted-so, ripe-not, ripe-by, keep-not, keep-so, keep-end}
+use Rattle.commit.proofs.Voting.{vote-other, voted-not, voted-so, ripe-not, ripe-by, keep-not, keep-so, keep-end}
 use Rattle.commit.proofs.Telling.{told-commits}
 use Rattle.commit.proofs.Course.{from-not, from-so}
-
--- what was voted for is no new-view
-pub voted-propose : (view : ℕ) (x : Statement) (vote : ℕ) → vote ≡ voteIn view x → (vote ≡ 0 → ⊥) → x .isNewView ≡ false
-unfolding isVoted
-voted-propose view x vote e d =
-    not-true (x .isNewView)
-    (and-left (not (x .isNewView)) _ (and-left (not (x .isNewView) && eqb (x .view) view) _ (voted-so view x (λ z. d (e ∙ z)))))
 
 -- ---- the loop
 
@@ -88,22 +80,35 @@ module _ {b t : List ℕ} {view wait now count i votes settled : ℕ} (s : Looki
           add-one votes ∙ ap suc (s .counted)
           ∙ ap length (sym (keep-so (isVoted view) (statementAt b) count i pos up (voted-so view x (λ z. d (read ∙ z)))))
 
-      -- it is not due yet, or the check told of it
-      pub looking-on : (r : Bool) → Tells t (x .height - 1) (i - 1) r → (ltb now (vote + wait) || r) ≡ true → Looking b t view wait now count (i - 1) (votes + 1) settled
-      looking-on r k e = record {
+      -- the check told of it
+      pub looking-told : nth t (x .height - 1) ≡ suc (i - 1) → Looking b t view wait now count (i - 1) (votes + 1) settled
+      looking-told k = record { few = omega (arith, s .few); counted = one-more; told = further (λ q. k) }
+
+      -- it is not due yet
+      pub looking-early : now < vote + wait → Looking b t view wait now count (i - 1) (votes + 1) settled
+      looking-early l = record {
         few = omega (arith, s .few);
         counted = one-more;
-        told = further (λ q. go r k (leb-true (vote + wait) now (ripe-by view x wait now vote read d ∙ q)) (ltb now (vote + wait)) refl e);
+        told = further (λ q. absurd (omega (arith, leb-true (vote + wait) now (ripe-by view x wait now vote read d ∙ q))));
       }
-        where
-          go : (r : Bool) → Tells t (x .height - 1) (i - 1) r → vote + wait ≤ now → (u : Bool) → ltb now (vote + wait) ≡ u → (u || r) ≡ true → nth t (x .height - 1) ≡ suc (i - 1)
-          go true k l u q e = k
-          go false k l true q e = absurd (omega (arith, ltb-true now (vote + wait) q))
-          go false k l false q e = no-bool (sym e)
 
       -- it is due, and nothing is told of it
       pub looking-fresh : Looking b t view wait now count (i - 1) (votes + 1) (i - 1)
       looking-fresh = record { few = omega (arith, s .few); counted = one-more; told = λ j l m. absurd (omega arith) }
+
+-- those of other views are passed over
+module _ {b t : List ℕ} {view wait now count votes settled : ℕ} where
+  pub looking-others : (i : ℕ) → Looking b t view wait now count i votes settled → (r : ℕ) → r ≤ i → OthersFrom b view r i → Looking b t view wait now count r votes settled
+  looking-others zero s r l o = subst (λ (k : ℕ). Looking b t view wait now count k votes settled) (omega arith) s
+  looking-others (suc i) s r l o =
+      let at : ℕ → Type 0 = λ k. Looking b t view wait now count k votes settled in
+      elim (decLt r (suc i)) [
+        | yes u ↦ looking-others i
+            (let e : suc i - 1 ≡ i = omega arith in
+            subst at e (looking-not s (omega arith) (vote-other b (suc i - 1) view (o (suc i - 1) (omega arith) (omega arith)))))
+            r (omega arith) (λ j m n. o j m (omega arith))
+        | no u ↦ subst at (omega arith) s
+      ]
 
 -- ---- where the check told of all that is due
 

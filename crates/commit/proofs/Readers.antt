@@ -4,7 +4,7 @@ use mathlib.Core.Path.{_≡_, ap}
 use mathlib.Core.Bool.{Bool, true, false, not, _&&_, and-true, and-false}
 use mathlib.Core.Option.{Option}
 use lib.Dec.{eqb}
-use borrow.Author.Tests.{eqb-true, eq-eqb, ne-eqb}
+use borrow.Author.Tests.{eqb-true, eq-eqb, ne-eqb, not-true}
 use Rattle.rules.specs.Words as words
 use Rattle.rules.specs.Inputs.{isBlock}
 use Rattle.laws.proofs.Tests.{and-left, and-right}
@@ -35,7 +35,11 @@ pub block-differs : (h n : ℕ) (y : words.Statement) → (h ≡ y .height → �
 unfolding isBlock
 block-differs h n y d = rw (ne-eqb _ _ d, and-false)
 
--- a block that is found has the height and the name
+-- a block that is found is a propose and has the height and the name
+pub block-propose : (h n : ℕ) (x : words.Statement) → isBlock h n x ≡ true → x .isNewView ≡ false
+unfolding isBlock
+block-propose h n x e = not-true (x .isNewView) (and-left (not (x .isNewView)) _ (and-left (not (x .isNewView) && eqb h (x .height)) _ e))
+
 pub block-height : (h n : ℕ) (x : words.Statement) → isBlock h n x ≡ true → h ≡ x .height
 unfolding isBlock
 block-height h n x e = eqb-true _ _ (and-right (not (x .isNewView)) _ (and-left (not (x .isNewView) && eqb h (x .height)) _ e))

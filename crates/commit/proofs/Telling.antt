@@ -11,14 +11,12 @@ use native.Mathlib.Decide.{decLt}
 use lib.Dec.{eqb}
 use borrow.Author.Tests.{eqb-true}
 use Rattle.rules.specs.Lists.{first}
-use Rattle.rules.specs.Words.{Statement}
 use Rattle.rules.specs.Inputs.{isBlock, chainTo, chain, commit}
 use Rattle.laws.proofs.Searches.{first-any}
-use Rattle.store.specs.Layout.{statementTable, logTable, countOf}
 use Rattle.store.specs.Decode.{nth, rows, statementAt, statements, nameAt}
 use Rattle.linked.specs.Told.{nameBelow, Told}
 use Rattle.commit.specs.Chains.{Tells, Meets}
-use Rattle.commit.proofs.Readers.{block-height, block-name}
+use Rattle.commit.proofs.Readers.{block-propose, block-height, block-name}
 use Rattle.commit.proofs.Joining.{commit-some, merge-short}
 
 pub below-name : (b : List ℕ) (k : ℕ) → 0 < k → nameBelow b k ≡ nameAt b (k - 1)
@@ -45,6 +43,9 @@ module _ {b t : List ℕ} (told : Told b t) where
   module _ (k p : ℕ) (e : nth t k ≡ suc p) where
     its-block : isBlock (k + 1) (nameAt b k) (statementAt b p) ≡ true
     its-block = first-any (isBlock (k + 1) (nameAt b k)) (statements b) (statementAt b p) (told .settles k p e .is-first) .1
+
+    pub told-propose : statementAt b p .isNewView ≡ false
+    told-propose = block-propose (k + 1) (nameAt b k) (statementAt b p) its-block
 
     pub told-height : k + 1 ≡ statementAt b p .height
     told-height = block-height (k + 1) (nameAt b k) (statementAt b p) its-block

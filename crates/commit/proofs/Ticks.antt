@@ -8,19 +8,19 @@ use native.Mathlib.Omega.{arith}
 use native.Mathlib.Nat.{zero-add, sub-zero}
 use lib.Dec.{leb}
 use lib.ListN.{length}
-use borrow.Author.Tests.{leb-true}
 use Rattle.rules.specs.Limits.{mostStatements, mostTallies, mostStatementsLarge}
 use Rattle.rules.specs.Lists.{keep, sorted, all, distinct}
 use Rattle.rules.specs.Sizes.{Settings, goodSettings}
-use Rattle.rules.specs.Messages.{propose, viewAllowed, blockAllowed, maskAllowed, allowed}
+use Rattle.rules.specs.Messages.{viewAllowed, allowed}
 use Rattle.rules.specs.Words.{Statement, message, Phase, inView, waiting, stopped, State, sameStatement}
 use Rattle.rules.specs.Inputs.{withClock, isIn, isDue, due, commits, votes}
 use Rattle.rules.specs.WellFormed.{isName, wellFormed, clocksInOrder, lockGood, statementGood, tallyGood, sameTally, talliesThere, blamesGood, linked, fewOpened}
-use Rattle.laws.proofs.Tests.{by-bool, and-left, and-right}
+use Rattle.laws.proofs.Tests.{by-bool, and-left}
+use Rattle.laws.proofs.Truths.{and-2, and-4, and-6}
+use Rattle.laws.proofs.Allowed.{view-within, Rights, allowed-rights}
 use Rattle.fields.specs.Places.{Bytes}
-use Rattle.fields.specs.Records.{fields}
 use Rattle.fields.proofs.Laws.{number-lt}
-use Rattle.store.specs.Layout.{headerFormat, statementTable, logTable, countOf}
+use Rattle.store.specs.Layout.{statementTable, logTable, countOf}
 use Rattle.store.specs.Meaning.{headerOf, Loads}
 use Rattle.store.specs.declared.Station.{Station}
 use Rattle.store.proofs.Loaded.{loaded-settings, loaded-view, loaded-clock, loaded-statements}
@@ -29,7 +29,7 @@ use Rattle.store.proofs.Rows.{rows-same, rows-append, rows-all}
 use Rattle.linked.specs.Told.{Told}
 use Rattle.commit.specs.Chains.{nameIn, nameSoFar, Begun, isRipe}
 use Rattle.commit.specs.Outcome.{tickLog, Joined, Committed}
-use Rattle.commit.specs.Looks.{ToldIn, Seen}
+use Rattle.commit.specs.Looks.{IsView, Views, ToldIn, Seen}
 use Rattle.commit.specs.declared.Glance.{Glance}
 use Rattle.commit.specs.declared.Merged.{Merged}
 use Rattle.commit.specs.declared.Merged.the-variants.{Grown, Differs}
@@ -151,47 +151,60 @@ module _ (b told : List ℕ) (s : Station) (e : Loads s b) where
   pub seen-votes : (r : Glance) → Seen b told s r → r .votes ≡ votes (stateOf b)
   seen-votes r k = k .counted ∙ votes-are b (s .view) (loaded-view s b e)
 
--- ---- a propose has height at least 1
+-- ---- a propose has height at least 1, and views are within the limits
 
-seventh-last : (a x b c d e f g h : Bool) → (a && x && b && c && d && e && f && g && h) ≡ true → x ≡ true
-seventh-last a x b c d e f g h q =
-    and-right a x (and-left (a && x) b (and-left (a && x && b) c (and-left (a && x && b && c) d (and-left (a && x && b && c && d) e
+up-to-seventh : (a x b c d e f g h : Bool) → (a && x && b && c && d && e && f && g && h) ≡ true → (a ≡ true) × (x ≡ true)
+up-to-seventh a x b c d e f g h q =
+    and-2 a x (and-left (a && x) b (and-left (a && x && b) c (and-left (a && x && b && c) d (and-left (a && x && b && c && d) e
     (and-left (a && x && b && c && d && e) f (and-left (a && x && b && c && d && e && f) g (and-left (a && x && b && c && d && e && f && g) h q)))))))
 
-all-good : (s : State) → wellFormed s ≡ true → all (statementGood s) (s .statements) ≡ true
-unfolding wellFormed
-all-good s =
-    seventh-last
-    (goodSettings (s .settings) && viewAllowed (s .settings) (s .view) && clocksInOrder s && lockGood s && leb (length (s .statements)) (mostStatements (s .settings .size))
-    && leb (length (s .tallies)) (mostTallies (s .settings .size)))
-    (all (statementGood s) (s .statements)) (distinct sameStatement (s .statements)) (all (tallyGood (s .settings) (s .clock)) (s .tallies)) (distinct sameTally (s .tallies))
-    (all (talliesThere (s .tallies)) (s .statements)) (blamesGood (s .settings) (s .blames)) (linked (s .statements) 0 0 (s .log)) (fewOpened (s .settings .n) (s .tallies))
+module _ (s : State) (w : wellFormed s ≡ true) where
+  abbrev few : Bool
+  few = leb (length (s .statements)) (mostStatements (s .settings .size))
 
-propose-high : (s : State) (x : Statement) → statementGood s x ≡ true → x .isNewView ≡ false → 1 ≤ x .height
-unfolding statementGood message allowed
-propose-high s x e q =
-    let g = s .settings in
-    let a = allowed g (message x) in
-    let n = isName (x .name) in
-    let l = isName (x .link) in
-    let m : message x ≡ propose (x .view) (x .height) (x .name) (x .link) (x .mask) (x .author) = rw (q, message) in
-    let f = ap (allowed g) (sym m) ∙ and-left a n (and-left (a && n) l (and-left (a && n && l) _ e)) in
-    let v = viewAllowed g (x .view) in
-    let h = leb 1 (x .height) in
-    let b = blockAllowed (x .height) (x .name) in
-    let p = blockAllowed (x .height - 1) (x .link) in
-    leb-true 1 (x .height)
-    (and-right v h (and-left (v && h) b (and-left (v && h && b) p (and-left (v && h && b && p) (maskAllowed g (x .mask)) (and-left (v && h && b && p && maskAllowed g (x .mask)) _ f)))))
+  abbrev fewTallies : Bool
+  fewTallies = leb (length (s .tallies)) (mostTallies (s .settings .size))
 
-heights : (b : List ℕ) → wellFormed (stateOf b) ≡ true → (count : ℕ) → count ≡ countOf statementTable b → (i : ℕ) → i < count → statementAt b i .isNewView ≡ false
-    → 1 ≤ statementAt b i .height
-unfolding stateOf stateFrom statements
-heights b w count e i l =
-    propose-high (stateOf b) (statementAt b i)
-    (rows-all (statementGood (stateOf b)) (statementAt b) 0 (countOf statementTable b) (all-good (stateOf b) w) i (omega arith) (omega arith))
+  good : (viewAllowed (s .settings) (s .view) ≡ true) × (all (statementGood s) (s .statements) ≡ true)
+  unfolding wellFormed
+  good =
+      let t =
+      up-to-seventh (goodSettings (s .settings) && viewAllowed (s .settings) (s .view) && clocksInOrder s && lockGood s && few && fewTallies)
+      (all (statementGood s) (s .statements)) (distinct sameStatement (s .statements)) (all (tallyGood (s .settings) (s .clock)) (s .tallies)) (distinct sameTally (s .tallies))
+      (all (talliesThere (s .tallies)) (s .statements)) (blamesGood (s .settings) (s .blames)) (linked (s .statements) 0 0 (s .log)) (fewOpened (s .settings .n) (s .tallies)) w in
+      (and-6 (goodSettings (s .settings)) (viewAllowed (s .settings) (s .view)) (clocksInOrder s) (lockGood s) few fewTallies (t .0) .1, t .1)
+
+module _ (s : State) (x : Statement) (e : statementGood s x ≡ true) where
+  rights : Rights (s .settings) (message x)
+  unfolding statementGood
+  rights = allowed-rights (s .settings) (message x) (and-4 (allowed (s .settings) (message x)) (isName (x .name)) (isName (x .link)) _ e .0)
+
+  propose-high : x .isNewView ≡ false → 1 ≤ x .height
+  unfolding message
+  propose-high q = (rw (q, message) at rights) .1
+
+  view-good : viewAllowed (s .settings) (x .view) ≡ true
+  unfolding message
+  view-good = by-bool (x .isNewView) (λ q. (rw (q, message) at rights) .0) (λ q. (rw (q, message) at rights) .0)
+
+module _ (b : List ℕ) (w : wellFormed (stateOf b) ≡ true) where
+  stated-good : (i : ℕ) → i < countOf statementTable b → statementGood (stateOf b) (statementAt b i) ≡ true
+  unfolding stateOf stateFrom statements
+  stated-good i l = rows-all (statementGood (stateOf b)) (statementAt b) 0 (countOf statementTable b) (good (stateOf b) w .1) i (omega arith) (omega arith)
+
+  is-view : (v : ℕ) → viewAllowed (stateOf b .settings) v ≡ true → IsView v
+  is-view v a = let t = view-within (stateOf b .settings) v a in (t .0, t .2)
+
+  -- so a tick can pass over the statements of other views
+  pub views : (s : Station) → Loads s b → Form b → Views b (s .view)
+  views s e f = record {
+    form = f;
+    stated = λ i l. is-view (statementAt b i .view) (view-good (stateOf b) (statementAt b i) (stated-good i l));
+    own = is-view (s .view) (ap (viewAllowed (stateOf b .settings)) (loaded-view s b e) ∙ good (stateOf b) w .0);
+  }
 
 -- so the due statements can be looked at
 pub begun : (b told : List ℕ) (s : Station) → Loads s b → Form b → wellFormed (stateOf b) ≡ true → Told b told → Begun b told (s .statements) (2 * s .settings .delay)
 begun b told s e f w t =
     let count = loaded-statements s b e in
-    record { form = f; tells = t; all = count; heights = heights b w (s .statements) count; short = omega (arith, delay-short s b e (f .bytes)) }
+    record { form = f; tells = t; all = count; heights = λ i l. propose-high (stateOf b) (statementAt b i) (stated-good b w i (omega arith)); short = omega (arith, delay-short s b e (f .bytes)) }

@@ -1,11 +1,10 @@
 -- The number of a vote: when a propose of the view was voted for, and when it is due. Assumes nothing.
 use Prim.Native.Nat.{ℕ, _+_, _-_, _<_, _≤_}
-use mathlib.Core.Path.{_≡_, refl, sym, ap, ap₂, _∙_}
+use mathlib.Core.Path.{_≡_, refl, sym, ap, _∙_}
 use mathlib.Core.Bool.{Bool, true, false, not, _&&_, and-false}
 use mathlib.Core.List.{List, [], _∷_}
 use mathlib.Core.Option.{Option, none, some}
 use native.Mathlib.Omega.{arith}
-use native.Mathlib.Nat.{sub-zero}
 use lib.Dec.{leb, eqb}
 use lib.ListN.{length}
 use borrow.Author.Tests.{eq-eqb, ne-eqb, leb-true, le-leb}
@@ -15,7 +14,6 @@ use Rattle.rules.specs.Inputs.{votes}
 use Rattle.laws.proofs.Tests.{by-bool, no-bool}
 use Rattle.tallies.specs.Values.{voteNumber}
 use Rattle.store.specs.Decode.{rows, statementAt, kindAt, voteAt, statements, stateFrom, stateOf}
-use Rattle.store.specs.Layout.{statementTable, countOf}
 use Rattle.tallies.proofs.Values.{vote-number}
 use Rattle.store.proofs.Values.{voted-is}
 use Rattle.store.proofs.Rows.{rows-from}
@@ -40,6 +38,10 @@ module _ (b : List ℕ) (i view : ℕ) where
 
   pub vote-own : statementAt b i .view ≡ view → (kindAt b i ≡ 1 → ⊥) → voteAt b i ≡ voteIn view (statementAt b i)
   vote-own e d = vote-read b i ∙ own-vote e d
+
+  pub vote-propose : statementAt b i .view ≡ view → statementAt b i .isNewView ≡ false → voteAt b i ≡ voteIn view (statementAt b i)
+  unfolding voteIn
+  vote-propose e q = vote-read b i ∙ rw (q, eq-eqb _ _ e)
 
 -- ---- what the number says
 

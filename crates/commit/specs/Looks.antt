@@ -1,14 +1,34 @@
 -- What is seen of the statements before any chain is walked. Assumes nothing.
 use Prim.Native.Nat.{ℕ, suc, _+_, _-_, _*_, _<_, _≤_}
 use mathlib.Core.Path.{_≡_}
-use mathlib.Core.Bool.{true}
+use mathlib.Core.Bool.{Bool, true, false}
 use mathlib.Core.List.{List}
 use lib.ListN.{length, getD}
+use Rattle.rules.specs.Limits.{lastViewLarge}
 use Rattle.rules.specs.Lists.{keep}
-use Rattle.store.specs.Decode.{statementAt, statements}
+use Rattle.store.specs.Layout.{statementTable, countOf}
+use Rattle.store.specs.Decode.{statementAt, statements, Form}
 use Rattle.store.specs.declared.Station.{Station}
 use Rattle.commit.specs.Chains.{isVoted, isRipe}
 use Rattle.commit.specs.declared.Glance.{Glance}
+
+-- a view that is allowed in some column
+abbrev pub IsView : ℕ → Type 0
+IsView v = (1 ≤ v) × (v ≤ lastViewLarge)
+
+-- a store of which every statement has such a view, and one more
+pub record Views (b : List ℕ) (view : ℕ) : Type 0 where
+  pub form : Form b
+  pub stated : (i : ℕ) → i < countOf statementTable b → IsView (statementAt b i .view)
+  pub own : IsView view
+
+-- the statements from one place to another are of other views
+abbrev pub OthersFrom : List ℕ → ℕ → ℕ → ℕ → Type 0
+OthersFrom b view from to = (j : ℕ) → from ≤ j → j < to → statementAt b j .view ≡ view → ⊥
+
+abbrev pub FourOthers : List ℕ → ℕ → ℕ → Bool → Type 0
+FourOthers b view i true = OthersFrom b view i (i + 4)
+FourOthers b view i false = Unit {0}
 
 -- the check told of each due statement from one place to another
 abbrev pub ToldFrom : List ℕ → List ℕ → ℕ → ℕ → ℕ → ℕ → ℕ → Type 0

@@ -2,7 +2,8 @@
 // The store is only read; a caller shows that it has the form.
 ghost use mathlib.Core.Path.{_≡_};
 ghost use lib.ListN.{length, getD};
-ghost use Prim.Native.Nat.{ℕ, _-_, _^_, _<_, _≤_};
+ghost use Prim.Native.Nat.{ℕ, _+_, _-_, _^_, _<_, _≤_};
+ghost use lib.Dec.{eqb};
 ghost use Rattle.rules.specs.Lists.{keep};
 ghost use Rattle.rules.specs.Limits.{mostStatements, mostStatementsLarge};
 ghost use mathlib.Core.Bool.{true};
@@ -17,12 +18,15 @@ ghost use Rattle.store.specs.Searches.{firstFrom};
 ghost use Rattle.linked.specs.Told.{Told};
 ghost use Rattle.commit.specs.Chains.{nameIn, nameSoFar, Stored, voteIn, isRipe, Tells, Meets, Lowered, Known, WalkedDown, Settled, Copied, Begun, WholeChain, Agree};
 ghost use Rattle.commit.specs.Outcome.{Joined, JoinedWith, Committed};
-ghost use Rattle.commit.specs.Looks.{ToldBelow, Looked, ToldIn, Seen};
+ghost use Rattle.commit.specs.Looks.{IsView, Views, OthersFrom, FourOthers, ToldBelow, Looked, ToldIn, Seen};
 use fields::Name;
 use settings::Settings;
 use store::Found;
 use store::Phase;
+use store::STATEMENT_SIZE;
+use store::STATEMENTS;
 use store::Station;
+use store::VIEW;
 
 // The log is so long now, or a chain differs from it.
 pub enum Merged {
@@ -79,16 +83,19 @@ fn place_in(table: &[u16], k: usize) -> usize
     table[k] as usize
 }
 
-// Whether the check told that statement i, of some height, is the first propose of the logged name there, above the name below.
+// Whether the check told that statement i is the first propose of the logged name at its height, above the name below.
 fn is_told(store: &[u8], told: &[u16], i: usize) -> bool
-    requires { ⌜ (length (now store) ≡ storeLength (sizeIn (now store))) × (i < mostStatements (sizeIn (now store))) × (1 ≤ statementAt (now store) i .height) × (length (now told) ≡ mostStatementsLarge) ⌝ }
+    requires { ⌜ (length (now store) ≡ storeLength (sizeIn (now store))) × (i < mostStatements (sizeIn (now store))) × (length (now told) ≡ mostStatementsLarge) ⌝ }
     ensures { λ r. ⌜ Tells (now (told .entry)) (statementAt (now (store .entry)) i .height - 1) i r ⌝ }
 {
-    let k = store::height_at(store, i) as usize - 1;
-    if Settings::MOST_STATEMENTS_LARGE <= k {
+    let height = store::height_at(store, i) as usize;
+    if height == 0 {
         return false;
     }
-    place_in(told, k) == i + 1
+    if Settings::MOST_STATEMENTS_LARGE < height {
+        return false;
+    }
+    place_in(told, height - 1) == i + 1
 }
 
 // Whether a chain that goes on with a name at height k goes on with the log there, as far down as the check told.
@@ -287,9 +294,52 @@ fn is_settled(chain: &[u16], height: usize, left: usize, own: usize, i: usize) -
     true
 }
 
+// Whether statement i is of a view: none is above 256, so the last byte tells.
+fn is_of_view(store: &[u8], i: usize, view: u32) -> bool
+    requires { ⌜ (length (now store) ≡ storeLength (sizeIn (now store))) × (i < mostStatements (sizeIn (now store))) × IsView (statementAt (now store) i .view) × IsView view ⌝ }
+    ensures { λ r. ⌜ r ≡ eqb (statementAt (now (store .entry)) i .view) view ⌝ }
+{
+    let last = STATEMENTS + STATEMENT_SIZE * i + VIEW + 3;
+    fields::get(store, last, 1) == (view % 256) as u64
+}
+
+// Whether the four statements from place i on are of other views.
+fn are_others(store: &[u8], i: usize, view: u32) -> bool
+    requires { ⌜ (Views (now store) view) × (i + 4 ≤ countOf statementTable (now store)) ⌝ }
+    ensures { λ r. ⌜ FourOthers (now (store .entry)) view i r ⌝ }
+{
+    if is_of_view(store, i + 3, view) {
+        return false;
+    }
+    if is_of_view(store, i + 2, view) {
+        return false;
+    }
+    if is_of_view(store, i + 1, view) {
+        return false;
+    }
+    !is_of_view(store, i, view)
+}
+
+// Passes over statements of other views from a place down, four at a time: how many are left.
+fn pass(store: &[u8], from: usize, view: u32) -> usize
+    requires { ⌜ (Views (now store) view) × (from ≤ countOf statementTable (now store)) ⌝ }
+    ensures { λ r. ⌜ (r ≤ from) × OthersFrom (now (store .entry)) view r from ⌝ }
+{
+    let mut i = from;
+    loop {
+        if i < 4 {
+            break i;
+        }
+        if !are_others(store, i - 4, view) {
+            break i;
+        }
+        i -= 4;
+    }
+}
+
 // What is seen of all statements, from the last place down, field by field.
 fn look_down(store: &[u8], told: &[u16], count: usize, view: u32, wait: u64, clock: u64) -> Glance
-    requires { ⌜ Begun (now store) (now told) count wait ⌝ }
+    requires { ⌜ (Begun (now store) (now told) count wait) × (Views (now store) view) ⌝ }
     ensures { λ r. ⌜ Looked (now (store .entry)) (now (told .entry)) view wait clock count (r .votes) (r .settled) ⌝ }
 {
     let mut i = count;
@@ -297,7 +347,15 @@ fn look_down(store: &[u8], told: &[u16], count: usize, view: u32, wait: u64, clo
     let mut settled = count;
     while 0 < i {
         i -= 1;
-        if search::view_at(store, i) != view {
+        if !is_of_view(store, i, view) {
+            i = pass(store, i, view);
+            continue;
+        }
+        if is_told(store, told, i) {
+            if store::voted_at(store, i) == 0 {
+                continue;
+            }
+            votes += 1;
             continue;
         }
         if store::kind_at(store, i) == 1 {
@@ -308,7 +366,7 @@ fn look_down(store: &[u8], told: &[u16], count: usize, view: u32, wait: u64, clo
             continue;
         }
         votes += 1;
-        if (clock < vote as u64 + wait) | is_told(store, told, i) {
+        if clock < vote as u64 + wait {
             continue;
         }
         settled = i;

@@ -1,7 +1,7 @@
 -- The whole definition by its parts, and what the answer says of decoding. Assumes nothing.
 use Prim.Native.Nat.{ℕ, _≤_}
 use mathlib.Core.Path.{_≡_, refl, sym, ap, _∙_}
-use mathlib.Core.Bool.{Bool, true, false, not, _&&_, and-true, false≢true}
+use mathlib.Core.Bool.{Bool, true, false, not, _&&_, and-true, and-false, false≢true}
 use mathlib.Core.List.{List}
 use mathlib.Core.Option.{none, some}
 use native.Mathlib.Omega.{arith}
@@ -45,9 +45,11 @@ state-is : (b : List ℕ) → stateOf b ≡ stateFrom (sizeIn b) (fields b 0 hea
 unfolding stateOf
 state-is b = refl
 
-grouped : (x a b c d e f : Bool) → (x && (a && b && c && d && e && f)) ≡ (x && a && b && c && d && e && f)
-grouped true a b c d e f = refl
-grouped false a b c d e f = refl
+-- the parts in the order of the code and in that of the rules
+grouped : (x d a b c e f g : Bool) → (x && (a && b && (c && d) && e && f && g)) ≡ (x && d && a && b && c && e && f && g)
+grouped false d a b c e f g = refl
+grouped true true a b c e f g = ap (λ (z : Bool). a && b && z && e && f && g) (and-true c)
+grouped true false a b c e f g = ap (λ (z : Bool). a && b && z && e && f && g) (and-false c) ∙ ap (λ (z : Bool). z && e && f && g) (and-false (a && b))
 
 -- where the answer is no, nothing is told
 pub untold : {good : Bool} {b t : List ℕ} → false ≡ good → Telling good b false t
@@ -60,7 +62,7 @@ module _ (g : Settings) (now : ℕ) (b : List ℕ) (r : Bool) (e : r ≡ (all (t
   tables-not n = rw (sym e ∙ not-true r n)
 
   -- where they are good and apart, the others do
-  pub tables-then : not r ≡ false → (all (talliesThere (tallies b)) (statements b) && blamesGood g (blames b) && linked (statements b) 0 0 (names b) && fewOpened (g .n) (tallies b)) ≡ tablesGood g now b
+  pub tables-then : not r ≡ false → (all (talliesThere (tallies b)) (statements b) && distinct sameStatement (statements b) && blamesGood g (blames b) && linked (statements b) 0 0 (names b) && fewOpened (g .n) (tallies b)) ≡ tablesGood g now b
   unfolding tablesGood
   tables-then n = rw (sym e ∙ not-false r n)
 
@@ -92,21 +94,18 @@ module _ (b : List ℕ) (s : Station) (long : length b ≡ storeLength (sizeIn b
   abbrev good : Bool
   good = all (statementGood (alone s)) (statements b)
 
-  abbrev apart : Bool
-  apart = distinct sameStatement (statements b)
-
   abbrev rest : Bool
   rest = tablesGood (settingsOf (s .settings)) (s .clock) b
 
   -- with the form, the rest of the definition is all there is
-  formed-is : (headerGood s && good && apart && rest) ≡ (hasForm b && wellFormed (stateOf b))
+  formed-is : (headerGood s && good && rest) ≡ (hasForm b && wellFormed (stateOf b))
   unfolding tablesGood
   formed-is =
       let g = settingsOf (s .settings) in
       let xs = statements b in
       let ts = tallies b in
       let whole = wellFormed (stateOf b) in
-      grouped (headerGood s && good && apart) (all (tallyGood g (s .clock)) ts) (distinct sameTally ts) (all (talliesThere ts) xs) (blamesGood g (blames b)) (linked xs 0 0 (names b)) (fewOpened (g .n) ts)
+      grouped (headerGood s && good) (distinct sameStatement xs) (all (tallyGood g (s .clock)) ts) (distinct sameTally ts) (all (talliesThere ts) xs) (blamesGood g (blames b)) (linked xs 0 0 (names b)) (fewOpened (g .n) ts)
       ∙ parts-are s xs ts (blames b) (names b) few-statements few-tallies
       ∙ ap (λ (z : Size). wellFormed (stateFrom z (headerOf s) xs ts (blames b) (names b))) (holds .size)
       ∙ ap (λ (vs : List ℕ). wellFormed (stateFrom (sizeIn b) vs xs ts (blames b) (names b))) (holds .header)
@@ -126,11 +125,11 @@ module _ (b : List ℕ) (s : Station) (long : length b ≡ storeLength (sizeIn b
   certify e i l = good-certifies (alone s) (statementAt b i) (rows-all (statementGood (alone s)) (statementAt b) 0 (countOf statementTable b) e i (omega arith) (omega (arith, counted .is)))
 
   -- as the code tests them
-  module _ (x y z : Bool) (p : x ≡ headerGood s) (q : y ≡ good) (r : z ≡ apart) where
-    tests : (x && y && z) ≡ (headerGood s && good && apart)
-    tests = rw (p, q, r)
+  module _ (x y : Bool) (p : x ≡ headerGood s) (q : y ≡ good) where
+    tests : (x && y) ≡ (headerGood s && good)
+    tests = rw (p, q)
 
-    pub ready : not (x && y && z) ≡ false → Ready b s
+    pub ready : not (x && y) ≡ false → Ready b s
     ready e =
         let k = form-tables b s lent form in
         record {
@@ -138,15 +137,15 @@ module _ (b : List ℕ) (s : Station) (long : length b ≡ storeLength (sizeIn b
           statements = counted;
           tallies = counts-tallies b s lent k;
           log = counts-log b s lent k;
-          certify = certify (and-right (headerGood s) good (and-left (headerGood s && good) apart (sym tests ∙ not-false (x && y && z) e)));
-          stations = few-stations (and-left (headerGood s) good (and-left (headerGood s && good) apart (sym tests ∙ not-false (x && y && z) e)));
+          certify = certify (and-right (headerGood s) good (sym tests ∙ not-false (x && y) e));
+          stations = few-stations (and-left (headerGood s) good (sym tests ∙ not-false (x && y) e));
         }
 
-    pub formed-not : not (x && y && z) ≡ true → false ≡ (hasForm b && wellFormed (stateOf b))
-    formed-not e = ap (_&& rest) (sym (not-true (x && y && z) e) ∙ tests) ∙ formed-is
+    pub formed-not : not (x && y) ≡ true → false ≡ (hasForm b && wellFormed (stateOf b))
+    formed-not e = ap (_&& rest) (sym (not-true (x && y) e) ∙ tests) ∙ formed-is
 
-    pub formed-then : not (x && y && z) ≡ false → rest ≡ (hasForm b && wellFormed (stateOf b))
-    formed-then e = ap (_&& rest) (sym (not-false (x && y && z) e) ∙ tests) ∙ formed-is
+    pub formed-then : not (x && y) ≡ false → rest ≡ (hasForm b && wellFormed (stateOf b))
+    formed-then e = ap (_&& rest) (sym (not-false (x && y) e) ∙ tests) ∙ formed-is
 
 -- ---- for callers
 

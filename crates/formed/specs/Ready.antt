@@ -6,6 +6,7 @@ use mathlib.Core.List.{List}
 use Rattle.rules.specs.Limits.{mostStations}
 use Rattle.rules.specs.Lists.{all, distinct}
 use Rattle.rules.specs.Sizes.{Settings}
+use Rattle.rules.specs.Words.{sameStatement}
 use Rattle.rules.specs.WellFormed.{tallyGood, sameTally, talliesThere, blamesGood, linked, fewOpened}
 use Rattle.settings.specs.Made.{sizeFrom}
 use Rattle.store.specs.Layout.{sizeIn, statementTable, tallyTable, logTable}
@@ -24,10 +25,10 @@ pub record Ready (b : List ℕ) (s : Station) : Type 0 where
   pub certify : AllCertify b (s .statements)
   pub stations : s .settings .n ≤ mostStations
 
--- the parts of the definition after the statements
+-- the parts of the definition after the header and the single statements
 unfoldable pub tablesGood : Settings → ℕ → List ℕ → Bool
 tablesGood g now b =
-    all (tallyGood g now) (tallies b) && distinct sameTally (tallies b) && all (talliesThere (tallies b)) (statements b)
+    all (tallyGood g now) (tallies b) && distinct sameTally (tallies b) && (all (talliesThere (tallies b)) (statements b) && distinct sameStatement (statements b))
     && blamesGood g (blames b) && linked (statements b) 0 0 (names b) && fewOpened (g .n) (tallies b)
 
 -- the exact answer, and what the log tells, where it is yes

@@ -46,7 +46,7 @@ fn tables_good(
     if !good {
         return false;
     }
-    there::all_there(store, salt, count, &heads, &nexts, station.statements)
+    there::there_and_apart(store, salt, count, &heads, &nexts, station.statements)
         & blames::all_good(store, settings)
         & linked::is_linked(store, station.logged, station.statements, told)
         & openers::few_opened(store, settings, count)
@@ -63,8 +63,7 @@ pub fn well_formed_told(store: &[u8], told: &mut [u16; Settings::MOST_STATEMENTS
     }
     let salt = chains::salt(station.clock);
     let good = header::header_good(station)
-        & statements::all_good(store, station, station.statements)
-        & stated::apart::distinct(store, salt, station.statements);
+        & statements::all_good(store, station, station.statements);
     if !good {
         return false;
     }

@@ -24,17 +24,13 @@ use Rattle.fields.proofs.Laws.{number-put-same, number-split, length-put, bytes
 use Rattle.store.specs.Layout.{headerFormat, Table, statementTable, tallyTable, logTable, blameBase, storeLength, sizeIn, countOf}
 use Rattle.store.specs.Decode.{statementAt, tallyFor, blameFor, nameFor, kindAt, blames, blamesFor, kinds, rows, statements, tallies, stateFrom, stateOf, headerValues, Left, encode}
 use Rattle.fresh.specs.Fresh.{answer, freshly}
-use Rattle.store.proofs.Kept.{zero-end}
+use Rattle.store.proofs.Kept.{zero-front, zero-end}
 use Rattle.store.proofs.Tables.{Holds}
 use Rattle.store.proofs.Forms.{left, sized}
 use Rattle.oneform.proofs.Held.{left-bytes}
 use Rattle.records.proofs.Changes.{put-station}
 
 -- ---- a cleared store
-
--- zeros of a longer part are zeros of its beginning
-zero-front : (b : List ℕ) (at k m : ℕ) → number b at (k + m) ≡ 0 → number b at k ≡ 0
-zero-front b at k m e = omega (arith, number-split b at k m, mul-le-mul-left (number b at k) (pow-pos m))
 
 zero-all : (b : List ℕ) (n : ℕ) → n ≤ length b → (at w : ℕ) → at + w ≤ n → number (put b 0 n 0) at w ≡ 0
 zero-all b n l at w h =

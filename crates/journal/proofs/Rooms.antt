@@ -1,6 +1,6 @@
 -- Looking for the place of the next record, slot by slot. Assumes nothing.
 use Prim.Native.Nat.{ℕ, suc, _+_, _-_, _*_, _/_, _<_, _≤_}
-use mathlib.Core.Path.{_≡_, refl, sym, ap, ap₂, _∙_}
+use mathlib.Core.Path.{_≡_, refl, sym, ap, ap₂, subst, _∙_}
 use mathlib.Core.Bool.{Bool, true, false}
 use mathlib.Core.List.{List, [], _∷_}
 use native.Mathlib.Omega.{arith}
@@ -30,11 +30,19 @@ unfolding slotsFrom
 slots-end j p n h = let e : n - p ≡ 0 = omega arith in ap (slotsFrom j p) e
 
 -- a part of the journal, judged, is what the slot of its place holds
+pub part-judged : (j : List ℕ) (p : ℕ) {m : ℕ} {r : Slot} → Judged (take m (drop (p * slotLength) j)) (judged (take m (drop (p * slotLength) j))) r → m ≡ slotLength
+    → Judged (slotAt j p) (judged (slotAt j p)) r
+unfolding slotAt
+part-judged j p {m} {r} h e = subst (λ (x : ℕ). Judged (take x (drop (p * slotLength) j)) (judged (take x (drop (p * slotLength) j))) r) e h
+
 pub part-held : (j : List ℕ) (p : ℕ) {m : ℕ} {r : Slot} → Judged (take m (drop (p * slotLength) j)) (judged (take m (drop (p * slotLength) j))) r → m ≡ slotLength
     → slotOf (slotAt j p) r ≡ judged (slotAt j p)
-unfolding slotAt
-part-held j p {m} {r} h e =
-    sym (ap (λ (x : ℕ). slotOf (take x (drop (p * slotLength) j)) r) e) ∙ h .is ∙ ap (λ (x : ℕ). judged (take x (drop (p * slotLength) j))) e
+part-held j p h e = part-judged j p h e .is
+
+-- a slot lies within the journal
+pub slot-room : (j : List ℕ) (p : ℕ) → p < slotCount j → p * 128 + 128 ≤ length j
+unfolding slotCount
+slot-room j p h = omega arith
 
 pub slot-count : (j : List ℕ) → length j / slotLength ≡ slotCount j
 unfolding slotCount

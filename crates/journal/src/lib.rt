@@ -1,7 +1,9 @@
 // A journal over slots: the place for the next record, and writing it there.
 ghost use mathlib.Core.Path.{_≡_};
-ghost use Rattle.slots.specs.Slots.{written};
-ghost use Rattle.journal.specs.Journal.{writing};
+ghost use Prim.Native.Nat.{_<_};
+ghost use Rattle.slots.specs.Slots.{judged, written};
+ghost use Rattle.slots.specs.Meaning.{Judged};
+ghost use Rattle.journal.specs.Journal.{slotCount, slotAt, writing};
 ghost use Rattle.journal.specs.Meaning.{Found};
 use slots::Slot;
 
@@ -9,6 +11,16 @@ use slots::Slot;
 enum Room {
     Free { records: u64, place: usize },
     Nowhere,
+}
+
+// What the slot of a place holds.
+pub fn judge_at(journal: &[u8], place: usize) -> Slot
+    requires { ⌜ place < slotCount (now journal) ⌝ }
+    ensures { λ r. ⌜ Judged (slotAt (now (journal .entry)) place) (judged (slotAt (now (journal .entry)) place)) r ⌝ }
+{
+    let at = place * slots::LENGTH;
+    let end = at + slots::LENGTH;
+    slots::judge(&journal[at..end])
 }
 
 // The first blank slot, if nothing before it stops a replay.
@@ -19,9 +31,7 @@ fn find_room(journal: &[u8]) -> Room
     let mut records: u64 = 0;
     let mut place: usize = 0;
     while place < count {
-        let at = place * slots::LENGTH;
-        let end = at + slots::LENGTH;
-        match slots::judge(&journal[at..end]) {
+        match judge_at(journal, place) {
             Slot::Blank => {
                 return Room::Free { records, place };
             }

@@ -1,13 +1,13 @@
 -- An input that the rules answer with 0, 6, 7 or 8 is one that a record can hold. Assumes nothing.
 use Prim.Native.Nat.{ℕ, _≤_}
-use mathlib.Core.Path.{_≡_, refl, sym, ap, _∙_}
-use mathlib.Core.Bool.{Bool, true, false, _||_}
+use mathlib.Core.Path.{_≡_, refl, sym, _∙_}
+use mathlib.Core.Bool.{true}
 use mathlib.Core.List.{List, []}
 use mathlib.Core.Option.{none, some}
 use native.Mathlib.Omega.{arith}
 use lib.ListN.{length}
 use lib.Dec.{eqb}
-use borrow.Author.Tests.{eq-eqb, ne-eqb}
+use borrow.Author.Tests.{eq-eqb}
 use Rattle.rules.specs.Limits.{lastClock}
 use Rattle.rules.specs.Lists.{be}
 use Rattle.rules.specs.Messages.{read, allowed}
@@ -17,30 +17,10 @@ use Rattle.rules.specs.Inputs.{Work, handled, offered, ticked}
 use Rattle.rules.specs.Refusals.{done, refused, stopping, hasRoom, ifRoom, running, ahead, usedUp, heard}
 use Rattle.laws.proofs.Bytes.{Bytes}
 use Rattle.laws.proofs.Tests.{by-bool, by-option, no-bool}
-use Rattle.slots.specs.Slots.{mostInput, isReadable, isInput}
+use Rattle.slots.specs.Slots.{mostInput, isReadable, isInput, isKept}
 use Rattle.slots.proofs.Inputs.{readable-fits, tick-input, offer-input, message-input}
 use Rattle.lent_list.specs.Lists.{Input, tick, offer, message, kindOf, bytesOf}
-use Rattle.lent_list.specs.Plain.{answerTo, isKept}
-
--- a number that is kept, test by test
-abbrev among : ℕ → Bool
-among n = eqb n 0 || eqb n 6 || eqb n 7 || eqb n 8
-
-pub keeps-0 : (k : ℕ) → k ≡ 0 → true ≡ isKept k
-unfolding isKept
-keeps-0 k e = sym (ap among e)
-
-pub keeps-6 : (k : ℕ) → k ≡ 6 → true ≡ isKept k
-unfolding isKept
-keeps-6 k e = sym (ap among e)
-
-pub keeps-7 : (k : ℕ) → k ≡ 7 → true ≡ isKept k
-unfolding isKept
-keeps-7 k e = sym (ap among e)
-
-pub keeps-8 : (k : ℕ) → (k ≡ 0 → ⊥) → (k ≡ 6 → ⊥) → (k ≡ 7 → ⊥) → eqb k 8 ≡ isKept k
-unfolding isKept
-keeps-8 k a b c = rw (ne-eqb k 0 a, ne-eqb k 6 b, ne-eqb k 7 c)
+use Rattle.lent_list.specs.Plain.{answerTo}
 
 -- a message that is kept can be read
 read-kept : (s : State) (bs : List ℕ) → isKept (rules.step bs s .number) ≡ true → isReadable bs ≡ true

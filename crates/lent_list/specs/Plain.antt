@@ -2,7 +2,7 @@
 -- all bytes of all lengths. Each answer is worked out "from the whole list, straight from the rules". Assumes nothing.
 use Prim.Native.Nat.{ℕ, _+_, _*_, _^_}
 use mathlib.Core.Path.{_≡_}
-use mathlib.Core.Bool.{Bool, true, false, _&&_, _||_}
+use mathlib.Core.Bool.{true, false, _&&_}
 use mathlib.Core.List.{List, [], _∷_, _++_}
 use mathlib.Core.Option.{Option, none, some}
 use lib.ListN.{length, drop}
@@ -14,6 +14,7 @@ use Rattle.rules.specs.Messages.{outgoing}
 use Rattle.rules.specs.Words.{State, fresh}
 use Rattle.rules.specs.Refusals as rules
 use Rattle.rules.specs.Refusals.{Outcome}
+use Rattle.slots.specs.Slots.{isKept}
 use Rattle.lent_list.specs.Lists.{Input, tick, offer, message, kindOf, bytesOf, hasLength, hasForm, settingsIn, inputsOf, freshList, isFull, added}
 
 -- ---- the rules over the whole list
@@ -25,11 +26,7 @@ answerTo tick = rules.tick
 answerTo (offer name) = rules.offer (be name)
 answerTo (message bs) = rules.step bs
 
--- the list holds "the inputs that were answered 0, 6, 7 or 8"
-unfoldable pub isKept : ℕ → Bool
-isKept k = eqb k 0 || eqb k 6 || eqb k 7 || eqb k 8
-
--- the state after some inputs, if each is one that a list keeps where it stands
+-- the state after some inputs, if each is one that a list keeps where it stands: "the inputs that were answered 0, 6, 7 or 8"
 unfoldable pub folded : State → List Input → Option State
 unfolding answerTo isKept
 folded s [] = some s

@@ -5,11 +5,11 @@ ghost use Prim.Native.Nat.{_<_, _≤_, _^_};
 ghost use lib.ListN.{length};
 ghost use Rattle.settings.specs.Made.{settingsOf};
 ghost use Rattle.settings.specs.declared.Size.the-variants.{Small};
-ghost use Rattle.slots.specs.Slots.{isInput, judged};
+ghost use Rattle.slots.specs.Slots.{isInput, isKept, judged};
 ghost use Rattle.journal.specs.Journal.{slotAt, slotsOf};
 ghost use Rattle.lent_list.specs.Lists.{recordsIn, slotsIn, hasLength, settingsIn, isPlaced, arePlaced, hasForm, isFull, added};
 ghost use Rattle.lent_list.specs.Meaning.{Stands};
-ghost use Rattle.lent_list.specs.Plain.{isKept, entering, Gives, left, plainFresh};
+ghost use Rattle.lent_list.specs.Plain.{entering, Gives, left, plainFresh};
 use settings::Made;
 use settings::Settings;
 use settings::Size;
@@ -145,22 +145,6 @@ pub fn add(list: &mut [u8], kind: u64, input: &[u8])
     slots::write_record(&mut list[at..end], records, kind, input);
 }
 
-// Whether an input that is answered with this number is kept.
-pub fn is_kept(number: u64) -> bool
-    ensures { λ r. ⌜ r ≡ isKept number ⌝ }
-{
-    if number == 0 {
-        return true;
-    }
-    if number == 6 {
-        return true;
-    }
-    if number == 7 {
-        return true;
-    }
-    number == 8
-}
-
 // Whether a list has no slot left.
 fn is_full(list: &[u8]) -> bool
     requires { ⌜ hasLength (now list) ≡ true ⌝ }
@@ -184,7 +168,7 @@ pub fn enter(
     requires { ⌜ (number < 256) × (length (now said) < 2 ^ 32) × (length (now said) ≤ length (now out)) ⌝ }
     ensures { λ r. ⌜ Gives (entering kind (now (input .entry)) number (now (said .entry)) (now (list .entry)) (now (out .entry))) r (now (list .exit)) (now (out .exit)) ⌝ }
 {
-    if is_kept(number) {
+    if slots::is_kept(number) {
         if is_full(list) {
             return slots::refuse(13);
         }

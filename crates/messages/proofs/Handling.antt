@@ -32,9 +32,9 @@ use Rattle.store.specs.declared.Found.{Found}
 use Rattle.store.specs.declared.Found.the-variants.{At, Nothing}
 use Rattle.store.proofs.Searches.{found-any, missing-any}
 use Rattle.acts.specs.Works.{Formed}
-use Rattle.acts.specs.Plans.{certifiedAt, usedBy}
+use Rattle.storing.specs.Records.{certifiedAt, usedBy}
 use Rattle.acts.proofs.Works.{formed-parts}
-use Rattle.acts.proofs.Plans.{certified-block}
+use Rattle.storing.proofs.Records.{certified-block}
 use Rattle.acts.proofs.Statements.{handled-stated}
 use Rattle.refusals.specs.Answers.{Mutely}
 use Rattle.messages.specs.Votes.{voteFor}

@@ -11,7 +11,8 @@ use Rattle.rules.specs.Refusals.{stopping, hasRoom, ifRoom}
 use Rattle.laws.proofs.Tests.{by-bool}
 use Rattle.laws.proofs.Truths.{both}
 use Rattle.store.specs.Decode.{stateOf, Left}
-use Rattle.acts.specs.Works.{Formed, Works, fitting, Tried}
+use Rattle.storing.specs.Records.{fitting, Tried}
+use Rattle.acts.specs.Works.{Formed, Works}
 use Rattle.acts.proofs.Works.{formed-parts, works-none}
 use Rattle.refusals.specs.Answers.{Answers, Mutely}
 use Rattle.refusals.proofs.Stops.{room-answers, full-answers}

@@ -17,7 +17,7 @@ ghost use Rattle.tallies.specs.Meaning.{withVoters, votersOf, authorOf, Numbere
 ghost use Rattle.kept.specs.Said.{Sendable};
 ghost use Rattle.words.specs.Meaning.{blockOf};
 ghost use Rattle.acts.specs.Works.{Formed};
-ghost use Rattle.acts.specs.Plans.{certifiedAt};
+ghost use Rattle.storing.specs.Records.{certifiedAt};
 ghost use Rattle.refusals.specs.Answers.{Answers, Mutely};
 ghost use Rattle.messages.specs.Votes.{voteFor};
 use store::Cause;
@@ -72,7 +72,7 @@ fn counted(store: &mut [u8], block: Certificate, place: Found, voters: Voters) -
     requires { ⌜ (Form (now store)) × (place ≡ certifiedAt (blockOf block) (tallies (now store))) × (Numbered voters) × (stateOf (now store) .clock ≤ lastClock) ⌝ }
     ensures { λ r. ⌜ Mutely (ifRoom (stateOf (now (store .entry))) (inputs.tallied (authorOf voters) (withVoters (votersOf voters) (blockOf block)) (stateOf (now (store .entry))))) (now (store .exit)) r ⌝ }
 {
-    if !acts::tallied(store, block, place, voters) {
+    if !storing::tallied(store, block, place, voters) {
         return refusals::stop(store, 6, Cause::Full);
     }
     0
@@ -83,8 +83,8 @@ fn voted(store: &mut [u8], block: Certificate, author: u64) -> u64
     requires { ⌜ (Form (now store)) × (blockOf block .view ≡ 0 → ⊥) × (author < maskBits) × (stateOf (now store) .clock ≤ lastClock) ⌝ }
     ensures { λ r. ⌜ Mutely (heard (voteFor (blockOf block) author) (stateOf (now (store .entry)))) (now (store .exit)) r ⌝ }
 {
-    let place = acts::find_certificate(store, block);
-    if acts::used_up(store, place, author) {
+    let place = storing::find_certificate(store, block);
+    if storing::used_up(store, place, author) {
         return refusals::refuse(12);
     }
     counted(store, block, place, Voters::One(author))
@@ -136,7 +136,7 @@ pub fn handled(store: &mut [u8], out: &mut [u8], message: Message) -> u64
                 name,
                 mask,
             };
-            let place = acts::find_certificate(store, block);
+            let place = storing::find_certificate(store, block);
             counted(store, block, place, Voters::Mask(mask))
         }
     }

@@ -1,3 +1,1 @@
-pub mod Folding
-pub mod Answers
-pub mod Logs
+pub mod Offers

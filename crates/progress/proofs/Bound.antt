@@ -13,7 +13,7 @@ use lib.ListN.{length}
 use borrow.Author.Tests.{eq-eqb}
 use Rattle.rules.specs.Limits.{firstView, lastView}
 use Rattle.rules.specs.Lists.{keep}
-use Rattle.rules.specs.Sizes.{Settings, leader}
+use Rattle.rules.specs.Sizes.{Settings}
 use Rattle.rules.specs.Messages.{Message, propose, vote, blame, toAll}
 use Rattle.rules.specs.Words.{Statement, message, State}
 use Rattle.rules.specs.Inputs.{votes, overdue}
@@ -31,7 +31,7 @@ use Rattle.agreement.proofs.Stays.{found, same-fields}
 use Rattle.progress.specs.Progress.{isVoted, votedIn, Prompt, VotedBy}
 use Rattle.progress.proofs.Blames.{Blaming, Overdue, event-says}
 use Rattle.progress.proofs.Entries.{begun-entry, Remains, entry-run}
-use Rattle.progress.proofs.Leader.{tick-clock}
+use Rattle.progress.proofs.Leader.{L, tick-clock}
 use Rattle.progress.proofs.Calm.{Calm, calm-less, in-calm, joins-calm}
 use Rattle.progress.proofs.Opening.{Opens, opener}
 use Rattle.progress.proofs.Heights.{at-least, span, span-bound, span-mono}
@@ -86,11 +86,8 @@ unfolding isVoted
 voted-test v z c k w e = rw (k, eq-eqb (z .view) v w, e) refl
 
 module _ (X : Group) (genuine : NoForgery (run (X .size) (X .n) (X .D) (X .event)) (X .faulty)) (v : ℕ) (inside : (firstView ≤ v) × (v ≤ lastView (X .size)))
-    (ok : Ok X (leader (G X 0) v)) (prompt : Prompt (run (X .size) (X .n) (X .D) (X .event)) v) where
+    (ok : Ok X (L X v)) (prompt : Prompt (run (X .size) (X .n) (X .D) (X .event)) v) where
   open Group X using (size, n, D, faulty, event, next, parentOf)
-
-  abbrev L : ℕ
-  L = leader (G X 0) v
 
   abbrev Quiet : ℕ → Type 0
   Quiet k = Calm X genuine v inside ok (ck X k)
@@ -101,18 +98,18 @@ module _ (X : Group) (genuine : NoForgery (run (X .size) (X .n) (X .D) (X .event
   -- ---- the tick at which L opens v
 
   opening : (i : ℕ) → Ok X i → (k0 : ℕ) → st X i k0 .view ≡ v → (k : ℕ) → Quiet k → st X i k0 .entry + D ≤ ck X k → st X i k0 .entry + 4 * D + 1 ≤ ck X k
-      → (l0 : ℕ) × Opens X genuine v inside ok l0 × (st X L l0 .entry ≤ st X i k0 .entry + D)
+      → (l0 : ℕ) × Opens X genuine v inside ok l0 × (st X (L X v) l0 .entry ≤ st X i k0 .entry + D)
   opening i hi k0 w k calm near d =
-      let ((lv, lp), le) = joins-calm X genuine v inside ok i L hi ok k0 w k calm near in
-      let (l, before, c1, c2, tk) = last-of event (X .common) (st X L k .entry + 2 * D) k (opens-before (st X i k0 .entry) (st X L k .entry) D (ck X k) le d) in
+      let ((lv, lp), le) = joins-calm X genuine v inside ok i (L X v) hi ok k0 w k calm near in
+      let (l, before, c1, c2, tk) = last-of event (X .common) (st X (L X v) k .entry + 2 * D) k (opens-before (st X i k0 .entry) (st X (L X v) k .entry) D (ck X k) le d) in
       let calm′ = calm-less X genuine v inside ok (ck X l) (ck X k) (clock-mono event l k (le-of-lt before)) calm in
-      go l lv le c1 c2 tk calm′ (entry-run X L ok l k (le-of-lt before))
+      go l lv le c1 c2 tk calm′ (entry-run X (L X v) ok l k (le-of-lt before))
     where
-      go : (l : ℕ) → st X L k .view ≡ v → st X L k .entry ≤ st X i k0 .entry + D → ck X l ≡ st X L k .entry + 2 * D → ck X (suc l) ≡ st X L k .entry + 2 * D + 1 → event l ≡ commonTick → Quiet l
-          → Remains (st X L l) (st X L k) ⊎ ((st X L l .view < st X L k .view) × (ck X (suc l) ≤ st X L k .entry))
-          → (l0 : ℕ) × Opens X genuine v inside ok l0 × (st X L l0 .entry ≤ st X i k0 .entry + D)
+      go : (l : ℕ) → st X (L X v) k .view ≡ v → st X (L X v) k .entry ≤ st X i k0 .entry + D → ck X l ≡ st X (L X v) k .entry + 2 * D → ck X (suc l) ≡ st X (L X v) k .entry + 2 * D + 1 → event l ≡ commonTick → Quiet l
+          → Remains (st X (L X v) l) (st X (L X v) k) ⊎ ((st X (L X v) l .view < st X (L X v) k .view) × (ck X (suc l) ≤ st X (L X v) k .entry))
+          → (l0 : ℕ) × Opens X genuine v inside ok l0 × (st X (L X v) l0 .entry ≤ st X i k0 .entry + D)
       go l lv le c1 c2 tk cl (inl (a, b, _)) =
-          (l, record { tick = tk; within = in-calm X genuine v inside ok L ok l cl (omega (arith, a, lv)); due = c1 ∙ ap (λ (y : ℕ). y + 2 * D) b }, subst (λ (y : ℕ). y ≤ st X i k0 .entry + D) b le)
+          (l, record { tick = tk; within = in-calm X genuine v inside ok (L X v) ok l cl (omega (arith, a, lv)); due = c1 ∙ ap (λ (y : ℕ). y + 2 * D) b }, subst (λ (y : ℕ). y ≤ st X i k0 .entry + D) b le)
       go l lv le c1 c2 tk cl (inr (_, b)) = absurd (omega (arith, b, c2))
 
   -- ---- the turns
@@ -129,7 +126,7 @@ module _ (X : Group) (genuine : NoForgery (run (X .size) (X .n) (X .D) (X .event
     far : (e + D ≤ ck X k) × (e + 4 * D + 1 + span D p ≤ ck X k)
     far = far-enough e D (span D p) ((2 * p + 4) * D) (ck X (suc k)) delay (span-bound D p) d (ck X k) (one-tick event (X .common) k)
 
-    opens : (l0 : ℕ) × Opens X genuine v inside ok l0 × (st X L l0 .entry ≤ e + D)
+    opens : (l0 : ℕ) × Opens X genuine v inside ok l0 × (st X (L X v) l0 .entry ≤ e + D)
     opens = opening i hi k0 w k calm (far .0) (less (ck X k) (far .1))
       where
         less : (a : ℕ) → e + 4 * D + 1 + span D p ≤ a → e + 4 * D + 1 ≤ a
@@ -144,11 +141,11 @@ module _ (X : Group) (genuine : NoForgery (run (X .size) (X .n) (X .D) (X .event
     the-rung : (q : ℕ) → q ≤ p → Rung X genuine v inside ok l0 O prompt q
     the-rung q l =
         rung X genuine v inside ok l0 O prompt q k calm
-        (rung-due e (st X L l0 .entry) D (span D q) (span D p) (ck X k) delay (opens .2) (span-mono D q p l) (far .1))
+        (rung-due e (st X (L X v) l0 .entry) D (span D q) (span D p) (ck X k) delay (opens .2) (span-mono D q p l) (far .1))
 
     in-time : (q : ℕ) (l : q ≤ p) → (the-rung q l .clock + D + 1 ≤ next k) × (the-rung q l .clock + D < ck X (suc k))
     in-time q l =
-        heard-in-time e (st X L l0 .entry) D (span D q) (span D p) (the-rung q l .clock) (ck X (suc k)) ((2 * p + 4) * D) (next k)
+        heard-in-time e (st X (L X v) l0 .entry) D (span D q) (span D p) (the-rung q l .clock) (ck X (suc k)) ((2 * p + 4) * D) (next k)
         (opens .2) (span-mono D q p l) (the-rung q l .early) (span-bound D p) d (X .soon k)
 
     -- what j has voted for
@@ -159,13 +156,13 @@ module _ (X : Group) (genuine : NoForgery (run (X .size) (X .n) (X .D) (X .event
         let xs = st X j k .statements in
         let has = heard-by X genuine v inside ok l0 O j hj (r .clock) k x (r .said) (in-time q b .0) in
         let ((vw, ph), _) = joins-calm X genuine v inside ok i j hi hj k0 w k calm (far .0) in
-        let (win, en) = joins-calm X genuine v inside ok L j ok hj l0 (O .within .0) k calm (ready k (far .1)) in
+        let (win, en) = joins-calm X genuine v inside ok (L X v) j ok hj l0 (O .within .0) k calm (ready k (far .1)) in
         let (z, f, m) = found x xs has in
         let (zk, zv, zh, _) = same-fields x xs z f in
         let (c, vt, _, _, _) = orderly-run X j hj k .votes ph x z f (high X genuine v inside ok l0 O j hj k vw en x has (r .view)) (r .view ∙ sym vw) in
         (z, keep-mem (isVoted v) xs z m (voted-test v z c (zk ∙ r .kind a) (zv ∙ r .view) vt), zh ∙ r .height)
       where
-        ready : (k : ℕ) → e + 4 * D + 1 + span D p ≤ ck X k → st X L l0 .entry + D ≤ ck X k
+        ready : (k : ℕ) → e + 4 * D + 1 + span D p ≤ ck X k → st X (L X v) l0 .entry + D ≤ ck X k
         ready k x = let y = opens .2 in omega (arith, x, y)
 
     -- and when
@@ -177,7 +174,7 @@ module _ (X : Group) (genuine : NoForgery (run (X .size) (X .n) (X .D) (X .event
         let x = r .what in
         let (c, le, (y, same, _, (l, ce, s))) = follows X genuine v inside ok l0 O j hj (r .clock) k x (r .view) (r .said) (r .entered) (in-time q b .1) calm in
         let (t, m, tv, th, tn) = says-ballot X j hj l (x .view) (x .height) (x .name) j s in
-        let late = voted-in-time e (st X L l0 .entry) D (span D q) (r .clock) ((2 * q + 4) * D) c (opens .2) (r .early) (span-bound D q) le in
+        let late = voted-in-time e (st X (L X v) l0 .entry) D (span D q) (r .clock) ((2 * q + 4) * D) c (opens .2) (r .early) (span-bound D q) le in
         let has : In (st X j (suc l) .statements) t = held-stored (G X j) (st X j (suc l)) t (said-held X j hj l (message t) m) in
         let kind : t .isNewView ≡ false = by-bool (t .isNewView)
         (λ n. absurd (taller (ap (λ (u : Statement). u .height) (same-like (opener X genuine v inside ok l0 O) t (the-opener X genuine v inside ok l0 O j hj (suc l) t has (tv ∙ r .view) n))) (th ∙ r .height) a)) (λ n. n) in (

@@ -31,7 +31,7 @@ use Rattle.agreement.proofs.Group.{Group, st, ck, Ok, G, SaidAt, moves-of, said
 use Rattle.progress.proofs.Tick.{tick-whole, lead-has, complain-quiet, enter-keeps}
 use Rattle.progress.proofs.Entries.{begun-entry, Remains, entry-run}
 use Rattle.progress.proofs.Marks.{Marked, marked-above, status-marked, KeepsMarks, moves-marks, Based, based-on, moves-based, fresh-based}
-use Rattle.progress.proofs.Leader.{tick-clock}
+use Rattle.progress.proofs.Leader.{L, tick-clock}
 use Rattle.progress.proofs.Calm.{Within}
 
 -- a blame comes 6D+2 ticks after the entry at the earliest
@@ -100,58 +100,55 @@ module _ (X : Group) where
       ]
 
 module _ (X : Group) (genuine : NoForgery (run (X .size) (X .n) (X .D) (X .event)) (X .faulty)) (v : ℕ) (inside : (firstView ≤ v) × (v ≤ lastView (X .size)))
-    (ok : Ok X (leader (G X 0) v)) where
+    (ok : Ok X (L X v)) where
   open Group X using (size, n, D, faulty, event, next, parentOf)
-
-  abbrev L : ℕ
-  L = leader (G X 0) v
 
   -- the tick 2D+1 after L entered, at which it is in v
   pub record Opens (l0 : ℕ) : Type 0 where
     pub tick : event l0 ≡ commonTick
-    pub within : Within X genuine v inside ok L l0
-    pub due : ck X l0 ≡ st X L l0 .entry + 2 * D
+    pub within : Within X genuine v inside ok (L X v) l0
+    pub due : ck X l0 ≡ st X (L X v) l0 .entry + 2 * D
 
   module _ (l0 : ℕ) (O : Opens l0) where
     -- the highest certificate of an earlier view that L has then
     abbrev pub best : Certificate
-    best = highest (G X L) v (st X L l0 .tallies)
+    best = highest (G X (L X v)) v (st X (L X v) l0 .tallies)
 
     abbrev pub opener : Statement
-    opener = newViewOf (G X L) v (st X L l0 .tallies)
+    opener = newViewOf (G X (L X v)) v (st X (L X v) l0 .tallies)
 
     -- L's own lock
-    own-above : (k : ℕ) → st X L k .view ≡ v → Above best (st X L k .lock)
+    own-above : (k : ℕ) → st X (L X v) k .view ≡ v → Above best (st X (L X v) k .lock)
     own-above k w =
-        let same : st X L l0 .lock ≡ st X L k .lock = elim (decLe l0 k) [ yes d ↦ fore (entry-run X L ok l0 k d) | no d ↦ back (entry-run X L ok k l0 (omega arith)) ] in
-        subst (Above best) same (here (based-run X L ok l0))
+        let same : st X (L X v) l0 .lock ≡ st X (L X v) k .lock = elim (decLe l0 k) [ yes d ↦ fore (entry-run X (L X v) ok l0 k d) | no d ↦ back (entry-run X (L X v) ok k l0 (omega arith)) ] in
+        subst (Above best) same (here (based-run X (L X v) ok l0))
       where
-        u : st X L l0 .view ≡ v
+        u : st X (L X v) l0 .view ≡ v
         u = O .within .0
 
-        fore : Remains (st X L l0) (st X L k) ⊎ ((st X L l0 .view < st X L k .view) × (ck X (suc l0) ≤ st X L k .entry)) → st X L l0 .lock ≡ st X L k .lock
+        fore : Remains (st X (L X v) l0) (st X (L X v) k) ⊎ ((st X (L X v) l0 .view < st X (L X v) k .view) × (ck X (suc l0) ≤ st X (L X v) k .entry)) → st X (L X v) l0 .lock ≡ st X (L X v) k .lock
         fore (inl (_, _, e)) = sym e
         fore (inr (e, _)) = let z = u in absurd (omega arith)
 
-        back : Remains (st X L k) (st X L l0) ⊎ ((st X L k .view < st X L l0 .view) × (ck X (suc k) ≤ st X L l0 .entry)) → st X L l0 .lock ≡ st X L k .lock
+        back : Remains (st X (L X v) k) (st X (L X v) l0) ⊎ ((st X (L X v) k .view < st X (L X v) l0 .view) × (ck X (suc k) ≤ st X (L X v) l0 .entry)) → st X (L X v) l0 .lock ≡ st X (L X v) k .lock
         back (inl (_, _, e)) = e
         back (inr (e, _)) = let z = u in absurd (omega arith)
 
-        here : Based (SaidAt X L) (st X L l0) → Above best (st X L l0 .lock)
+        here : Based (SaidAt X (L X v)) (st X (L X v) l0) → Above best (st X (L X v) l0 .lock)
         here (inl (a, b)) = zero-rank _ _ _ _ a b
         here (inr (l, m, _, _)) =
-            marked-above (G X L) v (st X L l0 .lock) (st X L l0 .tallies) (rw u at l)
-            (subst (λ (g : Settings). Marked g (st X L l0 .lock) (st X L l0 .tallies)) (at-settings X L ok l0) m)
+            marked-above (G X (L X v)) v (st X (L X v) l0 .lock) (st X (L X v) l0 .tallies) (rw u at l)
+            (subst (λ (g : Settings). Marked g (st X (L X v) l0 .lock) (st X (L X v) l0 .tallies)) (at-settings X (L X v) ok l0) m)
 
     -- that of another, which entered at most D ticks after L
-    other-above : (s : ℕ) → Ok X s → ¬ (s ≡ L) → (k : ℕ) → st X s k .view ≡ v → st X s k .entry ≤ st X L l0 .entry + D → Above best (st X s k .lock)
+    other-above : (s : ℕ) → Ok X s → ¬ (s ≡ (L X v)) → (k : ℕ) → st X s k .view ≡ v → st X s k .entry ≤ st X (L X v) l0 .entry + D → Above best (st X s k .lock)
     unfolding leader
     other-above s hs ne k w d = go (based-run X s hs k)
       where
         g : st X s k .settings ≡ G X s
         g = at-settings X s hs k
 
-        to : leader (st X s k .settings) (st X s k .view) ≡ L
+        to : leader (st X s k .settings) (st X s k .view) ≡ (L X v)
         to = ap (λ (y : Settings). leader y (st X s k .view)) g ∙ ap (leader (G X s)) w
 
         other : eqb (leader (st X s k .settings) (st X s k .view)) (st X s k .settings .own) ≡ false
@@ -164,9 +161,9 @@ module _ (X : Group) (genuine : NoForgery (run (X .size) (X .n) (X .D) (X .event
         now : ck X (suc l0) ≡ ck X l0 + 1
         now = tick-clock X genuine v ok l0 (O .tick)
 
-        came : t .view < v → ((t .view ≡ 0) × (t .height ≡ 0)) ⊎ Marked (G X L) t (st X L l0 .tallies) → Above best t
+        came : t .view < v → ((t .view ≡ 0) × (t .height ≡ 0)) ⊎ Marked (G X (L X v)) t (st X (L X v) l0 .tallies) → Above best t
         came l (inl (a, b)) = zero-rank _ _ _ _ a b
-        came l (inr m) = marked-above (G X L) v t (st X L l0 .tallies) l m
+        came l (inr m) = marked-above (G X (L X v)) v t (st X (L X v) l0 .tallies) l m
 
         go : Based (SaidAt X s) (st X s k) → Above best t
         go (inl (a, b)) = zero-rank _ _ _ _ a b
@@ -175,12 +172,12 @@ module _ (X : Group) (genuine : NoForgery (run (X .size) (X .n) (X .D) (X .event
             let e = now in
             let due = O .due in
             let soon = X .soon l0 in
-            came (rw w at l) (status-held X s L hs ok j l0 (t .height) (t .name) (t .view) (t .mask)
+            came (rw w at l) (status-held X s (L X v) hs ok j l0 (t .height) (t .name) (t .view) (t .mask)
             (subst (λ (y : ℕ). IsSaid (run size n D event) s j (toOne y (status (t .height) (t .name) (t .view) (t .mask)))) to says) (omega arith))
 
-    pub locks-below : (s : ℕ) → Ok X s → (k : ℕ) → st X s k .view ≡ v → st X s k .entry ≤ st X L l0 .entry + D → Above best (st X s k .lock)
+    pub locks-below : (s : ℕ) → Ok X s → (k : ℕ) → st X s k .view ≡ v → st X s k .entry ≤ st X (L X v) l0 .entry + D → Above best (st X s k .lock)
     locks-below s hs k w d =
-        elim (ℕ-discrete s L) [
+        elim (ℕ-discrete s (L X v)) [
           | yes e ↦ subst (λ (y : ℕ). Above best (st X y k .lock)) (sym e) (own-above k (subst (λ (y : ℕ). st X y k .view ≡ v) e w))
           | no ne ↦ other-above s hs ne k w d
         ]
@@ -188,16 +185,16 @@ module _ (X : Group) (genuine : NoForgery (run (X .size) (X .n) (X .D) (X .event
     -- ---- the new-view is stored after that tick
 
     abbrev u0 : State
-    u0 = begun commonTick (st X L l0)
+    u0 = begun commonTick (st X (L X v) l0)
 
-    begun-now : (u0 .settings ≡ G X L) × (u0 .view ≡ v) × (u0 .phase ≡ inView) × (u0 .tallies ≡ st X L l0 .tallies) × (u0 .clock ≡ u0 .entry + 2 * D + 1)
+    begun-now : (u0 .settings ≡ G X (L X v)) × (u0 .view ≡ v) × (u0 .phase ≡ inView) × (u0 .tallies ≡ st X (L X v) l0 .tallies) × (u0 .clock ≡ u0 .entry + 2 * D + 1)
     begun-now =
-        let b = begun-same commonTick (st X L l0) in
+        let b = begun-same commonTick (st X (L X v) l0) in
         let e = tick-clock X genuine v ok l0 (O .tick) in
-        let c : u0 .clock ≡ ck X (suc l0) = ap (λ (y : Event). begun y (st X L l0) .clock) (sym (O .tick)) ∙ begun-at X L ok l0 in
-        let en = begun-entry commonTick (st X L l0) in
+        let c : u0 .clock ≡ ck X (suc l0) = ap (λ (y : Event). begun y (st X (L X v) l0) .clock) (sym (O .tick)) ∙ begun-at X (L X v) ok l0 in
+        let en = begun-entry commonTick (st X (L X v) l0) in
         let d = O .due in
-        (b .0 ∙ at-settings X L ok l0, b .2 ∙ O .within .0, b .1 ∙ O .within .1, b .4, omega arith)
+        (b .0 ∙ at-settings X (L X v) ok l0, b .2 ∙ O .within .0, b .1 ∙ O .within .1, b .4, omega arith)
 
     quiet : overdue u0 ≡ false
     quiet =
@@ -211,19 +208,19 @@ module _ (X : Group) (genuine : NoForgery (run (X .size) (X .n) (X .D) (X .event
     leading =
         let (g, w, p, _, c) = begun-now in
         let d : u0 .settings .D ≡ D = ap (λ (y : Settings). y .D) g in
-        at-leads u0 (both (true-in (u0 .view) u0 p refl) (eq-eqb (leader (u0 .settings) (u0 .view)) (u0 .settings .own) (ap (λ (y : Settings). leader y (u0 .view)) g ∙ ap (leader (G X L)) w ∙ sym (ap (λ (y : Settings). y .own) g))))
+        at-leads u0 (both (true-in (u0 .view) u0 p refl) (eq-eqb (leader (u0 .settings) (u0 .view)) (u0 .settings .own) (ap (λ (y : Settings). leader y (u0 .view)) g ∙ ap (leader (G X (L X v))) w ∙ sym (ap (λ (y : Settings). y .own) g))))
         (c ∙ sym (ap (λ (y : ℕ). u0 .entry + 2 * y + 1) d))
 
-    pub opener-stored : In (st X L (suc l0) .statements) opener
+    pub opener-stored : In (st X (L X v) (suc l0) .statements) opener
     unfolding at happens
     opener-stored =
-        let s = st X L l0 in
-        let nx : st X L (suc l0) ≡ tick s .next = ap (λ (y : Event). happens L y s .next) (O .tick) in
-        let (e, _) = tick-whole s (subst (λ (t : State). running t ≡ true) nx (X .runs L ok (suc l0))) in
+        let s = st X (L X v) l0 in
+        let nx : st X (L X v) (suc l0) ≡ tick s .next = ap (λ (y : Event). happens (L X v) y s .next) (O .tick) in
+        let (e, _) = tick-whole s (subst (λ (t : State). running t ≡ true) nx (X .runs (L X v) ok (suc l0))) in
         let (g, w, _, ts, _) = begun-now in
         let c : complain u0 .now ≡ u0 = complain-quiet u0 quiet in
         let has = enter-keeps (lead u0 .now) (newViewOf (u0 .settings) (u0 .view) (u0 .tallies)) (lead-has u0 leading) in
-        let has′ : In (enter (lead u0 .now) .now .statements) opener = subst (λ (y : Settings). In (enter (lead u0 .now) .now .statements) (newViewOf y v (st X L l0 .tallies))) g
-        (subst (λ (y : ℕ). In (enter (lead u0 .now) .now .statements) (newViewOf (u0 .settings) y (st X L l0 .tallies))) w
+        let has′ : In (enter (lead u0 .now) .now .statements) opener = subst (λ (y : Settings). In (enter (lead u0 .now) .now .statements) (newViewOf y v (st X (L X v) l0 .tallies))) g
+        (subst (λ (y : ℕ). In (enter (lead u0 .now) .now .statements) (newViewOf (u0 .settings) y (st X (L X v) l0 .tallies))) w
         (subst (λ (y : List Tally). In (enter (lead u0 .now) .now .statements) (newViewOf (u0 .settings) (u0 .view) y)) ts has)) in
         subst (λ (t : State). In (t .statements) opener) (sym (nx ∙ e)) (subst (λ (t : State). In (enter (lead t .now) .now .statements) opener) (sym c) has′)

@@ -23,8 +23,9 @@ use Rattle.fresh.specs.Fresh.{freshly, answer}
 use Rattle.store.proofs.Forms.{sized}
 use Rattle.oneform.proofs.OneForm.{encoded-left}
 use Rattle.calls.specs.Calls.{Called}
+use Rattle.slots.specs.Slots.{isKept}
 use Rattle.lent_list.specs.Lists.{Input, bytesOf, inputsOf, slotsIn, hasLength, freshList}
-use Rattle.lent_list.specs.Plain.{isKept, folded, held, Answer, Left, left, plainFresh, logged, plainLog}
+use Rattle.lent_list.specs.Plain.{folded, held, Answer, Left, left, plainFresh, logged, plainLog}
 use Rattle.referee.specs.Runs.{plainCall, stationCall, Same, listAt, storeAt, plainAt, stationAt, Holds}
 use Rattle.referee.proofs.Listing.{Lists, gives-back, filled, fresh-lists}
 use Rattle.referee.proofs.Turns.{Tied, Turn, full, passed, joined, held-is, proper, turns}

@@ -32,9 +32,10 @@ use Rattle.oneform.proofs.OneForm.{encoded-left}
 use Rattle.calls.specs.Calls as calls
 use Rattle.calls.specs.Calls.{Called, answered, called, stepCalled, tickCalled, offerCalled}
 use Rattle.promises.proofs.Carried.{called-encoded}
+use Rattle.slots.specs.Slots.{isKept}
 use Rattle.lent_list.proofs.Rooms.{answer-room}
 use Rattle.lent_list.specs.Lists.{Input, tick, offer, message, kindOf, bytesOf, hasLength, settingsIn, inputsOf, isFull, added}
-use Rattle.lent_list.specs.Plain.{answerTo, isKept, folded, held, Answer, refusal, entered, entering, kept, plainly, plainStep, plainTick, plainOffer}
+use Rattle.lent_list.specs.Plain.{answerTo, folded, held, Answer, refusal, entered, entering, kept, plainly, plainStep, plainTick, plainOffer}
 use Rattle.lent_list.proofs.Kept.{Handed, kept-input, most-number}
 use Rattle.referee.specs.Runs.{plainCall, stationCall, Same}
 use Rattle.referee.proofs.Listing.{Lists, has-length, has-form, gives-back, not-full, lists-more}

@@ -1,7 +1,7 @@
 -- What a call answers before and after the rules: the refusals 1 to 3, and an outcome as it stands in the two buffers. Assumes nothing.
 use Prim.Native.Nat.{ℕ}
 use mathlib.Core.Path.{_≡_}
-use mathlib.Core.Bool.{Bool, true, false, _&&_}
+use mathlib.Core.Bool.{true, false, _&&_}
 use mathlib.Core.List.{List}
 use lib.ListN.{length}
 use lib.Dec.{leb, eqb}
@@ -23,9 +23,18 @@ barred b o =
       | true ↦ elim (hasForm b && wellFormed (stateOf b)) [ false ↦ 2 | true ↦ elim (running (stateOf b)) [ false ↦ 3 | true ↦ 0 ] ]
     ]
 
+-- those of them that the check of both buffers gives, whatever the phase
+unfoldable pub unformed : List ℕ → List ℕ → ℕ
+unfolding hasForm wellFormed stateOf sizeIn leastOut lastView mostStatements mostTallies
+unformed b o =
+    elim (eqb (length b) (storeLength (sizeIn b)) && leb (leastOut (sizeIn b)) (length o)) [
+      | false ↦ 1
+      | true ↦ elim (hasForm b && wellFormed (stateOf b)) [ false ↦ 2 | true ↦ 0 ]
+    ]
+
 -- that number, and what the log tells, where it is 0
-pub record Bars (b o : List ℕ) (r : ℕ) (t : List ℕ) : Type 0 where
-  pub is : r ≡ barred b o
+pub record Checks (b o : List ℕ) (r : ℕ) (t : List ℕ) : Type 0 where
+  pub is : r ≡ unformed b o
   pub told : r ≡ 0 → Told b t
 
 -- an outcome: the store holds what is left, its words are written from the start on, and the result is what a host is told

@@ -5,8 +5,8 @@ ghost use lib.ListN.{replicate};
 ghost use Rattle.rules.specs.Limits.{mostStatementsLarge};
 ghost use Rattle.rules.specs.Refusals.{stopping, running};
 ghost use Rattle.store.specs.Decode.{stateOf, Form};
-ghost use Rattle.store.specs.Meaning.{causeOf};
-ghost use Rattle.refusals.specs.Answers.{barred, Bars, Mutely};
+ghost use Rattle.store.specs.Meaning.{causeOf, Loads};
+ghost use Rattle.refusals.specs.Answers.{barred, Checks, Mutely};
 use settings::Settings;
 use store::Cause;
 use store::Phase;
@@ -21,11 +21,10 @@ pub fn refuse(number: u64) -> u64
 }
 
 // Whether a station is in a view or waiting.
-fn is_running(store: &[u8]) -> bool
-    requires { ⌜ Form (now store) ⌝ }
+pub fn is_running(store: &[u8], station: Station) -> bool
+    requires { ⌜ (Form (now store)) × (Loads station (now store)) ⌝ }
     ensures { λ r. ⌜ r ≡ running (stateOf (now (store .entry))) ⌝ }
 {
-    let station = Station::load(store);
     let phase = station.phase;
     match phase {
         Phase::Stopped(_) => false,
@@ -33,14 +32,10 @@ fn is_running(store: &[u8]) -> bool
     }
 }
 
-// What bars every call alike: 1 for the lengths, 2 for a store not well formed, 3 for a station that stopped; else 0, and what the log tells.
-pub fn barred_told(
-    store: &[u8],
-    out: &[u8],
-    told: &mut [u16; Settings::MOST_STATEMENTS_LARGE],
-) -> u64
+// The check of both buffers: 1 for the lengths, 2 for a store not well formed; else 0, and what the log tells.
+pub fn checked(store: &[u8], out: &[u8], told: &mut [u16; Settings::MOST_STATEMENTS_LARGE]) -> u64
     requires { ⌜ now told ≡ replicate mostStatementsLarge 0 ⌝ }
-    ensures { λ r. ⌜ Bars (now (store .entry)) (now (out .entry)) r (now (told .exit)) ⌝ }
+    ensures { λ r. ⌜ Checks (now (store .entry)) (now (out .entry)) r (now (told .exit)) ⌝ }
 {
     if !store::is_whole(store) {
         return 1;
@@ -51,18 +46,23 @@ pub fn barred_told(
     if !formed::well_formed_told(store, told) {
         return 2;
     }
-    if !is_running(store) {
-        return 3;
-    }
     0
 }
 
-// The same for a call that wants nothing of the log.
+// What bars every call alike: what the check says, or 3 for a station that stopped; else 0.
 pub fn barred(store: &[u8], out: &[u8]) -> u64
     ensures { λ r. ⌜ r ≡ barred (now (store .entry)) (now (out .entry)) ⌝ }
 {
     let mut told = [0u16; Settings::MOST_STATEMENTS_LARGE];
-    barred_told(store, out, &mut told)
+    let number = checked(store, out, &mut told);
+    if number != 0 {
+        return number;
+    }
+    let station = Station::load(store);
+    if !is_running(store, station) {
+        return 3;
+    }
+    0
 }
 
 // The station stops for a cause.

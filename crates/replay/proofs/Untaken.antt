@@ -1,7 +1,7 @@
 -- Which answers a journal's input gets, and that any other leaves the store and the out buffer as they were. Assumes nothing.
 use Prim.Native.Nat.{ℕ, _+_, _*_, _/_, _^_, _<_, _≤_}
 use mathlib.Core.Path.{_≡_, refl, sym, ap, _∙_, subst}
-use mathlib.Core.Bool.{Bool, true, false, _&&_, _||_}
+use mathlib.Core.Bool.{true, false, _&&_}
 use mathlib.Core.List.{List, [], _++_}
 use mathlib.Core.Option.{some}
 use native.Mathlib.Omega.{arith}
@@ -24,32 +24,18 @@ use Rattle.store.specs.Layout.{storeLength, sizeIn}
 use Rattle.store.specs.Decode.{decode, encode}
 use Rattle.oneform.proofs.OneForm.{decoded}
 use Rattle.calls.specs.Calls.{Called, refusal, answered, called, stepCalled, tickCalled, offerCalled, Gives}
+use Rattle.slots.specs.Slots.{isKept}
 use Rattle.replay.specs.Replay.{handed, isTaken}
 use Rattle.replay.specs.Meaning.{Hands}
 
 -- ---- an answer, by its number
 
-abbrev among : ℕ → Bool
-among n = eqb n 0 || eqb n 6 || eqb n 7 || eqb n 8
-
-pub taken-zero : (r : ℕ) → r / 2 ^ 32 ≡ 0 → true ≡ isTaken r
-unfolding isTaken
-taken-zero r e = sym (ap among e)
-
-pub taken-six : (r : ℕ) → r / 2 ^ 32 ≡ 6 → true ≡ isTaken r
-unfolding isTaken
-taken-six r e = sym (ap among e)
-
-pub taken-seven : (r : ℕ) → r / 2 ^ 32 ≡ 7 → true ≡ isTaken r
-unfolding isTaken
-taken-seven r e = sym (ap among e)
-
-pub taken-other : (r : ℕ) → (r / 2 ^ 32 ≡ 0 → ⊥) → (r / 2 ^ 32 ≡ 6 → ⊥) → (r / 2 ^ 32 ≡ 7 → ⊥) → eqb (r / 2 ^ 32) 8 ≡ isTaken r
-unfolding isTaken
-taken-other r a b c = let n = r / 2 ^ 32 in rw (ne-eqb n 0 a, ne-eqb n 6 b, ne-eqb n 7 c)
+taken-zero : (r : ℕ) → r / 2 ^ 32 ≡ 0 → true ≡ isTaken r
+unfolding isTaken isKept
+taken-zero r e = sym (ap isKept e)
 
 stopped-taken : (isTaken (6 * 2 ^ 32) ≡ true) × (isTaken (7 * 2 ^ 32) ≡ true) × (isTaken (8 * 2 ^ 32) ≡ true)
-unfolding isTaken
+unfolding isTaken isKept
 stopped-taken = (refl, refl, refl)
 
 -- ---- the rules refuse, stop or act

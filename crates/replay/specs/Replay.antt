@@ -1,6 +1,6 @@
 -- 02, request 1: replaying a journal, as a fold of the calls' meanings over its slots. Assumes nothing.
 use Prim.Native.Nat.{ℕ, suc, _+_, _*_, _/_, _^_}
-use mathlib.Core.Bool.{Bool, true, false, _&&_, _||_}
+use mathlib.Core.Bool.{Bool, true, false, _&&_}
 use mathlib.Core.List.{List, [], _∷_, _++_}
 use mathlib.Core.Option.{none, some}
 use lib.ListN.{length, drop}
@@ -10,7 +10,7 @@ use Rattle.rules.specs.Lists.{unbe}
 use Rattle.store.specs.Layout.{storeLength, sizeIn}
 use Rattle.store.specs.Decode.{decode}
 use Rattle.calls.specs.Calls.{Called, stepCalled, tickCalled, offerCalled}
-use Rattle.slots.specs.Slots.{Slot, blank, torn, bad, whole}
+use Rattle.slots.specs.Slots.{isKept, Slot, blank, torn, bad, whole}
 use Rattle.journal.specs.Journal.{slotCount, slotsOf, isShort}
 
 -- an input handed to the station: "1 tick, 2 offer, 3 message"
@@ -19,7 +19,8 @@ handed k bs b o = elim (eqb k 1) [ true ↦ tickCalled b o | false ↦ elim (eqb
 
 -- "one input answered 0, 6, 7 or 8"
 unfoldable pub isTaken : ℕ → Bool
-isTaken r = eqb (r / 2 ^ 32) 0 || eqb (r / 2 ^ 32) 6 || eqb (r / 2 ^ 32) 7 || eqb (r / 2 ^ 32) 8
+unfolding isKept
+isTaken r = isKept (r / 2 ^ 32)
 
 -- what a replay came to: whether it was stopped, how many records it handed over, the place where it ended, the torn places before
 -- that, and what the store and the out buffer hold

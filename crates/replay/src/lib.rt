@@ -20,17 +20,7 @@ struct Ending {
 fn is_taken(answer: u64) -> bool
     ensures { λ r. ⌜ r ≡ isTaken answer ⌝ }
 {
-    let number = answer / 4_294_967_296;
-    if number == 0 {
-        return true;
-    }
-    if number == 6 {
-        return true;
-    }
-    if number == 7 {
-        return true;
-    }
-    number == 8
+    slots::is_kept(answer / 4_294_967_296)
 }
 
 // Hands one input to the station.
@@ -56,9 +46,7 @@ fn replay_slots(journal: &[u8], store: &mut [u8], out: &mut [u8], report: &mut [
     let mut place: usize = 0;
     let mut torn: usize = 0;
     while place < count {
-        let at = place * slots::LENGTH;
-        let end = at + slots::LENGTH;
-        match slots::judge(&journal[at..end]) {
+        match journal::judge_at(journal, place) {
             Slot::Blank => {
                 return Ending {
                     stopped: false,
@@ -94,7 +82,7 @@ fn replay_slots(journal: &[u8], store: &mut [u8], out: &mut [u8], report: &mut [
                         torn,
                     };
                 }
-                let from = at + slots::INPUT;
+                let from = place * slots::LENGTH + slots::INPUT;
                 let to = from + length;
                 let answer = hand(kind, &journal[from..to], store, out);
                 if is_taken(answer) {

@@ -77,6 +77,12 @@ pub fn refused(page: &mut Page, at: usize, refusal: u64) -> usize {
     reason(page, numbered, refusal)
 }
 
+// How many bytes were written, and the words behind their number.
+fn counted(page: &mut Page, at: usize, count: u64, words: &[u8]) -> usize {
+    let end = spell::number(page, at, b": 0 done, ", count);
+    page::say(page, end, words)
+}
+
 // An answer: a refusal, or how many bytes were written and what they say.
 pub fn answer(page: &mut Page, at: usize, answer: u64, out: &Out) -> usize {
     let number = refusal(answer);
@@ -84,8 +90,7 @@ pub fn answer(page: &mut Page, at: usize, answer: u64, out: &Out) -> usize {
         return refused(page, at, number);
     }
     let count = answer % UNIT;
-    let counted = spell::number(page, at, b": 0 done, ", count);
-    let told = page::say(page, counted, b" bytes\n");
+    let told = counted(page, at, count, b" bytes\n");
     sent::first(page, told, out, count as usize)
 }
 
@@ -96,8 +101,7 @@ pub fn slip(page: &mut Page, at: usize, answer: u64, out: &Out) -> usize {
         return refused(page, at, number);
     }
     let count = answer % UNIT;
-    let counted = spell::number(page, at, b": 0 done, ", count);
-    let told = page::say(page, counted, b" bytes\n  slip: ");
+    let told = counted(page, at, count, b" bytes\n  slip: ");
     sent::bytes(page, told, out, count as usize)
 }
 

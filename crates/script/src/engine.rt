@@ -34,40 +34,27 @@ pub fn fresh(
     station::station_fresh(store, n, delay, own)
 }
 
-// A message.
-pub fn step(
+// An input, by the number of its kind in a journal: 1 a tick, 2 an offered name, 3 a message.
+pub fn take(
     store: &mut Store,
     list: &mut List,
     is_plain: bool,
-    message: &[u8],
+    kind: u64,
+    bytes: &[u8],
     out: &mut Out,
 ) -> u64 {
     if is_plain {
-        return plain::plain_step(list, message, out);
+        return match kind {
+            1 => plain::plain_tick(list, out),
+            2 => plain::plain_offer(list, bytes, out),
+            _ => plain::plain_step(list, bytes, out),
+        };
     }
-    station::station_step(store, message, out)
-}
-
-// A tick.
-pub fn tick(store: &mut Store, list: &mut List, is_plain: bool, out: &mut Out) -> u64 {
-    if is_plain {
-        return plain::plain_tick(list, out);
+    match kind {
+        1 => station::station_tick(store, out),
+        2 => station::station_offer(store, bytes, out),
+        _ => station::station_step(store, bytes, out),
     }
-    station::station_tick(store, out)
-}
-
-// An offered name.
-pub fn offer(
-    store: &mut Store,
-    list: &mut List,
-    is_plain: bool,
-    name: &[u8],
-    out: &mut Out,
-) -> u64 {
-    if is_plain {
-        return plain::plain_offer(list, name, out);
-    }
-    station::station_offer(store, name, out)
 }
 
 // Prints the log.

@@ -136,14 +136,14 @@ fn chosen(page: &mut Page, at: usize, n: u64, bytes: &[u8], first: usize) -> usi
 // A message is handed over.
 pub fn message(store: &mut Store, list: &mut List, is_plain: bool, number: u64, message: &[u8]) {
     let mut out = show::out_buffer();
-    let answer = engine::step(store, list, is_plain, message, &mut out);
+    let answer = engine::take(store, list, is_plain, 3, message, &mut out);
     answered(number, b"message", answer, &out);
 }
 
 // A name is offered.
 fn offer(store: &mut Store, list: &mut List, is_plain: bool, number: u64, name: &[u8]) {
     let mut out = show::out_buffer();
-    let answer = engine::offer(store, list, is_plain, name, &mut out);
+    let answer = engine::take(store, list, is_plain, 2, name, &mut out);
     answered(number, b"offer", answer, &out);
 }
 
@@ -195,7 +195,7 @@ fn tick(
     number: u64,
     so_far: Ticking,
 ) -> Ticking {
-    let answer = engine::tick(store, list, is_plain, out);
+    let answer = engine::take(store, list, is_plain, 1, b"", out);
     let after = crate::next(so_far.clock);
     if answer == 0 {
         return Ticking {

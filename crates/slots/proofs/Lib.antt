@@ -3,3 +3,4 @@ pub mod Records
 pub mod Judging
 pub mod Putting
 pub mod OneForm
+pub mod Kept

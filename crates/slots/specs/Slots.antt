@@ -1,6 +1,6 @@
 -- 02, request 1: the bytes of a journal's record, what a slot of 128 bytes holds, and what writing one record answers. Assumes nothing.
 use Prim.Native.Nat.{ℕ, _-_, _*_, _^_}
-use mathlib.Core.Bool.{Bool, true, false, _&&_}
+use mathlib.Core.Bool.{Bool, true, false, _&&_, _||_}
 use mathlib.Core.List.{List, [], _∷_, _++_}
 use mathlib.Core.Option.{none, some}
 use lib.ListN.{length, take, drop, getD, replicate}
@@ -25,6 +25,10 @@ unfoldable pub isInput : ℕ → List ℕ → Bool
 isInput k bs =
     leb (length bs) mostInput
     && elim (eqb k 1) [ true ↦ eqb (length bs) 0 | false ↦ elim (eqb k 2) [ true ↦ eqb (length bs) 32 | false ↦ eqb k 3 && isReadable bs ] ]
+
+-- "one input answered 0, 6, 7 or 8": whether one that is answered with this number is kept
+unfoldable pub isKept : ℕ → Bool
+isKept k = eqb k 0 || eqb k 6 || eqb k 7 || eqb k 8
 
 -- "tag 20 with a four-byte sequence number, tag 21 with one input, zeros, and last byte 5A"
 unfoldable pub recordBytes : ℕ → ℕ → List ℕ → List ℕ

@@ -5,7 +5,7 @@ ghost use lib.ListN.{length};
 ghost use lib.Dec.{eqb};
 ghost use Rattle.fields.specs.Places.{number};
 ghost use Rattle.outgoing.specs.Wrote.{wrote};
-ghost use Rattle.slots.specs.Slots.{isInput, isReadable, recordBytes, recordIn, judged, written, mayPut, putting};
+ghost use Rattle.slots.specs.Slots.{isInput, isReadable, isKept, recordBytes, recordIn, judged, written, mayPut, putting};
 ghost use Rattle.slots.specs.Meaning.{Judged};
 use wire::Read;
 
@@ -135,6 +135,22 @@ pub fn judge(slot: &[u8]) -> Slot
         return Slot::Torn;
     }
     read_record(slot)
+}
+
+// Whether an input that is answered with this number is kept.
+pub fn is_kept(number: u64) -> bool
+    ensures { λ r. ⌜ r ≡ isKept number ⌝ }
+{
+    if number == 0 {
+        return true;
+    }
+    if number == 6 {
+        return true;
+    }
+    if number == 7 {
+        return true;
+    }
+    number == 8
 }
 
 // What a host is told of a refusal: its number times 2^32, and no count.

@@ -14,9 +14,12 @@ use Rattle.fields.proofs.Laws.{number-lt, number-split}
 use Rattle.fields.proofs.Differ.{digit-high, digit-low}
 use Rattle.words.specs.Meaning.{Certifies}
 use Rattle.store.specs.Layout.{statementTable, placeOf}
-use Rattle.store.specs.Decode.{statementAt, kindAt}
+use Rattle.rules.specs.WellFormed.{talliesThere}
+use Rattle.store.specs.Decode.{statementAt, kindAt, tallies}
 use Rattle.tallied.specs.Tallies.{Keyed}
 use Rattle.tallied.proofs.Hanging.{key-is}
+use Rattle.stated.specs.Stated.{Stirs, Found}
+use Rattle.stated.proofs.Parts.{there-own, there-both}
 
 module _ (b : List ℕ) (bytes : Bytes b) (i : ℕ) where
   abbrev to : ℕ
@@ -62,6 +65,11 @@ module _ (b : List ℕ) (bytes : Bytes b) (i : ℕ) where
   unfolding statementAt
   propose-above h d key e = omega (arith, e ∙ key-is b to, h .above (propose-is d))
 
+  -- a propose's own key is one above
+  pub propose-own : Certifies x → (kindAt b i ≡ 1 → ⊥) → (key : ℕ) → key ≡ certificate x .view * 256 ^ 4 + certificate x .height → key + 1 ≡ number b to 8
+  propose-own h d key e =
+      omega (arith, e, propose-key h d (number b to 8) refl, propose-above h d (number b to 8) refl)
+
   pub new-name : kindAt b i ≡ 1 → number b (to + 8) 32 ≡ certificate x .name
   unfolding certificate statementAt
   new-name e = rw (new-is e)
@@ -96,3 +104,14 @@ keyed-alike b ts key at to t u h k e =
     let view : t .view ≡ u .view = digit-high (256 ^ 4) (t .view) (u .view) (t .height) (u .height) (h .small) (k .small) q in
     let height : t .height ≡ u .height = digit-low (256 ^ 4) (t .view) (u .view) (t .height) (u .height) (h .small) (k .small) q in
     rw (view, height, name)
+
+-- a statement with its tallies has one for the block that it certifies
+pub found-block : (b : List ℕ) → Bytes b → (salt i key at mixed : ℕ) → Stirs b salt i key at mixed → talliesThere (tallies b) (statementAt b i) ≡ true → Found b salt key at mixed
+found-block b bytes salt i key at mixed s e =
+    let x = statementAt b i in
+    let ts = tallies b in
+    record {
+      fits = s .fits;
+      mixes = λ l. s .mixes;
+      has = λ l t k. keyed-alike b ts key at at t (certificate x) k (s .keyed) refl ∙ sym (there-both ts x _ refl _ refl (there-own ts x e) (certified-later b bytes i key (s .keyed .key-is) l)) ∙ e;
+    }

@@ -1,7 +1,7 @@
 -- Statements on chains: whether statement i is met again behind it. Assumes nothing.
 use Prim.Native.Nat.{ℕ, _+_, _-_, _<_, _≤_}
-use mathlib.Core.Path.{_≡_, refl, sym, ap, _∙_}
-use mathlib.Core.Bool.{Bool, true, _&&_}
+use mathlib.Core.Path.{_≡_, refl, sym, ap, ap₂, _∙_}
+use mathlib.Core.Bool.{Bool, true, false, _&&_}
 use mathlib.Core.List.{List}
 use native.Mathlib.Omega.{arith}
 use lib.Dec.{eqb}
@@ -9,17 +9,20 @@ use lib.ListN.{set}
 use borrow.Author.Tests.{eqb-true}
 use Rattle.rules.specs.Limits.{small, mostStatementsLarge}
 use Rattle.rules.specs.Lists.{iff, any}
-use Rattle.rules.specs.Words.{Statement, sameStatement}
-use Rattle.laws.proofs.Tests.{and-left, and-right}
+use Rattle.rules.specs.Words.{Statement, Certificate, ownBlock, certificate, sameStatement}
+use Rattle.laws.proofs.Tests.{by-bool, and-left, and-right}
 use Rattle.fields.specs.Places.{Bytes, number}
 use Rattle.store.specs.Layout.{statementTable, placeOf}
-use Rattle.store.specs.Decode.{nth, rows, statementAt}
-use Rattle.chains.specs.Chains.{chains, stir, stirWords, chainOf, Chained, behind, Walk}
-use Rattle.chains.proofs.Mixes.{words-alike, words-first}
+use Rattle.fields.proofs.Laws.{number-lt}
+use Rattle.store.specs.Decode.{nth, rows, statementAt, kindAt}
+use Rattle.store.proofs.Searches.{statement-tests}
+use Rattle.chains.specs.Chains.{chains, stir, stirWords, stirName, chainOf, Chained, behind, Walk}
+use Rattle.chains.proofs.Mixes.{words-name}
 use Rattle.chains.proofs.Walks.{chained-more, walk-start, walk-whole}
 use Rattle.chains.proofs.Apart.{any-same}
+use Rattle.tallied.specs.Tallies.{Keyed}
 use Rattle.tallied.proofs.Hanging.{key-is}
-use Rattle.stated.specs.Stated.{statementChain, isSame}
+use Rattle.stated.specs.Stated.{stirOf, statementChain, isSame}
 
 -- what is the same has the same view, height, name and link
 module _ (x y : Statement) (e : sameStatement x y ≡ true) where
@@ -57,17 +60,37 @@ module _ (x y : Statement) (e : sameStatement x y ≡ true) where
   same-link : x .link ≡ y .link
   same-link = eqb-true _ _ (and-right (kind && view && height && name) link linked)
 
+  same-kind : x .isNewView ≡ y .isNewView
+  unfolding iff
+  same-kind = go (x .isNewView) (y .isNewView) (and-left kind view (and-left (kind && view) height (and-left (kind && view && height) name named)))
+    where
+      go : (p q : Bool) → iff p q ≡ true → p ≡ q
+      go true true t = refl
+      go false false t = refl
+      go true false t = sym t
+      go false true t = t
+
+  -- and so the same blocks
+  same-chain : (salt : ℕ) → chainOf (stir (stirOf salt (ownBlock x 0)) (stirOf salt (certificate x))) ≡ chainOf (stir (stirOf salt (ownBlock y 0)) (stirOf salt (certificate y)))
+  unfolding ownBlock certificate
+  same-chain salt = by-bool (y .isNewView) (λ t. rw (same-kind, same-view, same-height, same-name, same-link, t)) (λ t. rw (same-kind, same-view, same-height, same-name, same-link, t))
+
+-- what the salt is when it is stirred with a block at a place
+pub keyed-stirs : (b : List ℕ) → Bytes b → (salt key at : ℕ) (t : Certificate) → Keyed b key at t → stirWords b (stir salt key) at 4 ≡ stirOf salt t
+keyed-stirs b bytes salt key at t k = words-name b bytes (stir salt key) at 4 ∙ ap₂ (λ (x y : ℕ). stirName (stir salt x) y 4) (k .key-is) (k .name-is)
+
+-- two statements where they lie
+pub same-where : (b : List ℕ) → Bytes b → (i k at to : ℕ) → at ≡ placeOf statementTable small i → to ≡ placeOf statementTable small k
+    → (eqb (number b at 8) (number b to 8) && eqb (number b (at + 8) 32) (number b (to + 8) 32)
+    && (iff (eqb (kindAt b i) 1) (eqb (kindAt b k) 1) && (eqb (number b (at + 41) 1) (number b (to + 41) 1) && eqb (number b (at + 44) 32) (number b (to + 44) 32))))
+    ≡ isSame b (statementAt b i) k
+unfolding statementAt kindAt
+same-where b bytes i k at to e d =
+    rw (e, d, key-is b (placeOf statementTable small i)) (sym (statement-tests b bytes (statementAt b i) k (number-lt b bytes (placeOf statementTable small i + 4) 4)))
+
 module _ (b : List ℕ) (bytes : Bytes b) (salt : ℕ) where
   alike : (i k : ℕ) → isSame b (statementAt b i) k ≡ true → statementChain b salt k ≡ statementChain b salt i
-  unfolding statementAt
-  alike i k t =
-      let at = placeOf statementTable small i in
-      let to = placeOf statementTable small k in
-      let x = statementAt b i in
-      let y = statementAt b k in
-      let key : number b to 8 ≡ number b at 8 = key-is b to ∙ rw (← same-view x y t, ← same-height x y t) (sym (key-is b at)) in
-      let own : stirWords b salt to 5 ≡ stirWords b salt at 5 = words-first b salt to 4 ∙ rw (key, words-alike b bytes (to + 8) (at + 8) (stir salt (number b at 8)) 4 (sym (same-name x y t))) (sym (words-first b salt at 4)) in
-      ap chainOf (rw own (words-alike b bytes (to + 44) (at + 44) (stirWords b salt at 5) 4 (sym (same-link x y t))))
+  alike i k t = sym (same-chain (statementAt b i) (statementAt b k) t salt)
 
   -- statement i, with those behind it on their chains
   module _ (n i : ℕ) {heads nexts : List ℕ} (h : Chained (statementChain b salt) (i + 1) n heads nexts) (l : i < n) (c : ℕ) (q : c ≡ statementChain b salt i) (m : c < chains) where

@@ -6,7 +6,7 @@ use mathlib.Core.List.{List}
 use native.Mathlib.Omega.{arith}
 use native.Mathlib.Nat.{add-zero}
 use lib.Dec.{leb, ltb, eqb}
-use borrow.Author.Tests.{lt-ltb, le-ltb, le-leb, lt-leb, eq-eqb, ne-eqb}
+use borrow.Author.Tests.{eqb-true, lt-ltb, le-ltb, le-leb, lt-leb, eq-eqb, ne-eqb}
 use Rattle.rules.specs.Limits.{small, lastHeight}
 use Rattle.rules.specs.Lists.{iff, any}
 use Rattle.rules.specs.Sizes.{Settings, leader}
@@ -14,7 +14,7 @@ use Rattle.rules.specs.Messages.{allowed, viewAllowed, blockAllowed, maskAllowe
 use Rattle.rules.specs.Words as words
 use Rattle.rules.specs.Words.{message, ownBlock, certificate, ofBlock}
 use Rattle.rules.specs.WellFormed.{isName, statementGood, talliesThere}
-use Rattle.laws.proofs.Tests.{by-bool, and-left}
+use Rattle.laws.proofs.Tests.{by-bool, no-bool, and-left}
 use Rattle.fields.specs.Places.{Bytes, number}
 use Rattle.fields.proofs.Laws.{number-lt, number-split}
 use Rattle.settings.specs.Made.{settingsOf}
@@ -26,6 +26,7 @@ use Rattle.store.specs.Decode.{statementAt, kindAt, voteAt, stateFrom}
 use Rattle.store.specs.Meaning.{headerOf}
 use Rattle.store.specs.declared.Station.{Station}
 use Rattle.heading.specs.Lent.{alone}
+use Rattle.tallied.proofs.Parts.{lost, kept}
 use Rattle.stated.specs.Stated.{voteInOrder, newViewSaid, proposeSaid}
 
 -- ---- a statement
@@ -114,17 +115,44 @@ module _ (b : List ℕ) (bytes : Bytes b) (i : ℕ) (s : Station) where
   abbrev vote : Bool
   vote = voteInOrder (s .clock) (voteOf (voteAt b i))
 
-  pub new-view-is : kindAt b i ≡ 1 → (viewAllowed g view && block && led && vote && newViewSaid g b to) ≡ statementGood (alone s) (statementAt b i)
+  abbrev good : Bool
+  good = statementGood (alone s) (statementAt b i)
+
+  new-view-is : kindAt b i ≡ 1 → (viewAllowed g view && block && led && vote && newViewSaid g b to) ≡ statementGood (alone s) (statementAt b i)
   unfolding statementGood message allowed blockAllowed newViewSaid voteInOrder statementAt voteAt kindAt stateFrom headerOf
   new-view-is e =
       rw (eq-eqb (number b (to + 40) 1) 1 e, stored-name b bytes (to + 8), stored-name b bytes (to + 44), add-zero to)
       (new-order (viewAllowed g view) block led vote (ltb link view) (certificateAllowed g height link mask))
 
-  pub propose-is : (kindAt b i ≡ 1 → ⊥) → (viewAllowed g view && block && led && vote && proposeSaid g b to) ≡ statementGood (alone s) (statementAt b i)
+  propose-is : (kindAt b i ≡ 1 → ⊥) → (viewAllowed g view && block && led && vote && proposeSaid g b to) ≡ statementGood (alone s) (statementAt b i)
   unfolding statementGood message allowed blockAllowed proposeSaid voteInOrder statementAt voteAt kindAt stateFrom headerOf
   propose-is d =
       rw (ne-eqb (number b (to + 40) 1) 1 d, stored-name b bytes (to + 8), stored-name b bytes (to + 44), add-zero to)
       (propose-order (viewAllowed g view) block led vote (leb 1 height) (blockAllowed (height - 1) link) (maskAllowed g mask))
+
+  -- what is bad makes it bad, whatever its kind says
+  either : ((said : Bool) → false ≡ (viewAllowed g view && block && led && vote && said)) → false ≡ good
+  either h = by-bool (eqb (kindAt b i) 1) (λ t. h (newViewSaid g b to) ∙ new-view-is (eqb-true _ _ t)) (λ t. h (proposeSaid g b to) ∙ propose-is (λ e. no-bool (sym (eq-eqb _ _ e) ∙ t)))
+
+  pub bad-view : viewAllowed g view ≡ false → false ≡ good
+  bad-view q = either (λ said. ap (λ (x : Bool). x && block && led && vote && said) (sym q))
+
+  pub bad-block : block ≡ false → false ≡ good
+  bad-block q = either (λ said. ap (λ (x : Bool). x && led && vote && said) (lost (viewAllowed g view) block q))
+
+  pub bad-author : led ≡ false → false ≡ good
+  bad-author q = either (λ said. ap (λ (x : Bool). x && vote && said) (lost (viewAllowed g view && block) led q))
+
+  pub bad-vote : vote ≡ false → false ≡ good
+  bad-vote q = either (λ said. ap (λ (x : Bool). x && said) (lost (viewAllowed g view && block && led) vote q))
+
+  -- and where the rest is good it is as good as what it says
+  module _ (v : viewAllowed g view ≡ true) (k : block ≡ true) (l : led ≡ true) (o : vote ≡ true) where
+    pub as-new-view : kindAt b i ≡ 1 → newViewSaid g b to ≡ good
+    as-new-view e = kept (viewAllowed g view) block led vote (newViewSaid g b to) v k l o ∙ new-view-is e
+
+    pub as-propose : (kindAt b i ≡ 1 → ⊥) → proposeSaid g b to ≡ good
+    as-propose d = kept (viewAllowed g view) block led vote (proposeSaid g b to) v k l o ∙ propose-is d
 
 pub good-certifies : (s : words.State) (x : words.Statement) → statementGood s x ≡ true → Certifies x
 unfolding statementGood message

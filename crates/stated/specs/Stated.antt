@@ -1,31 +1,31 @@
--- The tests of a statement that the code makes, and which chain it hangs on. Assumes nothing.
-use Prim.Native.Nat.{ℕ, _+_, _-_, _<_}
+-- The tests of a statement that the code makes, its two blocks, and which chain it hangs on. Assumes nothing.
+use Prim.Native.Nat.{ℕ, _+_, _-_, _*_, _^_, _<_, _≤_}
 use mathlib.Core.Path.{_≡_}
 use mathlib.Core.Bool.{Bool, true, false, _&&_}
 use mathlib.Core.List.{List}
 use mathlib.Core.Option.{Option, none, some}
 use lib.Dec.{leb, ltb}
+use lib.ListN.{length}
 use Rattle.rules.specs.Limits.{small}
 use Rattle.rules.specs.Lists.{any}
 use Rattle.rules.specs.Sizes.{Settings}
 use Rattle.rules.specs.Messages.{blockAllowed, maskAllowed, certificateAllowed}
 use Rattle.rules.specs.Words as words
-use Rattle.rules.specs.Words.{sameStatement, ownBlock, ofBlock}
+use Rattle.rules.specs.Words.{Certificate, sameStatement, ownBlock, certificate, ofBlock}
 use Rattle.fields.specs.Places.{number}
-use Rattle.wire.specs.Meaning.{statementOf}
-use Rattle.wire.specs.declared.Statement.{Statement}
 use Rattle.words.specs.Meaning.{Certifies}
 use Rattle.store.specs.Layout.{statementTable, placeOf}
 use Rattle.store.specs.Decode.{rows, statementAt, tallies}
-use Rattle.chains.specs.Chains.{stirWords, chainOf, Chained}
-
--- a statement as it was received
-abbrev pub bare : Statement → words.Statement
-bare x = statementOf x none
+use Rattle.chains.specs.Chains.{stir, stirWords, stirName, chainOf, Chained}
+use Rattle.tallied.specs.Tallies.{Keyed}
 
 -- a vote, if any, was not after the clock
 unfoldable pub voteInOrder : ℕ → Option ℕ → Bool
 voteInOrder clock v = elim v [ none ↦ true | some c ↦ leb c clock ]
+
+-- view, height and mask as they were read of the statement at a place
+abbrev pub Read : List ℕ → ℕ → ℕ → ℕ → ℕ → Type 0
+Read b at view height mask = (view ≡ number b at 4) × (height ≡ number b (at + 4) 4) × (mask ≡ number b (at + 42) 2)
 
 -- what the statement at a place says of the block that it certifies: a new-view of its certificate, a propose of its parent
 unfoldable pub newViewSaid : Settings → List ℕ → ℕ → Bool
@@ -42,20 +42,31 @@ proposeSaid g b at =
 abbrev pub AllCertify : List ℕ → ℕ → Type 0
 AllCertify b n = (i : ℕ) → i < n → Certifies (statementAt b i)
 
--- the own block of the statement right before statement i, if there is one, has a tally
-abbrev pub OwnBefore : List ℕ → ℕ → Type 0
-OwnBefore b i = (k : ℕ) → i ≡ k + 1 → any (ofBlock (ownBlock (statementAt b k) 0)) (tallies b) ≡ true
+-- the block that statement i certifies: its key, the place of its name, and what the salt is when it is stirred with them
+pub record Stirs (b : List ℕ) (salt i key at mixed : ℕ) : Type 0 where
+  pub keyed : Keyed b key at (certificate (statementAt b i))
+  pub fits : at + 32 ≤ length b
+  pub mixes : mixed ≡ stirWords b (stir salt key) at 4
 
--- where the answer is yes, the block with this key, whose name is at a place, is that own block
-abbrev pub Follows : List ℕ → ℕ → ℕ → ℕ → Bool → Type 0
-Follows b i key at r =
-    r ≡ true → (0 < i) × (key ≡ number b (placeOf statementTable small (i - 1)) 8) × (number b at 32 ≡ number b (placeOf statementTable small (i - 1) + 8) 32)
+-- a block that was looked for: where it is of some view it has a tally
+pub record Found (b : List ℕ) (salt key at mixed : ℕ) : Type 0 where
+  pub fits : at + 32 ≤ length b
+  pub mixes : 2 ^ 32 ≤ key → mixed ≡ stirWords b (stir salt key) at 4
+  pub has : 2 ^ 32 ≤ key → (t : Certificate) → Keyed b key at t → any (ofBlock t) (tallies b) ≡ true
 
--- statements hang by their block and their link
+-- the own block of statement i, whose tally was perhaps found before
+pub record Owns (b : List ℕ) (salt i key mixed : ℕ) (found : Bool) : Type 0 where
+  pub keyed : Keyed b key (placeOf statementTable small i + 8) (ownBlock (statementAt b i) 0)
+  pub mixes : mixed ≡ stirWords b (stir salt key) (placeOf statementTable small i + 8) 4
+  pub has : found ≡ true → any (ofBlock (ownBlock (statementAt b i) 0)) (tallies b) ≡ true
+
+-- what the salt is when it is stirred with a block
+abbrev pub stirOf : ℕ → Certificate → ℕ
+stirOf salt t = stirName (stir salt (t .view * 256 ^ 4 + t .height)) (t .name) 4
+
+-- statements hang by their own block and the one that they certify
 abbrev pub statementChain : List ℕ → ℕ → ℕ → ℕ
-statementChain b salt i =
-    let to = placeOf statementTable small i in
-    chainOf (stirWords b (stirWords b salt to 5) (to + 44) 4)
+statementChain b salt i = chainOf (stir (stirOf salt (ownBlock (statementAt b i) 0)) (stirOf salt (certificate (statementAt b i))))
 
 -- whether statement k is the same
 abbrev pub isSame : List ℕ → words.Statement → ℕ → Bool

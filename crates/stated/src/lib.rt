@@ -1,4 +1,3 @@
 // The statements of a lent store: allowed, apart, and each with its tallies.
-pub mod apart;
 pub mod statements;
 pub mod there;

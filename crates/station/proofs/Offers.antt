@@ -30,7 +30,7 @@ use Rattle.offers.specs.Offers.{offerOf}
 use Rattle.offers.specs.declared.Offer.{Offer}
 use Rattle.offers.specs.declared.Offer.the-variants.{Taken, NotTaken}
 use Rattle.refusals.proofs.Answers.{answers-is, refused-answers}
-use Rattle.refusals.proofs.Opening.{Opened, opened, opened-formed, opened-gives, barred-gives}
+use Rattle.refusals.proofs.Opening.{Opened, opened, lent-formed, lent-gives, barred-gives}
 
 -- ---- the rule
 
@@ -70,13 +70,13 @@ module _ (name b o : List ℕ) where
         opening = opened b o (sym e ∙ z)
 
         pub offer-formed : Formed b
-        offer-formed = opened-formed b o opening h
+        offer-formed = lent-formed b o (opening .lent) h
 
         pub offer-out : 200 ≤ length o
-        offer-out = omega (arith, opening .room, out-least (sizeIn b))
+        offer-out = omega (arith, opening .lent .room, out-least (sizeIn b))
 
         offer-gives : {b′ o′ : List ℕ} {r : ℕ} → Answers (offer (be name) (stateOf b)) o b′ o′ r → Gives (offerCalled name b o) r b′ o′
-        offer-gives a = named (opened-gives b o opening (offer (be name)) (offer-room (stateOf b) (be name)) a)
+        offer-gives a = named (lent-gives b o (opening .lent) (offer (be name)) (offer-room (stateOf b) (be name)) a)
 
         module _ {y : ℕ} (w : y ≡ number name 0 32) (f : Offer) (p : offerOf f ≡ offered y (stateOf b)) where
           name-number : y ≡ be name

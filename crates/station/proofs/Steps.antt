@@ -33,7 +33,7 @@ use Rattle.calls.specs.Calls.{stepCalled, Gives}
 use Rattle.acts.specs.Works.{Formed}
 use Rattle.refusals.specs.Answers.{barred, Answers}
 use Rattle.refusals.proofs.Answers.{answers-is, refused-answers}
-use Rattle.refusals.proofs.Opening.{Opened, opened, opened-formed, opened-gives, barred-gives}
+use Rattle.refusals.proofs.Opening.{Opened, opened, lent-formed, lent-gives, barred-gives}
 
 -- ---- the rule
 
@@ -78,17 +78,17 @@ module _ (bs b o : List ℕ) (h : Bytes b) {n : ℕ} (e : n ≡ barred b o) wher
     opening = opened b o (sym e ∙ z)
 
     pub step-formed : Formed b
-    step-formed = opened-formed b o opening h
+    step-formed = lent-formed b o (opening .lent) h
 
     pub step-long : 68 ≤ length b
-    step-long = omega (arith, opening .long)
+    step-long = omega (arith, opening .lent .long)
 
     pub step-out : 200 ≤ length o
-    step-out = omega (arith, opening .room, out-least (sizeIn b))
+    step-out = omega (arith, opening .lent .room, out-least (sizeIn b))
 
     step-gives : {b′ o′ : List ℕ} {r : ℕ} → Answers (step bs (stateOf b)) o b′ o′ r → Gives (stepCalled bs b o) r b′ o′
     unfolding stepCalled
-    step-gives a = opened-gives b o opening (step bs) (step-room (stateOf b) bs) a
+    step-gives a = lent-gives b o (opening .lent) (step bs) (step-room (stateOf b) bs) a
 
     module _ {q : Read} (p : readOf q ≡ read bs) where
       pub unreadable-step : {r : ℕ} → q ≡ Unreadable → r ≡ 4 * 2 ^ 32 → Gives (stepCalled bs b o) r b o

@@ -61,7 +61,7 @@ pub extern "C" fn station_tick(store: &mut [u8], out: &mut [u8]) -> u64
     ensures { λ r. ⌜ Gives (tickCalled (now (store .entry)) (now (out .entry))) r (now (store .exit)) (now (out .exit)) ⌝ }
 {
     let mut told = [0u16; Settings::MOST_STATEMENTS_LARGE];
-    let number = refusals::barred_told(store, out, &mut told);
+    let number = refusals::checked(store, out, &mut told);
     if number != 0 {
         return refusals::refuse(number);
     }

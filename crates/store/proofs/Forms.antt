@@ -1,5 +1,5 @@
 -- What the form of a store gives, table by table, and what gives the form. Assumes nothing.
-use Prim.Native.Nat.{ℕ, _+_, _*_, _≤_}
+use Prim.Native.Nat.{ℕ, _+_, _*_, _<_, _≤_}
 use mathlib.Core.Path.{_≡_, refl, ap, subst}
 use mathlib.Core.Bool.{true, _&&_}
 use mathlib.Core.List.{List}
@@ -120,6 +120,10 @@ left z {b} {h} {xs} {ts} {ms} {l} bytes long eh x t em n k =
 -- the form, by name
 pub form-long : (b : List ℕ) → Form b → length b ≡ storeLength (sizeIn b)
 form-long b k = parts b (k .form) .long
+
+-- a record behind the last of a table that isn't full has its place
+pub behind-last : (b : List ℕ) {r n m : ℕ} → Form b × (n < m) → r ≡ n → (length b ≡ storeLength (sizeIn b)) × (r < m)
+behind-last b h e = (form-long b (h .0), omega (arith, h .1))
 
 pub form-statements : (b : List ℕ) → Form b → (countOf statementTable b ≤ mostStatements (sizeIn b)) × (countOf statementTable b ≤ mostStatementsLarge)
 form-statements b k = let h = parts b (k .form) .statements .used .within in (h, omega (arith, statements-most (sizeIn b)))

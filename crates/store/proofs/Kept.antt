@@ -3,12 +3,13 @@ use Prim.Native.Nat.{ℕ, zero, suc, _+_, _*_, _^_, _<_, _≤_}
 use mathlib.Core.Path.{_≡_, refl, sym, ap, ap₂, _∙_}
 use mathlib.Core.List.{List, [], _∷_}
 use native.Mathlib.Omega.{arith}
-use native.Mathlib.Nat.{add-suc, add-assoc}
+use native.Mathlib.Nat.{add-suc, add-assoc, mul-le-mul-left}
 use lib.Dec.{leb→le}
 use lib.ListN.{length, getD, set}
 use Rattle.fields.specs.Places.{number, put}
 use Rattle.fields.specs.Records.{Format, fields, puts, Ordered}
-use Rattle.fields.proofs.Laws.{number-put-same, number-put-before, number-put-after}
+use Rattle.laws.proofs.Bytes.{pow-pos}
+use Rattle.fields.proofs.Laws.{number-split, number-put-same, number-put-before, number-put-after}
 use Rattle.fields.proofs.Records.{ordered-le, number-puts-before, number-puts-after, fields-put-before}
 
 -- the numbers from lo to hi are as they were
@@ -73,7 +74,10 @@ field-put b at o e (f ∷ fs) h l (suc k) v i p =
     ap₂ _∷_ (number-put-after b (at + offset fs k) (width fs k) v (at + f .0) (f .1) (omega (arith, q .0)))
     (field-put b at (f .0 + f .1) e fs (h .1) l k v (omega arith) p)
 
--- zeros of a longer part are zeros of its end
+-- zeros of a longer part are zeros of its beginning, and of its end
+pub zero-front : (b : List ℕ) (at k m : ℕ) → number b at (k + m) ≡ 0 → number b at k ≡ 0
+zero-front b at k m e = omega (arith, number-split b at k m, mul-le-mul-left (number b at k) (pow-pos m))
+
 pub zero-end : (b : List ℕ) (at k m : ℕ) → number b at (k + m) ≡ 0 → number b (at + k) m ≡ 0
 unfolding number
 zero-end b at k zero e = refl

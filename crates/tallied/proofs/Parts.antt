@@ -1,21 +1,20 @@
 -- A block and a tally as the code tests them. Assumes nothing.
 use Prim.Native.Nat.{ℕ, zero, suc, _+_, _-_, _*_, _^_, _<_, _≤_}
-use mathlib.Core.Path.{_≡_, refl, ap, _∙_}
+use mathlib.Core.Path.{_≡_, refl, sym, ap, _∙_}
 use mathlib.Core.Bool.{Bool, true, false, not, _&&_, and-true, and-false}
 use native.Mathlib.Nat.{add-zero}
-use Rattle.rules.specs.Limits.{firstView, lastView, lastHeight}
-use Rattle.rules.specs.Lists.{iff, within}
-use Rattle.rules.specs.Sizes as words
-use Rattle.laws.proofs.Bounds.{views-most}
+use Rattle.rules.specs.Limits.{lastHeight}
+use Rattle.rules.specs.Lists.{iff}
 use Rattle.fields.specs.Places.{Bytes, number}
 use Rattle.fields.proofs.Laws.{number-lt}
+use Rattle.store.proofs.Kept.{zero-front}
 use mathlib.Core.List.{List}
 use Rattle.store.specs.Layout.{sizeIn, tallyTable, placeOf}
 use Rattle.tallies.specs.Values.{openerOf, reachedFrom}
 use Rattle.store.specs.Decode.{tallyAt, tallyFor, openerAt, openerFor, sinceAt, sinceFor}
 use native.Mathlib.Omega.{arith}
 use lib.Dec.{leb, ltb, eqb}
-use borrow.Author.Tests.{lt-ltb, le-ltb, lt-leb, ne-eqb}
+use borrow.Author.Tests.{lt-ltb, le-ltb, le-leb, ne-eqb}
 use Rattle.rules.specs.Sizes.{holds, quorum}
 use Rattle.rules.specs.Messages.{viewAllowed, blockAllowed}
 use Rattle.rules.specs.WellFormed.{isName, isMask, openerGood, reachedGood, tallyGood}
@@ -26,34 +25,68 @@ stored-name : (b : List ℕ) → Bytes b → (at : ℕ) → isName (number b at 
 unfolding isName
 stored-name b bytes at = lt-ltb _ _ (number-lt b bytes at 32)
 
--- ---- view and height by halves: the upper half of what is allowed is zero
+-- ---- a height, where it is known whether the name is all zero
 
-pub view-halves : (g : words.Settings) (v high low : ℕ) → v ≡ high * 256 ^ 2 + low → (eqb high 0 && viewAllowed g low) ≡ viewAllowed g v
-unfolding viewAllowed within
-view-halves g v high low e = go high e
-  where
-    go : (k : ℕ) → v ≡ k * 256 ^ 2 + low → (eqb k 0 && viewAllowed g low) ≡ viewAllowed g v
-    go zero q = let r : v ≡ low = omega arith in rw r
-    go (suc k) q =
-        let f : leb v (lastView (g .size)) ≡ false = lt-leb v (lastView (g .size)) (omega (arith, views-most (g .size))) in
-        rw (f, and-false (leb firstView v), ne-eqb (suc k) 0 (λ z. absurd (omega arith)))
+pub height-bare : (h : ℕ) → eqb h 0 ≡ (leb h lastHeight && iff (eqb h 0) true)
+unfolding iff
+height-bare zero = refl
+height-bare (suc h) = rw (ne-eqb (suc h) 0 (λ e. absurd (omega arith))) (sym (and-false (leb (suc h) lastHeight)))
 
-pub height-halves : (h high low : ℕ) (bare : Bool) → h ≡ high * 256 ^ 2 + low
-    → (eqb high 0 && leb low lastHeight && iff (eqb low 0) bare) ≡ (leb h lastHeight && iff (eqb h 0) bare)
-height-halves h high low bare e = go high e
-  where
-    go : (k : ℕ) → h ≡ k * 256 ^ 2 + low → (eqb k 0 && leb low lastHeight && iff (eqb low 0) bare) ≡ (leb h lastHeight && iff (eqb h 0) bare)
-    go zero q = let r : h ≡ low = omega arith in rw r
-    go (suc k) q = let f : leb h lastHeight ≡ false = lt-leb h lastHeight (omega arith) in rw (f, ne-eqb (suc k) 0 (λ z. absurd (omega arith)))
+pub height-named : (h : ℕ) → (leb 1 h && leb h lastHeight) ≡ (leb h lastHeight && iff (eqb h 0) false)
+unfolding iff
+height-named zero = refl
+height-named (suc h) = rw (le-leb 1 (suc h) (omega arith), ne-eqb (suc h) 0 (λ e. absurd (omega arith))) (sym (and-true (leb (suc h) lastHeight)))
 
--- by the numbers of its record
+-- a name that begins with something is one
+pub begins-named : (b : List ℕ) (at : ℕ) → (number b at 8 ≡ 0 → ⊥) → eqb (number b at 32) 0 ≡ false
+begins-named b at d = ne-eqb (number b at 32) 0 (λ e. d (zero-front b at 8 24 e))
+
+-- ---- a tally, by the numbers of its record: what is bad makes it bad
+
+pub lost : (a q : Bool) → q ≡ false → false ≡ (a && q)
+lost a q e = sym (ap (λ (x : Bool). a && x) e ∙ and-false a)
+
+pub kept : (a b c d x : Bool) → a ≡ true → b ≡ true → c ≡ true → d ≡ true → x ≡ (a && b && c && d && x)
+kept a b c d x p q r s = rw (p, q, r, s) refl
+
 module _ (g : Settings) (now : ℕ) (b : List ℕ) (bytes : Bytes b) (i at : ℕ) (e : at ≡ placeOf tallyTable (sizeIn b) i) where
-  pub tally-is : (mask opener reached : ℕ) (bare : Bool) → bare ≡ eqb (number b (at + 8) 32) 0 → mask ≡ number b (at + 40) 2 → opener ≡ openerAt b i → reached ≡ sinceAt b i
-      → (viewAllowed (settingsOf g) (number b at 4) && (leb (number b (at + 4) 4) lastHeight && iff (eqb (number b (at + 4) 4) 0) bare) && ltb mask (2 ^ g .n)
-      && openerGood (settingsOf g) mask (openerOf opener) && reachedGood (settingsOf g) now mask (reachedFrom reached)) ≡ tallyGood (settingsOf g) now (tallyAt b i)
-  unfolding tallyGood blockAllowed isMask tallyFor openerFor sinceFor
-  tally-is mask opener reached bare z m o r =
-      rw (z, m, o, r, e, add-zero (placeOf tallyTable (sizeIn b) i), stored-name b bytes (placeOf tallyTable (sizeIn b) i + 8), and-true)
+  abbrev good : Bool
+  good = tallyGood (settingsOf g) now (tallyAt b i)
+
+  abbrev viewed : Bool
+  viewed = viewAllowed (settingsOf g) (number b at 4)
+
+  abbrev blocked : Bool
+  blocked = blockAllowed (number b (at + 4) 4) (number b (at + 8) 32)
+
+  abbrev masked : Bool
+  masked = ltb (number b (at + 40) 2) (2 ^ g .n)
+
+  abbrev opened : Bool
+  opened = openerGood (settingsOf g) (number b (at + 40) 2) (openerOf (openerAt b i))
+
+  abbrev since : Bool
+  since = reachedGood (settingsOf g) now (number b (at + 40) 2) (reachedFrom (sinceAt b i))
+
+  tally-is : (viewed && blocked && masked && opened && since) ≡ good
+  unfolding tallyGood isMask tallyFor openerFor sinceFor
+  tally-is = rw (e, add-zero (placeOf tallyTable (sizeIn b) i), stored-name b bytes (placeOf tallyTable (sizeIn b) i + 8), and-true)
+
+  pub bad-view : viewed ≡ false → false ≡ good
+  bad-view q = ap (λ (x : Bool). x && blocked && masked && opened && since) (sym q) ∙ tally-is
+
+  pub bad-block : blocked ≡ false → false ≡ good
+  bad-block q = ap (λ (x : Bool). x && masked && opened && since) (lost viewed blocked q) ∙ tally-is
+
+  pub bad-mask : masked ≡ false → false ≡ good
+  bad-mask q = ap (λ (x : Bool). x && opened && since) (lost (viewed && blocked) masked q) ∙ tally-is
+
+  pub bad-opener : opened ≡ false → false ≡ good
+  bad-opener q = ap (λ (x : Bool). x && since) (lost (viewed && blocked && masked) opened q) ∙ tally-is
+
+  -- and where the rest is good it is as good as its clock
+  pub as-since : viewed ≡ true → blocked ≡ true → masked ≡ true → opened ≡ true → since ≡ good
+  as-since v k m o = kept viewed blocked masked opened since v k m o ∙ tally-is
 
 -- the clock of the first quorum, by the record's number
 module _ (g : Settings) (now m k : ℕ) where

@@ -88,5 +88,6 @@ pub fn has_tally(
 {
     let base = store::tallies_in(store);
     let chain = chains::chain_of(mixed);
-    chains::has_block(store, base, TALLY_SIZE, count, heads, nexts, chain, key, at)
+    let left = heads[chain] as usize;
+    chains::walked(store, base, TALLY_SIZE, count, nexts, left, key, at)
 }

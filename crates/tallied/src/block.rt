@@ -6,34 +6,28 @@ ghost use lib.ListN.{length};
 ghost use lib.Dec.{leb, eqb};
 ghost use Rattle.rules.specs.Limits.{lastHeight};
 ghost use Rattle.rules.specs.Lists.{iff};
-ghost use Rattle.rules.specs.Messages.{viewAllowed};
+ghost use Rattle.rules.specs.Messages.{blockAllowed};
 ghost use Rattle.fields.specs.Places.{number};
-ghost use Rattle.settings.specs.Made.{settingsOf};
-use allowed::clauses;
 use settings::Settings;
-use store::HEIGHT;
 
-// Where the lower halves of view and height are.
-const VIEW_LOW: usize = 2;
-
-const HEIGHT_LOW: usize = HEIGHT + 2;
-
-// Whether the view is allowed. The last view is below 65,536, so the upper half is zero; by halves, it isn't put together from bytes.
-pub fn view_good(store: &[u8], settings: Settings, at: usize) -> bool
-    requires { ⌜ at + 4 ≤ length (now store) ⌝ }
-    ensures { λ r. ⌜ r ≡ viewAllowed (settingsOf settings) (number (now (store .entry)) at 4) ⌝ }
+// Whether the height of a block is allowed, where it is known whether the name is all zero.
+pub fn height_good(height: u64, zero: bool) -> bool
+    ensures { λ r. ⌜ r ≡ (leb height lastHeight && iff (eqb height 0) zero) ⌝ }
 {
-    let high = fields::get(store, at, 2);
-    let low = fields::get(store, at + VIEW_LOW, 2);
-    (high == 0) & clauses::view_allowed(settings, low)
+    if zero {
+        return height == 0;
+    }
+    (1 <= height) & (height <= Settings::LAST_HEIGHT)
 }
 
-// Whether the height is allowed, where it is known whether the name is all zero; by halves too.
-pub fn height_good(store: &[u8], at: usize, zero: bool) -> bool
-    requires { ⌜ at + 8 ≤ length (now store) ⌝ }
-    ensures { λ r. ⌜ r ≡ (leb (number (now (store .entry)) (at + 4) 4) lastHeight && iff (eqb (number (now (store .entry)) (at + 4) 4) 0) zero) ⌝ }
+// Whether a height goes with the name at a place. Few names begin with eight zeros, so mostly no more of it is looked at.
+pub fn block_good(store: &[u8], at: usize, height: u64) -> bool
+    requires { ⌜ at + 32 ≤ length (now store) ⌝ }
+    ensures { λ r. ⌜ r ≡ blockAllowed height (number (now (store .entry)) at 32) ⌝ }
 {
-    let high = fields::get(store, at + HEIGHT, 2);
-    let low = fields::get(store, at + HEIGHT_LOW, 2);
-    (high == 0) & (low <= Settings::LAST_HEIGHT) & ((low == 0) == zero)
+    if fields::get(store, at, 8) != 0 {
+        return height_good(height, false);
+    }
+    let zero = fields::all_zero(store, at, 32);
+    height_good(height, zero)
 }

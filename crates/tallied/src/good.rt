@@ -11,7 +11,9 @@ ghost use Rattle.tallies.specs.Values.{openerOf, reachedFrom};
 ghost use Rattle.store.specs.Decode.{tallyAt, tallies};
 ghost use Rattle.heading.specs.Lent.{Counts};
 use super::block;
+use allowed::clauses;
 use settings::Settings;
+use store::HEIGHT;
 use store::NAME;
 use store::VOTERS;
 
@@ -38,25 +40,33 @@ fn reached_good(settings: Settings, clock: u32, mask: u16, reached: u32) -> bool
     if reached == 0 {
         return !certified;
     }
-    certified & (reached - 1 <= clock)
+    if !certified {
+        return false;
+    }
+    reached - 1 <= clock
 }
 
 // Whether a tally is of a view and a block that are allowed, with a mask of these stations, opened by nobody or by one of its voters,
-// and keeps a clock as it should: field by field where it lies.
+// and keeps a clock as it should: field by field where it lies, until one is bad.
 fn tally_good(store: &[u8], settings: Settings, clock: u32, i: usize) -> bool
     requires { ⌜ (length (now store) ≡ storeLength (sizeIn (now store))) × (i < mostTallies (sizeIn (now store))) × (settings .n ≤ mostStations) ⌝ }
     ensures { λ r. ⌜ r ≡ tallyGood (settingsOf settings) clock (tallyAt (now (store .entry)) i) ⌝ }
 {
     let at = store::tally_place(store, i);
-    let zero = fields::all_zero(store, at + NAME, 32);
+    if !clauses::view_allowed(settings, fields::get(store, at, 4)) {
+        return false;
+    }
+    if !block::block_good(store, at + NAME, fields::get(store, at + HEIGHT, 4)) {
+        return false;
+    }
     let mask = fields::get(store, at + VOTERS, 2) as u16;
-    let opener = store::opener_at(store, i);
-    let reached = store::reached_at(store, i);
-    let block = block::view_good(store, settings, at) & block::height_good(store, at, zero);
-    block
-        & ((mask as u64) < settings::only(settings.n))
-        & opener_good(settings, mask, opener)
-        & reached_good(settings, clock, mask, reached)
+    if settings::only(settings.n) <= mask as u64 {
+        return false;
+    }
+    if !opener_good(settings, mask, store::opener_at(store, i)) {
+        return false;
+    }
+    reached_good(settings, clock, mask, store::reached_at(store, i))
 }
 
 // Whether every tally is good.

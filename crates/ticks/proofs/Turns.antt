@@ -1,12 +1,12 @@
 -- A tick, in 01's order: the clock at its end, a commit that differs, no room, or its work. What decides it is known from the
 -- store before its clock moves on. Assumes nothing.
-use Prim.Native.Nat.{ℕ, suc, _+_, _-_, _*_, _≤_, _<_}
+use Prim.Native.Nat.{ℕ, suc, _+_, _-_, _*_, _^_, _≤_, _<_}
 use mathlib.Core.Path.{_≡_, refl, sym, ap, _∙_, subst}
 use mathlib.Core.Bool.{Bool, true, false, not, _&&_}
 use mathlib.Core.List.{List, [], _∷_, _++_, append-assoc}
 use mathlib.Core.Option.{none, some, Option·map, Option·some-injective}
 use native.Mathlib.Omega.{arith}
-use lib.Dec.{leb, eqb, lit≤}
+use lib.Dec.{leb, lit≤}
 use lib.ListN.{length, drop, length-drop}
 use borrow.Author.Tests.{eq-eqb, ne-eqb, not-true, not-false}
 use Rattle.rules.specs.Limits.{Size, small, large, mostStatements, mostTallies, lastClock, leastOut, mostStatementsLarge}
@@ -14,7 +14,7 @@ use Rattle.rules.specs.Lists.{any}
 use Rattle.rules.specs.Sizes.{Settings}
 use Rattle.rules.specs.Words as words
 use Rattle.rules.specs.Words.{Statement, sameStatement, message, ownBlock, certificate, State, moment, clock, split}
-use Rattle.rules.specs.Inputs.{Work, saying, _▸_, withClock, withTables, withLog, isIn, certificateJoined, stored, statement, leads, due, commits, logging, votes, complain, leadsNow, ownNewView, lead, enter, ticked}
+use Rattle.rules.specs.Inputs.{Work, saying, _▸_, withClock, withTables, withLog, certificateJoined, stored, statement, leads, due, commits, logging, votes, complain, leadsNow, ownNewView, lead, enter, ticked}
 use Rattle.rules.specs.Refusals.{refused, stopping, hasRoom, ifRoom, running, tick}
 use Rattle.rules.specs.WellFormed.{linked}
 use Rattle.laws.proofs.Tests.{by-bool}
@@ -24,7 +24,7 @@ use Rattle.store.specs.Layout.{sizeIn}
 use Rattle.store.specs.Decode.{stateFrom, stateOf, Left}
 use Rattle.store.specs.Meaning.{Loads}
 use Rattle.store.specs.declared.Station.{Station}
-use Rattle.store.proofs.Loaded.{loaded-settings, loaded-entry, loaded-clock}
+use Rattle.store.proofs.Loaded.{loaded-clock}
 use Rattle.kept.specs.Parts as kept
 use Rattle.kept.proofs.Facts.{clocks-of}
 use Rattle.laws.proofs.Lengths.{bytes, reports-bytes}
@@ -48,8 +48,8 @@ use Rattle.turns.proofs.Parts.{left-size, works-then}
 use Rattle.turns.proofs.Room.{lead-complained, lead-logged, tick-room}
 use Rattle.ticks.proofs.Clocks.{certificate-length, both-length}
 use Rattle.refusals.specs.Answers.{Answers, Mutely}
-use Rattle.ticks.specs.Turns.{later, moving, turning}
-use Rattle.refusals.proofs.Answers.{answers-is}
+use Rattle.ticks.specs.Turns.{later, moving, growing, turning, Clear}
+use Rattle.refusals.proofs.Answers.{answers-is, refused-answers}
 use Rattle.refusals.proofs.Stops.{room-answers, full-answers}
 
 -- what a tick says at most, part by part, fits the out buffer in both columns
@@ -209,30 +209,35 @@ module _ {b t : List ℕ} {n : ℕ} (k : Formed b) (h : stateOf b .clock < lastC
     same-log : grownLog b₁ t n ≡ L
     same-log = Option·some-injective (grownLog b₁ t n) L (sym (gained-log b b₁ t n c g l) ∙ g .is)
 
-    module _ {b₂ o o₂ : List ℕ} {r : ℕ} (w : Works (logging (grownLog b₁ t n) (stateOf b₁)) o 0 b₂ o₂ r) where
-      logged : Works (logging L (later S)) o 0 b₂ o₂ r
-      logged = works-is (λ i. logging (same-log i) (now-later i)) w
+    pub grown : {b₂ o o₂ : List ℕ} {r : ℕ} → Works (logging (grownLog b₁ t n) (stateOf b₁)) o 0 b₂ o₂ r → Works (growing L S) o 0 b₂ o₂ r
+    unfolding growing
+    grown w = works-is (λ i. logging (same-log i) (now-later i)) w
 
-      pub logged-formed : Formed b₂
-      logged-formed = works-formed logged (logging-keeps later-formed L log-linked)
+  module _ {b₂ o o₂ : List ℕ} {r : ℕ} (w : Works (growing L S) o 0 b₂ o₂ r) where
+    pub grown-formed : Formed b₂
+    unfolding growing
+    grown-formed = works-formed w (logging-keeps later-formed L log-linked)
 
-      pub logged-room : hasRoom (lead (later S) .now) ≡ true → hasRoom (lead (stateOf b₂) .now) ≡ true
-      logged-room q = ap (λ (s : State). hasRoom (lead s .now)) (logged .left .is) ∙ lead-logged L (later S) ∙ q
+    pub grown-room : hasRoom (lead (later S) .now) ≡ true → hasRoom (lead (stateOf b₂) .now) ≡ true
+    unfolding growing
+    grown-room q = ap (λ (s : State). hasRoom (lead s .now)) (w .left .is) ∙ lead-logged L (later S) ∙ q
 
-      pub logged-votes : {m : ℕ} → m ≡ votes S → m ≡ votes (stateOf b₂)
-      unfolding logging saying withLog later withClock votes
-      logged-votes q = q ∙ sym (ap votes (logged .left .is))
+    pub grown-votes : {m : ℕ} → m ≡ votes S → m ≡ votes (stateOf b₂)
+    unfolding growing logging saying withLog later withClock votes
+    grown-votes q = q ∙ sym (ap votes (w .left .is))
 
-      logged-size : sizeIn b₂ ≡ sizeIn b
-      unfolding logging saying later withClock withLog stateOf stateFrom
-      logged-size = left-size (logged .left)
+    grown-size : sizeIn b₂ ≡ sizeIn b
+    unfolding growing logging saying later withClock withLog stateOf stateFrom
+    grown-size = left-size (w .left)
 
-      pub logged-space : leastOut (sizeIn b) ≤ length o → r + 299 + 160 * mostStatements (sizeIn b₂) ≤ length o₂
-      logged-space p =
-          omega (arith, works-end logged (39 * mostStatements (sizeIn b)) log-short, works-length logged, tick-enough (sizeIn b), ap mostStatements logged-size)
+    pub grown-space : leastOut (sizeIn b) ≤ length o → r + 299 + 160 * mostStatements (sizeIn b₂) ≤ length o₂
+    unfolding growing
+    grown-space p =
+        omega (arith, works-end w (39 * mostStatements (sizeIn b)) log-short, works-length w, tick-enough (sizeIn b), ap mostStatements grown-size)
 
-      pub turned : {b₃ o₃ : List ℕ} {end : ℕ} → Works (moving (stateOf b₂)) o₂ r b₃ o₃ end → Works (turning L S) o 0 b₃ o₃ end
-      turned u = works-is (then-moving L S) (works-then moving logged u)
+    pub turned : {b₃ o₃ : List ℕ} {end : ℕ} → Works (moving (stateOf b₂)) o₂ r b₃ o₃ end → Works (turning L S) o 0 b₃ o₃ end
+    unfolding growing
+    turned u = works-is (then-moving L S) (works-then moving w u)
 
 -- ---- what the commits answer
 
@@ -264,6 +269,10 @@ ticked-none : (b : List ℕ) → tickLog b ≡ none → ticked (stateOf b) ≡ n
 unfolding ticked tickLog
 ticked-none b e = let now = withClock (stateOf b .clock + 1) (stateOf b) in ap (Option·map (λ l. logging l now ▸ complain ▸ lead ▸ enter)) e
 
+-- a station that stopped
+pub stops-tick : {b : List ℕ} → Formed b → running (stateOf b) ≡ false → {r : ℕ} → r ≡ 3 * 2 ^ 32 → Mutely (tick (stateOf b)) b r
+stops-tick {b} k q e o = answers-is (sym (tick-stopped (stateOf b) q)) (refused-answers 3 (k .form) e o)
+
 module _ {b : List ℕ} (k : Formed b) (y : running (stateOf b) ≡ true) (s : Station) (e : Loads s b) where
   pub ends-tick : s .clock ≡ lastClock → {b′ : List ℕ} {r : ℕ} → Mutely (stopping 8 clock (stateOf b)) b′ r → Mutely (tick (stateOf b)) b′ r
   ends-tick q a o = answers-is (tick-end (stateOf b) y (sym (loaded-clock s b e) ∙ q)) (a o)
@@ -284,6 +293,10 @@ module _ {b : List ℕ} (k : Formed b) (y : running (stateOf b) ≡ true) (s : S
 
       works-tick : ifRoom (stateOf b) work ≡ tick (stateOf b)
       works-tick = tick-works (stateOf b) y goes-on work (turning-ticked k clock-left g)
+
+      pub clears : length t ≡ mostStatementsLarge → {f : Bool} → f ≡ hasRoom (lead (later (stateOf b)) .now) → f ≡ true → {room : ℕ} → leastOut (sizeIn b) ≤ room
+          → Clear b t (s .clock + 1) m room
+      clears l p h r = record { formed = k; next = ap (_+ 1) (loaded-clock s b e); last = clock-left; gained = g; long = l; fits = sym p ∙ h; space = r }
 
       pub full-tick : {f : Bool} → f ≡ hasRoom (lead (later (stateOf b)) .now) → not f ≡ true → {b′ : List ℕ} {r : ℕ} → Mutely (stopping 6 words.full (stateOf b)) b′ r
           → Mutely (tick (stateOf b)) b′ r

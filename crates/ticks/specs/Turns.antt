@@ -3,17 +3,16 @@ use Prim.Native.Nat.{ℕ, _+_, _≤_, _<_}
 use mathlib.Core.Path.{_≡_}
 use mathlib.Core.Bool.{Bool, true, false}
 use mathlib.Core.List.{List}
-use mathlib.Core.Option.{some}
 use lib.ListN.{length}
 use Rattle.rules.specs.Limits.{lastClock, leastOut, mostStatementsLarge}
 use Rattle.rules.specs.Words.{State}
 use Rattle.rules.specs.Inputs.{Work, _▸_, withClock, logging, overdue, complain, leadsNow, lead, entersNow, enter}
 use Rattle.rules.specs.Refusals.{hasRoom, running}
 use Rattle.store.specs.Layout.{sizeIn}
-use Rattle.store.specs.Decode.{names, stateOf}
+use Rattle.store.specs.Decode.{stateOf}
 use Rattle.store.specs.Meaning.{Loads}
 use Rattle.store.specs.declared.Station.{Station}
-use Rattle.commit.specs.Outcome.{tickLog, Gained}
+use Rattle.commit.specs.Outcome.{Gained}
 use Rattle.acts.specs.Works.{Formed}
 
 -- "clock plus 1"
@@ -25,6 +24,11 @@ later s = withClock (s .clock + 1) s
 unfoldable pub moving : State → Work
 unfolding complain lead enter _▸_
 moving s = complain s ▸ lead ▸ enter
+
+-- what comes before it: the new log at the new clock
+unfoldable pub growing : List ℕ → State → Work
+unfolding later logging
+growing l s = logging l (later s)
 
 -- the whole, as rules' `ticked` has it of a log
 unfoldable pub turning : List ℕ → State → Work
@@ -49,13 +53,12 @@ pub record Running (b : List ℕ) (s : Station) (room : ℕ) : Type 0 where
   pub ahead : s .clock ≡ lastClock → ⊥
   pub space : leastOut (sizeIn b) ≤ room
 
--- nothing is due at the next clock
-pub record Idle (b : List ℕ) : Type 0 where
-  pub log : tickLog b ≡ some (names b)
-  pub calm : overdue (later (stateOf b)) ≡ false
+-- nothing but the log is due at the next clock
+pub record Calm (b : List ℕ) : Type 0 where
+  pub blameless : overdue (later (stateOf b)) ≡ false
   pub led : leadsNow (later (stateOf b)) ≡ false
   pub stays : entersNow (later (stateOf b)) ≡ false
 
-abbrev pub Quiet : List ℕ → Bool → Type 0
-Quiet b true = Idle b
-Quiet b false = Unit {0}
+abbrev pub Calmly : List ℕ → Bool → Type 0
+Calmly b true = Calm b
+Calmly b false = Unit {0}

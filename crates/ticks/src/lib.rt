@@ -5,7 +5,7 @@ ghost use Prim.Native.Nat.{_+_, _*_, _≤_};
 ghost use lib.ListN.{length};
 ghost use Rattle.rules.specs.Limits.{mostStatements, leastOut};
 ghost use Rattle.rules.specs.Inputs as inputs;
-ghost use Rattle.rules.specs.Refusals.{hasRoom, running, tick};
+ghost use Rattle.rules.specs.Refusals.{hasRoom, tick};
 ghost use Rattle.store.specs.Layout.{sizeIn};
 ghost use Rattle.store.specs.Decode.{stateOf};
 ghost use Rattle.store.specs.Meaning.{Loads};
@@ -14,7 +14,7 @@ ghost use Rattle.commit.specs.Looks.{Seen};
 ghost use Rattle.acts.specs.Works.{Formed, Works};
 ghost use Rattle.turns.specs.Gains.{grownLog};
 ghost use Rattle.refusals.specs.Answers.{Answers};
-ghost use Rattle.ticks.specs.Turns.{later, moving, turning, Clear, Quiet, Running};
+ghost use Rattle.ticks.specs.Turns.{later, moving, growing, turning, Clear, Running, Calmly};
 use commit::Glance;
 use commit::Merged;
 use settings::Settings;
@@ -43,7 +43,16 @@ fn moving(store: &mut [u8], out: &mut [u8], at: usize, votes: usize) -> usize
     turns::enter(store, out, led)
 }
 
-// The clock moves on and the new log is written; then what else is due.
+// The clock moves on and the new log is written.
+fn growing(store: &mut [u8], out: &mut [u8], clock: u32, gained: &[u16], len: usize) -> usize
+    requires { ⌜ Clear (now store) (now gained) clock len (length (now out)) ⌝ }
+    ensures { λ r. ⌜ Works (growing (grownLog (now (store .entry)) (now (gained .entry)) len) (stateOf (now (store .entry)))) (now (out .entry)) 0 (now (store .exit)) (now (out .exit)) r ⌝ }
+{
+    records::set_clock(store, clock);
+    turns::logging(store, out, 0, gained, len)
+}
+
+// The same; then what else is due.
 fn turning(
     store: &mut [u8],
     out: &mut [u8],
@@ -55,29 +64,32 @@ fn turning(
     requires { ⌜ (Clear (now store) (now gained) clock len (length (now out))) × (votes ≡ inputs.votes (stateOf (now store))) ⌝ }
     ensures { λ r. ⌜ Works (turning (grownLog (now (store .entry)) (now (gained .entry)) len) (stateOf (now (store .entry)))) (now (out .entry)) 0 (now (store .exit)) (now (out .exit)) r ⌝ }
 {
-    records::set_clock(store, clock);
-    let reported = turns::logging(store, out, 0, gained, len);
+    let reported = growing(store, out, clock, gained, len);
     moving(store, out, reported, votes)
 }
 
-// Whether a tick does no more than move the clock on: the check told of all that is due for the log, and nothing else is due.
-fn is_quiet(store: &[u8], station: Station, told: &[u16], glance: Glance) -> bool
-    requires { ⌜ (Formed (now store)) × (Loads station (now store)) × (Told (now store) (now told)) × (Seen (now store) (now told) station glance) ⌝ }
-    ensures { λ r. ⌜ Quiet (now (store .entry)) r ⌝ }
+// Whether nothing but the log is due at the next clock: no blame, no new-view and no view to enter.
+fn is_calm(store: &[u8], station: Station, votes: usize) -> bool
+    requires { ⌜ (Formed (now store)) × (Loads station (now store)) × (votes ≡ inputs.votes (stateOf (now store))) ⌝ }
+    ensures { λ r. ⌜ Calmly (now (store .entry)) r ⌝ }
 {
-    if glance.settled < station.statements {
+    let next = station.clock + 1;
+    if turns::overdue_at(store, station, next, votes) {
         return false;
     }
-    let clock = station.clock + 1;
-    if turns::overdue_at(store, station, clock, glance.votes) {
-        return false;
-    }
-    !turns::leads_at(store, station, clock) & !turns::enters_at(store, station, clock)
+    !turns::leads_at(store, station, next) & !turns::enters_at(store, station, next)
 }
 
-// A tick that may do more: refused before anything is written, or done.
-fn busy(store: &mut [u8], out: &mut [u8], station: Station, told: &[u16], glance: Glance) -> u64
-    requires { ⌜ (Running (now store) station (length (now out))) × (Told (now store) (now told)) × (Seen (now store) (now told) station glance) ⌝ }
+// A tick that may do more than move the clock on: refused before anything is written, or done. Where it is calm the commits are all.
+fn busy(
+    store: &mut [u8],
+    out: &mut [u8],
+    station: Station,
+    told: &[u16],
+    glance: Glance,
+    calm: bool,
+) -> u64
+    requires { ⌜ (Running (now store) station (length (now out))) × (Told (now store) (now told)) × (Seen (now store) (now told) station glance) × (Calmly (now store) «calm») ⌝ }
     ensures { λ r. ⌜ Answers (tick (stateOf (now (store .entry)))) (now (out .entry)) (now (store .exit)) (now (out .exit)) r ⌝ }
 {
     let mut gained = [0u16; Settings::MOST_STATEMENTS_LARGE];
@@ -85,29 +97,37 @@ fn busy(store: &mut [u8], out: &mut [u8], station: Station, told: &[u16], glance
     let Merged::Grown(len) = merged else {
         return refusals::stop(store, 7, Cause::Split);
     };
+    let clock = station.clock + 1;
+    if calm {
+        return growing(store, out, clock, &gained, len) as u64;
+    }
     if !next_fits(store, station) {
         return refusals::stop(store, 6, Cause::Full);
     }
-    turning(store, out, station.clock + 1, &gained, len, glance.votes) as u64
+    turning(store, out, clock, &gained, len, glance.votes) as u64
 }
 
-// A tick of a station that runs, with what the check told of its log: refused before anything is written, or done.
+// A tick of a well-formed store, with what the check told of its log: refused before anything is written, or done.
 pub fn ticked(
     store: &mut [u8],
     out: &mut [u8],
     told: &[u16; Settings::MOST_STATEMENTS_LARGE],
 ) -> u64
-    requires { ⌜ (Formed (now store)) × (running (stateOf (now store)) ≡ true) × (leastOut (sizeIn (now store)) ≤ length (now out)) × (Told (now store) (now told)) ⌝ }
+    requires { ⌜ (Formed (now store)) × (leastOut (sizeIn (now store)) ≤ length (now out)) × (Told (now store) (now told)) ⌝ }
     ensures { λ r. ⌜ Answers (tick (stateOf (now (store .entry)))) (now (out .entry)) (now (store .exit)) (now (out .exit)) r ⌝ }
 {
     let station = Station::load(store);
+    if !refusals::is_running(store, station) {
+        return refusals::refuse(3);
+    }
     if station.clock as u64 == Settings::LAST_CLOCK {
         return refusals::stop(store, 8, Cause::Clock);
     }
     let glance = commit::look(store, station, told);
-    if is_quiet(store, station, told, glance) {
+    let calm = is_calm(store, station, glance.votes);
+    if calm & (station.statements <= glance.settled) {
         records::set_clock(store, station.clock + 1);
         return 0;
     }
-    busy(store, out, station, told, glance)
+    busy(store, out, station, told, glance, calm)
 }

@@ -208,8 +208,7 @@ pub fn logging(store: &mut [u8], out: &mut [u8], at: usize, gained: &[u16], len:
     requires { ⌜ Enough (now store) (now gained) len at (length (now out)) ⌝ }
     ensures { λ r. ⌜ Works (inputs.logging (grownLog (now (store .entry)) (now (gained .entry)) len) (stateOf (now (store .entry)))) (now (out .entry)) at (now (store .exit)) (now (out .exit)) r ⌝ }
 {
-    let station = Station::load(store);
-    let mut k = station.logged;
+    let mut k = store::get_count(store, store::LOG_COUNT);
     let mut next = at;
     while k < len {
         let x = store::statement_at(store, gained[k] as usize);

@@ -1,14 +1,15 @@
--- Reading by places is reading: a reader moves behind field after field to the end, and what it has is the message. Assumes nothing.
+-- Reading by places is reading: a reader moves behind field after field to the end, and the fields that it passed are the message. Assumes nothing.
 use Prim.Native.Nat.{ℕ, zero, suc, _+_, _-_, _*_, _/_, _%_, _^_, _<_, _≤_}
-use mathlib.Core.Path.{_≡_, refl, sym, ap, ap₂, subst, _∙_}
-use mathlib.Core.Bool.{Bool, true, false, not, _&&_, _||_, and-true}
-use mathlib.Core.List.{List, [], _∷_, _++_, map}
+use mathlib.Core.Path.{_≡_, refl, sym, ap, ap₂, _∙_}
+use mathlib.Core.Bool.{Bool, true, false, not, _&&_, and-true}
+use mathlib.Core.List.{List, [], _∷_}
 use mathlib.Core.Option.{Option, none, some, Option·map}
 use native.Mathlib.Omega.{arith}
-use lib.ListN.{length, take, drop, getD, set, length-drop, length-set, drop-of-length-le}
-use lib.Seq.{drop-cons, drop-drop, length-take-le, getD-set-same, getD-set-other}
+use native.Mathlib.Numerals.{add-one}
+use lib.ListN.{length, take, drop, getD, length-drop, drop-of-length-le}
+use lib.Seq.{drop-cons, drop-drop, length-take-le}
 use lib.Dec.{leb, eqb}
-use borrow.Author.Tests.{not-false, eqb-true, eqb-false, eq-eqb, ne-eqb, leb-true, leb-false, le-leb, lt-leb}
+use borrow.Author.Tests.{not-false, not-true, eqb-true, eqb-false, eq-eqb, ne-eqb, leb-true, leb-false, le-leb, lt-leb}
 use Rattle.fields.specs.Places.{Bytes, number}
 use Rattle.fields.proofs.Lists.{number-cons, number-piece}
 use Rattle.rules.specs.Lists.{be, unbe, iff, within as between, any, all, keep}
@@ -16,7 +17,7 @@ use Rattle.rules.specs.Messages.{Message, Row, table, rowOf, tagsOf, width, aft
 use Rattle.rules.specs.Sizes.{holds}
 use Rattle.laws.proofs.Tests.{by-bool, no-bool, and-left, and-right}
 use Rattle.laws.proofs.Truths.{iff-eq}
-use Rattle.wire.specs.Fields.{head, isField, numberOf, behind, Found, has, Tags, Place, value, start, moved, walked, made, ended}
+use Rattle.wire.specs.Fields.{head, isField, behind, has, Tags, Place, start, kindBehind, moved, walked, valuesFrom, made, ended}
 
 -- a field that stands at a place lies within the message
 pub field-room : (s : List ℕ) (at t w : ℕ) → isField s at t w ≡ true → at + 3 + w ≤ length s
@@ -36,6 +37,11 @@ pub field-test : (s : List ℕ) (at t w : ℕ) → at + 3 + w ≤ length s → e
 unfolding isField
 field-test s at t w h = rw (le-leb (at + 3 + w) (length s) h)
 
+-- the number of one byte
+pub number-byte : (s : List ℕ) (at : ℕ) → number s at 1 ≡ getD s at 0
+unfolding number
+number-byte s at = let p : at + 0 ≡ at = omega arith in rw p (omega arith)
+
 -- the number of a list's bytes is that of its place
 pub be-number : (bs : List ℕ) → be bs ≡ number bs 0 (length bs)
 unfolding be number
@@ -47,18 +53,33 @@ be-piece s at w h =
     let l : length (take w (drop at s)) ≡ w = length-take-le w (drop at s) (rw length-drop (omega arith)) in
     be-number (take w (drop at s)) ∙ rw l (number-piece s at w)
 
-width-small : (t : ℕ) → width t < 65536
+-- no value is longer than a name
+pub width-most : (t : ℕ) → width t ≤ 32
 unfolding width
-width-small zero = omega arith
-width-small (suc zero) = omega arith
-width-small (suc (suc zero)) = omega arith
-width-small (suc (suc (suc zero))) = omega arith
-width-small (suc (suc (suc (suc zero)))) = omega arith
-width-small (suc (suc (suc (suc (suc zero))))) = omega arith
-width-small (suc (suc (suc (suc (suc (suc zero)))))) = omega arith
-width-small (suc (suc (suc (suc (suc (suc (suc zero))))))) = omega arith
-width-small (suc (suc (suc (suc (suc (suc (suc (suc zero)))))))) = omega arith
-width-small (suc (suc (suc (suc (suc (suc (suc (suc (suc t))))))))) = omega arith
+width-most zero = omega arith
+width-most (suc zero) = omega arith
+width-most (suc (suc zero)) = omega arith
+width-most (suc (suc (suc zero))) = omega arith
+width-most (suc (suc (suc (suc zero)))) = omega arith
+width-most (suc (suc (suc (suc (suc zero))))) = omega arith
+width-most (suc (suc (suc (suc (suc (suc zero)))))) = omega arith
+width-most (suc (suc (suc (suc (suc (suc (suc zero))))))) = omega arith
+width-most (suc (suc (suc (suc (suc (suc (suc (suc zero)))))))) = omega arith
+width-most (suc (suc (suc (suc (suc (suc (suc (suc (suc t))))))))) = omega arith
+
+-- other tags have no value
+pub no-width : (t : ℕ) → (t ≡ 1 → ⊥) → (t ≡ 2 → ⊥) → (t ≡ 3 → ⊥) → (t ≡ 4 → ⊥) → (t ≡ 5 → ⊥) → (t ≡ 6 → ⊥) → (t ≡ 7 → ⊥) → (t ≡ 8 → ⊥) → 0 ≡ width t
+unfolding width
+no-width zero a b c d e f g h = refl
+no-width (suc zero) a b c d e f g h = absurd (a refl)
+no-width (suc (suc zero)) a b c d e f g h = absurd (b refl)
+no-width (suc (suc (suc zero))) a b c d e f g h = absurd (c refl)
+no-width (suc (suc (suc (suc zero)))) a b c d e f g h = absurd (d refl)
+no-width (suc (suc (suc (suc (suc zero))))) a b c d e f g h = absurd (e refl)
+no-width (suc (suc (suc (suc (suc (suc zero)))))) a b c d e f g h = absurd (f refl)
+no-width (suc (suc (suc (suc (suc (suc (suc zero))))))) a b c d e f g h = absurd (g refl)
+no-width (suc (suc (suc (suc (suc (suc (suc (suc zero)))))))) a b c d e f g h = absurd (h refl)
+no-width (suc (suc (suc (suc (suc (suc (suc (suc (suc t))))))))) a b c d e f g h = refl
 
 -- three bytes are a head exactly where their number is
 module _ (t w a b c : ℕ) (r : List ℕ) (hw : w < 65536) (ha : a < 256) (hb : b < 256) (hc : c < 256) where
@@ -103,6 +124,36 @@ module _ (s : List ℕ) (b : Bytes s) (at : ℕ) where
   unfolding number
   number-three = let p : at + 0 ≡ at = omega arith in rw p (omega arith)
 
+  -- a head is its tag, then its length
+  number-head : number s at 3 ≡ getD s at 0 * 65536 + number s (at + 1) 2
+  unfolding number
+  number-head =
+      let p : at + 0 ≡ at = omega arith in
+      let q : at + 1 + 0 ≡ at + 1 = omega arith in
+      let r : at + 1 + 1 ≡ at + 2 = omega arith in
+      rw (p, q, r) (omega arith)
+
+  number-two : number s (at + 1) 2 < 65536
+  unfolding number
+  number-two =
+      let p : getD s (at + 1 + 0) 0 < 256 = b (at + 1 + 0) .fits in
+      let q : getD s (at + 1 + 1) 0 < 256 = b (at + 1 + 1) .fits in
+      omega arith
+
+  -- the test of a field by the tag at its place, and by the length behind it
+  module _ (t w : ℕ) (hw : w ≤ 32) where
+    pub field-other : (getD s at 0 ≡ t → ⊥) → false ≡ isField s at t w
+    unfolding isField
+    field-other d =
+        let n : (number s at 3 ≡ head t w → ⊥) = λ e. d (omega (arith, number-head, number-two)) in
+        rw (ne-eqb (number s at 3) (head t w) n) (by-bool (leb (at + 3 + w) (length s)) (λ l. rw l) (λ l. rw l))
+
+    pub field-same : at + 3 + w ≤ length s → getD s at 0 ≡ t → eqb (number s (at + 1) 2) w ≡ isField s at t w
+    field-same h e =
+        by-bool (eqb (number s (at + 1) 2) w)
+        (λ q. q ∙ sym (eq-eqb (number s at 3) (head t w) (omega (arith, number-head, eqb-true (number s (at + 1) 2) w q))) ∙ field-test s at t w h)
+        (λ q. q ∙ sym (ne-eqb (number s at 3) (head t w) (λ f. eqb-false (number s (at + 1) 2) w q (omega (arith, number-head)))) ∙ field-test s at t w h)
+
   module _ {ℓ} {X : Type ℓ} (t : ℕ) (go : ℕ → List ℕ → Option X) where
     -- where the field stands, its number goes on with what stands after it
     field-here : isField s at t (width t) ≡ true → readField t (drop at s) go ≡ go (number s (at + 3) (width t)) (drop (at + 3 + width t) s)
@@ -113,7 +164,7 @@ module _ (s : List ℕ) (b : Bytes s) (at : ℕ) where
         let n = eqb-true (number s at 3) (head t w) (and-right (leb (at + 3 + w) (length s)) (eqb (number s at 3) (head t w)) e) in
         let k : length (drop (at + 3) s) ≡ length s - (at + 3) = length-drop (at + 3) s in
         let p : after (t ∷ unbe 2 w) (drop at s) ≡ some (drop (at + 3) s) =
-        rw (three (omega arith)) (after-head t w _ _ _ (drop (at + 3) s) (width-small t) (b at .fits) (b (at + 1) .fits) (b (at + 2) .fits) (sym number-three ∙ n)) in
+        rw (three (omega arith)) (after-head t w _ _ _ (drop (at + 3) s) (omega (arith, width-most t)) (b at .fits) (b (at + 1) .fits) (b (at + 2) .fits) (sym number-three ∙ n)) in
         rw (p, readField, le-leb w (length (drop (at + 3) s)) (omega arith), be-piece s (at + 3) w (omega arith), drop-drop)
 
     -- where it doesn't, nothing is read
@@ -128,24 +179,14 @@ module _ (s : List ℕ) (b : Bytes s) (at : ℕ) where
         by-bool (eqb (number s at 3) (head t w))
         (λ q.
         let p : after (t ∷ unbe 2 w) (drop at s) ≡ some (drop (at + 3) s) =
-        rw m (after-head t w _ _ _ (drop (at + 3) s) (width-small t) (b at .fits) (b (at + 1) .fits) (b (at + 2) .fits) (sym number-three ∙ eqb-true (number s at 3) (head t w) q)) in
+        rw m (after-head t w _ _ _ (drop (at + 3) s) (omega (arith, width-most t)) (b at .fits) (b (at + 1) .fits) (b (at + 2) .fits) (sym number-three ∙ eqb-true (number s at 3) (head t w) q)) in
         let f : length s < at + 3 + w = leb-false (at + 3 + w) (length s) (rw (q, and-true) at e) in
         rw (p, readField, lt-leb w (length (drop (at + 3) s)) (omega (arith, leb-true (at + 3) (length s) l))))
         (λ q.
         let p : after (t ∷ unbe 2 w) (drop at s) ≡ none =
-        rw m (after-other t w _ _ _ (drop (at + 3) s) (width-small t) (b at .fits) (b (at + 1) .fits) (b (at + 2) .fits) (λ f. eqb-false (number s at 3) (head t w) q (number-three ∙ f))) in
+        rw m (after-other t w _ _ _ (drop (at + 3) s) (omega (arith, width-most t)) (b at .fits) (b (at + 1) .fits) (b (at + 2) .fits) (λ f. eqb-false (number s at 3) (head t w) q (number-three ∙ f))) in
         rw (p, readField)))
         (λ l. rw (after-short t w (drop at s) (rw length-drop (omega (arith, leb-false (at + 3) (length s) l))), readField))
-
--- reading from a place on; past the end nothing is read
-abbrev readsAt : List ℕ → List ℕ → ℕ → Option (List ℕ)
-readsAt ts s at = elim (leb at (length s)) [ true ↦ reads ts (drop at s) | false ↦ none ]
-
-lost : (ts s : List ℕ) (at : ℕ) → length s < at → readsAt ts s at ≡ none
-lost ts s at h = rw (lt-leb at (length s) h, readsAt)
-
-within : (ts s : List ℕ) (at : ℕ) → at ≤ length s → readsAt ts s at ≡ reads ts (drop at s)
-within ts s at h = rw (le-leb at (length s) h, readsAt)
 
 -- a test of the numbers below one, tried on each
 unfoldable pub tried : (ℕ → Bool) → ℕ → Bool
@@ -212,222 +253,202 @@ tag-above k t h =
     (λ e. let w = in-all (between 1 8) t (1 ∷ tagsOf k) (tags-within k) e in absurd (omega (arith, leb-true t 8 (and-right (leb 1 t) (leb t 8) w))))
     sym
 
-above-four : (t : ℕ) → 1 ≤ t → (t ≡ 1 → ⊥) → (t ≡ 2 → ⊥) → (t ≡ 3 → ⊥) → (t ≡ 4 → ⊥) → 5 ≤ t
-above-four t l a b c d = omega arith
-
-eight : (t : ℕ) → 5 ≤ t → t ≤ 8 → (t ≡ 5 → ⊥) → (t ≡ 6 → ⊥) → (t ≡ 7 → ⊥) → t ≡ 8
-eight t l m e f g = omega arith
-
--- the tag of a field that a kind has
-module _ (k t : ℕ) {x : Bool} (h : x ≡ has k t) (y : not x ≡ false) where
-  pub tag-within : (1 ≤ t) × (t ≤ 8)
-  unfolding has between
-  tag-within =
-      let w = in-all (between 1 8) t (1 ∷ tagsOf k) (tags-within k) (sym h ∙ not-false x y) in
-      (leb-true 1 t (and-left (leb 1 t) (leb t 8) w), leb-true t 8 (and-right (leb 1 t) (leb t 8) w))
-
-  pub last-tag : (t ≡ 1 → ⊥) → (t ≡ 2 → ⊥) → (t ≡ 3 → ⊥) → (t ≡ 4 → ⊥) → (t ≡ 5 → ⊥) → (t ≡ 6 → ⊥) → (t ≡ 7 → ⊥) → t ≡ 8
-  last-tag a b c d e f g = eight t (above-four t (tag-within .0) a b c d) (tag-within .1) e f g
-
--- every other value than a name is a number of at most 8 bytes
-pub width-few : (t : ℕ) → t ≤ 8 → (t ≡ 4 → ⊥) → (t ≡ 5 → ⊥) → width t ≤ 8
-unfolding tried width
-width-few t l a b =
-    let p : ℕ → Bool = λ i. eqb i 4 || eqb i 5 || leb (width i) 8 in
-    let e : (eqb t 4 || eqb t 5 || leb (width t) 8) ≡ true = tried-at p 9 t refl (omega arith) in
-    leb-true (width t) 8 (rw (ne-eqb t 4 a, ne-eqb t 5 b) at e)
-
--- what is made at a place: at the end of the message, the message of its kind
+-- what is read at a place: at the end of the message, the message of its kind
 module _ (s : List ℕ) (p : Place) where
-  pub ended-made : {o : Option Message} (k : ℕ) → p .at ≡ length s → value p 1 ≡ k → o ≡ elim (rowOf k) [ none ↦ none | some row ↦ some (row .make (λ i. value p (getD (row .tags) i 0))) ] → o ≡ ended s p
-  unfolding ended made
-  ended-made k h e f = rw (eq-eqb (p .at) (length s) h, ended, made, e) f
+  pub ended-made : {o : Option Message} (k : ℕ) → p .at ≡ length s → p .kind ≡ k → o ≡ made s k → o ≡ ended s p
+  unfolding ended
+  ended-made k h e f = rw (eq-eqb (p .at) (length s) h, ended, e) f
 
   pub ended-not : (p .at ≡ length s → ⊥) → none ≡ ended s p
   unfolding ended
   ended-not h = rw (ne-eqb (p .at) (length s) h, ended)
 
+-- a kind that isn't one makes nothing
+pub made-none : (s : List ℕ) (k : ℕ) → rowOf k ≡ none → none ≡ made s k
+unfolding made
+made-none s k e = rw (e, made)
+
 -- a place as it is behind a field, or the same place
 module _ (s : List ℕ) (t : ℕ) (p : Place) where
-  pub moved-on : {v n : ℕ} → has (value p 1) t ≡ true → v ≡ numberOf s (p .at) t (width t) → n ≡ behind s (p .at) t (width t)
-      → record { at = n; values = set (p .values) t v } ≡ moved s t p
-  unfolding moved
-  moved-on h e f = rw (h, moved, e, f)
-
-  pub moved-not : has (value p 1) t ≡ false → p ≡ moved s t p
+  pub moved-not : has (p .kind) t ≡ false → p ≡ moved s t p
   unfolding moved
   moved-not h = rw (h, moved)
 
-  -- the value of a lesser tag stays, and so does the count of values
-  moved-keeps : (u : ℕ) → u < t → value (moved s t p) u ≡ value p u
-  unfolding moved
-  moved-keeps u l = by-bool (has (value p 1) t) (λ h. rw (h, moved) (getD-set-other (p .values) t u _ 0 (λ e. omega arith))) (λ h. rw (h, moved))
+  -- of another field than the first, whether it is there or not
+  moved-has : has (p .kind) t ≡ true → eqb t 1 ≡ false → moved s t p ≡ record { at = behind s (p .at) t (width t); kind = p .kind }
+  unfolding moved kindBehind
+  moved-has h e = by-bool (isField s (p .at) t (width t)) (λ q. rw (h, moved, q, kindBehind, e)) (λ q. rw (h, moved, q, kindBehind))
 
-  moved-length : length (moved s t p .values) ≡ length (p .values)
-  unfolding moved
-  moved-length = by-bool (has (value p 1) t) (λ h. rw (h, moved) (length-set (p .values) t _)) (λ h. rw (h, moved))
+  -- the same as the code finds it, of the kind's tags and the field's head
+  module _ {w : ℕ} {x y : Bool} (h : x ≡ has (p .kind) t) (l : not x ≡ false) (z : w ≡ width t) (e : y ≡ isField s (p .at) t w) where
+    is-had : has (p .kind) t ≡ true
+    is-had = sym h ∙ not-false x l
 
--- the same as the code finds it, of a tag that is known to be one
-module _ (s : List ℕ) (p : Place) {t w v n : ℕ} (j : ℕ) (e : t ≡ j) (z : w ≡ width t) (f : Found s (p .at) t w v n) where
-  pub moved-as : {x : Bool} → x ≡ has (value p 1) t → not x ≡ false → record { at = n; values = set (p .values) j v } ≡ moved s t p
-  moved-as {x} h y =
-      ap (λ (i : ℕ). record { at = n; values = set (p .values) i v }) (sym e)
-      ∙ moved-on s t p (sym h ∙ not-false x y) (f .value-is ∙ ap (numberOf s (p .at) t) z) (f .next-is ∙ ap (behind s (p .at) t) z)
+    head-is : isField s (p .at) t (width t) ≡ y
+    head-is = ap (isField s (p .at) t) (sym z) ∙ sym e
 
-  -- its value fits
-  pub value-under : v < 256 ^ width j
-  value-under = subst (λ (i : ℕ). v < 256 ^ i) (z ∙ ap width e) (f .bound)
+    pub head-room : not y ≡ false → p .at + 3 + w ≤ length s
+    head-room m = stood s (p .at) t w e (not-false y m)
+
+    pub kind-room : not y ≡ false → t ≡ 1 → p .at + 3 < length s
+    unfolding width
+    kind-room m f = let q : w ≡ 1 = z ∙ ap width f in omega (arith, head-room m)
+
+    pub moved-past : not y ≡ true → record { at = length s + 1; kind = p .kind } ≡ moved s t p
+    unfolding moved behind kindBehind
+    moved-past m = rw (is-had, moved, head-is ∙ not-true y m, behind, kindBehind, add-one)
+
+    pub moved-first : not y ≡ false → t ≡ 1 → record { at = p .at + 3 + w; kind = getD s (p .at + 3) 0 } ≡ moved s t p
+    unfolding moved behind kindBehind
+    moved-first m f = rw (is-had, moved, head-is ∙ not-false y m, behind, kindBehind, eq-eqb t 1 f, z, number-byte s (p .at + 3))
+
+    pub moved-on : not y ≡ false → (t ≡ 1 → ⊥) → record { at = p .at + 3 + w; kind = p .kind } ≡ moved s t p
+    unfolding moved behind kindBehind
+    moved-on m f = rw (is-had, moved, head-is ∙ not-false y m, behind, kindBehind, ne-eqb t 1 f, z)
 
 -- a value in front of those that were read to the end, if they were
-onto-ends : (x : Bool) (v w : ℕ) (vs : List ℕ) → w ≡ v
-    → Option·map (v ∷_) (elim x [ true ↦ some vs | false ↦ none ]) ≡ elim x [ true ↦ some (w ∷ vs) | false ↦ none ]
-onto-ends true v w vs e = rw e
-onto-ends false v w vs e = refl
+onto-ends : (x : Bool) (v : ℕ) (vs : List ℕ) → Option·map (v ∷_) (elim x [ true ↦ some vs | false ↦ none ]) ≡ elim x [ true ↦ some (v ∷ vs) | false ↦ none ]
+onto-ends true v vs = refl
+onto-ends false v vs = refl
 
--- tags in ascending order, above one and up to 8
-data Rising : ℕ → List ℕ → Type 0 where
-  top : {u : ℕ} → Rising u []
-  next : {u t : ℕ} {ts : List ℕ} → u < t → t < 9 → Rising t ts → Rising u (t ∷ ts)
+-- the place behind fields, one after the other
+abbrev passed : List ℕ → List ℕ → ℕ → ℕ
+passed s [] at = at
+passed s (t ∷ ts) at = passed s ts (behind s at t (width t))
 
-rising-from : {u t : ℕ} {ts : List ℕ} → u < t → Rising t ts → Rising u ts
-rising-from h top = top
-rising-from {u = u} h (next {t = x} a b r) = next {u = u} {t = x} (omega arith) b r
+-- what fields of these tags take
+abbrev pub sizes : List ℕ → ℕ
+sizes [] = 0
+sizes (t ∷ ts) = 3 + width t + sizes ts
 
-module _ (s : List ℕ) (b : Bytes s) where
-  -- where the field stands, its number is followed by what is read behind it
-  reads-on : (at t : ℕ) (ts : List ℕ) → readsAt (t ∷ ts) s at ≡ Option·map (numberOf s at t (width t) ∷_) (readsAt ts s (behind s at t (width t)))
-  unfolding reads isField numberOf behind
-  reads-on at t ts =
+-- the tags after the first
+abbrev pub others : List ℕ
+others = 2 ∷ 3 ∷ 4 ∷ 5 ∷ 6 ∷ 7 ∷ 8 ∷ []
+
+module _ (s : List ℕ) where
+  -- past the end nothing stands
+  past-end : (ts : List ℕ) (at : ℕ) → length s < at → length s < passed s ts at
+  unfolding behind
+  past-end [] at h = h
+  past-end (t ∷ ts) at h = rw (sym (field-short s at t (width t) (omega arith)), behind) (past-end ts (suc (length s)) (omega arith))
+
+  -- a reader that is within the message has passed all their bytes
+  passed-sizes : (ts : List ℕ) (at : ℕ) → passed s ts at ≤ length s → passed s ts at ≡ at + sizes ts
+  unfolding behind
+  passed-sizes [] at h = omega arith
+  passed-sizes (t ∷ ts) at h =
       let w = width t in
-      let go : ℕ → List ℕ → Option (List ℕ) = λ x r. Option·map (x ∷_) (reads ts r) in
       by-bool (isField s at t w)
       (λ q.
-      let l = field-room s at t w q in
-      within (t ∷ ts) s at (omega arith) ∙ field-here s b at t go q ∙ rw (q, numberOf, behind, within ts s (at + 3 + w) l))
+      let e : behind s at t w ≡ at + 3 + w = rw (q, behind) in
+      ap (passed s ts) e ∙ passed-sizes ts (at + 3 + w) (rw e at h) ∙ omega arith)
       (λ q.
-      let r : Option·map (numberOf s at t w ∷_) (readsAt ts s (behind s at t w)) ≡ none = rw (q, numberOf, behind, lost ts s (suc (length s)) (omega arith)) in
-      by-bool (leb at (length s)) (λ k. within (t ∷ ts) s at (leb-true at (length s) k) ∙ field-gone s b at t go q ∙ sym r)
-      (λ k. lost (t ∷ ts) s at (leb-false at (length s) k) ∙ sym r))
+      let e : behind s at t w ≡ suc (length s) = rw (q, behind) in
+      absurd (omega (arith, past-end ts (suc (length s)) (omega arith), rw e at h)))
 
-  -- with no field left: the end of the message, or not
-  reads-end : (at : ℕ) → readsAt [] s at ≡ elim (eqb at (length s)) [ true ↦ some [] | false ↦ none ]
-  unfolding reads
-  reads-end at =
-      by-bool (eqb at (length s))
-      (λ q.
-      let h = eqb-true at (length s) q in
-      rw q (within [] s at (omega arith) ∙ rw (drop-of-length-le s {i = at} (omega arith))))
-      (λ q.
-      let h = eqb-false at (length s) q in
-      rw q (by-bool (leb at (length s))
-      (λ k. within [] s at (leb-true at (length s) k) ∙ rw (drop-cons s at 0 (omega (arith, leb-true at (length s) k))))
-      (λ k. lost [] s at (leb-false at (length s) k))))
-
-  -- a place behind fields, one after the other
+  -- a place behind fields of other tags than the first, of those that the kind has
   abbrev walks : List ℕ → Place → Place
   walks [] p = p
   walks (t ∷ ts) p = walks ts (moved s t p)
 
-  walks-keep : (ts : List ℕ) (p : Place) (u : ℕ) → Rising u ts → value (walks ts p) u ≡ value p u
-  walks-keep [] p u r = refl
-  walks-keep (t ∷ ts) p u (next l m r) = walks-keep ts (moved s t p) u (rising-from l r) ∙ moved-keeps s t p u l
+  walks-passed : (ts : List ℕ) (p : Place) → all (λ t. not (eqb t 1)) ts ≡ true
+      → walks ts p ≡ record { at = passed s (keep (has (p .kind)) ts) (p .at); kind = p .kind }
+  unfolding all keep
+  walks-passed [] p a = refl
+  walks-passed (t ∷ ts) p a =
+      let q : Place = record { at = behind s (p .at) t (width t); kind = p .kind } in
+      let n = not-true (eqb t 1) (and-left (not (eqb t 1)) (all (λ t. not (eqb t 1)) ts) a) in
+      let m = and-right (not (eqb t 1)) (all (λ t. not (eqb t 1)) ts) a in
+      by-bool (has (p .kind) t)
+      (λ h. ap (walks ts) (moved-has s t p h n) ∙ walks-passed ts q m ∙ rw (h, keep))
+      (λ h. ap (walks ts) (sym (moved-not s t p h)) ∙ walks-passed ts p m ∙ rw (h, keep))
 
-  -- what was read so, to the end: the values of the kind's tags
-  abbrev endsAt : List ℕ → Place → Option (List ℕ)
-  endsAt ts q = elim (eqb (q .at) (length s)) [ true ↦ some (map (value q) ts) | false ↦ none ]
+  -- the place that all fields lead to, by the kind that was read
+  abbrev kindRead : ℕ
+  kindRead = kindBehind s 1 start
 
-  reads-walk : (k u : ℕ) (ts : List ℕ) (p : Place) → 1 ≤ u → value p 1 ≡ k → length (p .values) ≡ 9 → Rising u ts
-      → readsAt (keep (has k) ts) s (p .at) ≡ endsAt (keep (has k) ts) (walks ts p)
-  unfolding keep moved
-  reads-walk k u [] p o e l r = reads-end (p .at)
-  reads-walk k u (t ∷ ts) p o e l (next a m r) =
-      let z : value (moved s t p) 1 ≡ k = moved-keeps s t p 1 (omega arith) ∙ e in
-      let ih = reads-walk k t ts (moved s t p) (omega arith) z (moved-length s t p ∙ l) r in
-      let q = walks ts (moved s t p) in
-      by-bool (has k t)
-      (λ h.
-      let g : has (value p 1) t ≡ true = rw e h in
-      let v = numberOf s (p .at) t (width t) in
-      let x : moved s t p ≡ record { at = behind s (p .at) t (width t); values = set (p .values) t v } = sym (moved-on s t p g refl refl) in
-      let y : value q t ≡ v = walks-keep ts (moved s t p) t r ∙ rw x (getD-set-same (p .values) t v 0 (omega arith)) in
-      let w : moved s t p .at ≡ behind s (p .at) t (width t) = ap (λ (f : Place). f .at) x in
-      rw (h, keep) (reads-on (p .at) t (keep (has k) ts) ∙ ap (Option·map (v ∷_)) (rw w at ih)
-      ∙ onto-ends (eqb (q .at) (length s)) v (value q t) (map (value q) (keep (has k) ts)) y))
-      (λ h.
-      let g : has (value p 1) t ≡ false = rw e h in
-      let x : moved s t p ≡ p = sym (moved-not s t p g) in
-      rw (h, keep) (rw (ap (λ (f : Place). f .at) x) at ih))
+  walked-passed : walked s 8 ≡ record { at = passed s (keep (has kindRead) others) (behind s 0 1 1); kind = kindRead }
+  unfolding walked moved has any width all
+  walked-passed = walks-passed others (record { at = behind s 0 1 1; kind = kindRead }) refl
 
-  -- the message of a kind, from the bytes of a place on
-  abbrev bodyAt : ℕ → ℕ → Option Message
-  bodyAt k at = elim (leb at (length s)) [ true ↦ body k (drop at s) | false ↦ none ]
+  -- a reader at the end of a message has passed the bytes of all fields of its kind
+  pub whole : (p : Place) (k : ℕ) → p ≡ walked s 8 → p .at ≡ length s → p .kind ≡ k → length s ≡ 4 + sizes (keep (has k) others)
+  unfolding behind
+  whole p k e a f =
+      let q : p ≡ record { at = passed s (keep (has kindRead) others) (behind s 0 1 1); kind = kindRead } = e ∙ walked-passed in
+      let h : passed s (keep (has k) others) (behind s 0 1 1) ≡ length s =
+      ap (λ (k : ℕ). passed s (keep (has k) others) (behind s 0 1 1)) (sym f ∙ ap (λ (x : Place). x .kind) q) ∙ sym (ap (λ (x : Place). x .at) q) ∙ a in
+      by-bool (isField s 0 1 1)
+      (λ i.
+      let n : behind s 0 1 1 ≡ 4 = rw (i, behind) in
+      let h′ : passed s (keep (has k) others) 4 ≡ length s = rw n at h in
+      sym h′ ∙ passed-sizes (keep (has k) others) 4 (omega arith))
+      (λ i.
+      let n : behind s 0 1 1 ≡ suc (length s) = rw (i, behind) in
+      absurd (omega (arith, past-end (keep (has k) others) (suc (length s)) (omega arith), rw n at h)))
 
-  module _ (k at : ℕ) (row : Row) (q : Place) (r : rowOf k ≡ some row) (e : value q 1 ≡ k) (f : readsAt (row .tags) s at ≡ endsAt (row .tags) q) where
-    makes : List ℕ → Message
-    makes us = row .make (λ i. getD us i 0)
+module _ (s : List ℕ) (b : Bytes s) where
+  -- fields are read from a place on: to the end of the message, or not at all
+  reads-passed : (ts : List ℕ) (at : ℕ) → at ≤ length s
+      → reads ts (drop at s) ≡ elim (eqb (passed s ts at) (length s)) [ true ↦ some (valuesFrom s ts at) | false ↦ none ]
+  unfolding reads isField behind valuesFrom
+  reads-passed [] at h =
+      by-bool (eqb at (length s))
+      (λ q. rw q (rw (drop-of-length-le s {i = at} (omega (arith, eqb-true at (length s) q)))))
+      (λ q. rw q (rw (drop-cons s at 0 (omega (arith, eqb-false at (length s) q)))))
+  reads-passed (t ∷ ts) at h =
+      let w = width t in
+      let go : ℕ → List ℕ → Option (List ℕ) = λ x r. Option·map (x ∷_) (reads ts r) in
+      by-bool (isField s at t w)
+      (λ q.
+      field-here s b at t go q ∙ ap (Option·map (number s (at + 3) w ∷_)) (reads-passed ts (at + 3 + w) (field-room s at t w q))
+      ∙ onto-ends (eqb (passed s ts (at + 3 + w)) (length s)) (number s (at + 3) w) (valuesFrom s ts (at + 3 + w)) ∙ rw (q, behind))
+      (λ q.
+      let n : eqb (passed s ts (suc (length s))) (length s) ≡ false =
+      ne-eqb (passed s ts (suc (length s))) (length s) (λ e. omega (arith, past-end s ts (suc (length s)) (omega arith))) in
+      field-gone s b at t go q ∙ rw (q, behind, n))
 
-    body-reads : bodyAt k at ≡ Option·map makes (readsAt (row .tags) s at)
-    unfolding body makes
-    body-reads = by-bool (leb at (length s)) (λ z. rw (z, bodyAt, readsAt, r, body)) (λ z. rw (z, bodyAt, readsAt))
+  -- the message of a kind, from the bytes behind the first field
+  module _ (h : 4 ≤ length s) where
+    abbrev behindKind : ℕ → Place
+    behindKind k = record { at = passed s (keep (has k) others) 4; kind = k }
 
-    row-read : makes (map (value q) (row .tags)) ≡ row .make (λ i. value q (getD (row .tags) i 0)) → ended s q ≡ bodyAt k at
-    unfolding ended made
-    row-read g =
-        by-bool (eqb (q .at) (length s))
-        (λ z.
-        let h : readsAt (row .tags) s at ≡ some (map (value q) (row .tags)) = f ∙ rw (z, endsAt) in
-        rw (z, ended, made, e, r, made) (sym (body-reads ∙ ap (Option·map makes) h ∙ ap some g)))
-        (λ z.
-        let h : readsAt (row .tags) s at ≡ none = f ∙ rw (z, endsAt) in
-        rw (z, ended) (sym (body-reads ∙ ap (Option·map makes) h)))
+    row-read : (k : ℕ) (row : Row) → rowOf k ≡ some row → keep (has k) others ≡ row .tags → ended s (behindKind k) ≡ body k (drop 4 s)
+    unfolding ended made body
+    row-read k row r e =
+        by-bool (eqb (passed s (row .tags) 4) (length s))
+        (λ z. rw (e, z, ended, made, r, body, reads-passed (row .tags) 4 h, z))
+        (λ z. rw (e, z, ended, r, body, reads-passed (row .tags) 4 h, z))
 
-  none-read : (k at : ℕ) (q : Place) → rowOf k ≡ none → value q 1 ≡ k → ended s q ≡ bodyAt k at
-  unfolding ended made body
-  none-read k at q r e =
-      let x : ended s q ≡ none = by-bool (eqb (q .at) (length s)) (λ z. rw (z, ended, made, e, r, made)) (λ z. rw (z, ended)) in
-      let y : bodyAt k at ≡ none = by-bool (leb at (length s)) (λ z. rw (z, bodyAt, r, body)) (λ z. rw (z, bodyAt)) in
-      x ∙ sym y
+    none-read : (k : ℕ) → rowOf k ≡ none → ended s (behindKind k) ≡ body k (drop 4 s)
+    unfolding ended made body
+    none-read k r = by-bool (eqb (behindKind k .at) (length s)) (λ z. rw (z, ended, made, r, body)) (λ z. rw (z, ended, r, body))
 
-  -- the tags after the first
-  abbrev others : List ℕ
-  others = 2 ∷ 3 ∷ 4 ∷ 5 ∷ 6 ∷ 7 ∷ 8 ∷ []
+    kind-read : (k : ℕ) → ended s (behindKind k) ≡ body k (drop 4 s)
+    unfolding keep has any tagsOf rowOf table
+    kind-read zero = none-read 0 refl
+    kind-read (suc zero) = row-read 1 _ refl refl
+    kind-read (suc (suc zero)) = row-read 2 _ refl refl
+    kind-read (suc (suc (suc zero))) = row-read 3 _ refl refl
+    kind-read (suc (suc (suc (suc zero)))) = row-read 4 _ refl refl
+    kind-read (suc (suc (suc (suc (suc zero))))) = row-read 5 _ refl refl
+    kind-read (suc (suc (suc (suc (suc (suc zero)))))) = row-read 6 _ refl refl
+    kind-read (suc (suc (suc (suc (suc (suc (suc k))))))) = none-read (suc (suc (suc (suc (suc (suc (suc k))))))) refl
 
-  rising : Rising 1 others
-  rising =
-      next {u = 1} {t = 2} (omega arith) (omega arith) (next {u = 2} {t = 3} (omega arith) (omega arith) (next {u = 3} {t = 4} (omega arith) (omega arith)
-      (next {u = 4} {t = 5} (omega arith) (omega arith) (next {u = 5} {t = 6} (omega arith) (omega arith) (next {u = 6} {t = 7} (omega arith) (omega arith)
-      (next {u = 7} {t = 8} (omega arith) (omega arith) top))))))
-
-  kind-read : (k at : ℕ) (q : Place) → value q 1 ≡ k → readsAt (keep (has k) others) s at ≡ endsAt (keep (has k) others) q → ended s q ≡ bodyAt k at
-  unfolding keep has any tagsOf rowOf table makes
-  kind-read zero at q e f = none-read 0 at q refl e
-  kind-read (suc zero) at q e f = row-read 1 at _ q refl e f refl
-  kind-read (suc (suc zero)) at q e f = row-read 2 at _ q refl e f refl
-  kind-read (suc (suc (suc zero))) at q e f = row-read 3 at _ q refl e f refl
-  kind-read (suc (suc (suc (suc zero)))) at q e f = row-read 4 at _ q refl e f refl
-  kind-read (suc (suc (suc (suc (suc zero))))) at q e f = row-read 5 at _ q refl e f refl
-  kind-read (suc (suc (suc (suc (suc (suc zero)))))) at q e f = row-read 6 at _ q refl e f refl
-  kind-read (suc (suc (suc (suc (suc (suc (suc k))))))) at q e f = none-read (suc (suc (suc (suc (suc (suc (suc k))))))) at q refl e
-
-  -- the kind, and the message of that kind behind it
-  read-body : bodyAt (numberOf s 0 1 1) (behind s 0 1 1) ≡ read s
-  unfolding read isField width numberOf behind
-  read-body =
+  -- what is read where a reader has walked a message is what is read of it
+  pub walked-read : ended s (walked s 8) ≡ read s
+  unfolding read ended behind kindBehind width
+  walked-read =
+      let k = kindBehind s 1 start in
       by-bool (isField s 0 1 1)
       (λ q.
-      let l : 4 ≤ length s = field-room s 0 1 1 q in
-      let k-is : numberOf s 0 1 1 ≡ number s 3 1 = rw (q, numberOf) in
+      let k-is : k ≡ number s 3 1 = rw (q, kindBehind) in
       let n-is : behind s 0 1 1 ≡ 4 = rw (q, behind) in
-      ap₂ (λ (x y : ℕ). bodyAt x y) k-is n-is ∙ rw (le-leb 4 (length s) l, bodyAt) (sym (field-here s b 0 1 body q)))
+      let p : walked s 8 ≡ record { at = passed s (keep (has (number s 3 1)) others) 4; kind = number s 3 1 } =
+      walked-passed s ∙ ap₂ (λ (x y : ℕ). record { at = passed s (keep (has x) others) y; kind = x }) k-is n-is in
+      ap (ended s) p ∙ kind-read (field-room s 0 1 1 q) (number s 3 1) ∙ sym (field-here s b 0 1 body q))
       (λ q.
       let n-is : behind s 0 1 1 ≡ suc (length s) = rw (q, behind) in
-      ap (bodyAt (numberOf s 0 1 1)) n-is ∙ rw (lt-leb (suc (length s)) (length s) (omega arith), bodyAt) (sym (field-gone s b 0 1 body q)))
-
-  -- what a reader has behind all fields is what is read
-  pub walked-read : ended s (walked s 8) ≡ read s
-  unfolding walked moved has any width
-  walked-read =
-      let k = numberOf s 0 1 1 in
-      let n = behind s 0 1 1 in
-      let p : Place = record { at = n; values = 0 ∷ k ∷ 0 ∷ 0 ∷ 0 ∷ 0 ∷ 0 ∷ 0 ∷ 0 ∷ [] } in
-      kind-read k n (walks others p) (walks-keep others p 1 rising) (reads-walk k 1 others p (omega arith) refl refl rising) ∙ read-body
+      let p : walked s 8 ≡ record { at = passed s (keep (has k) others) (suc (length s)); kind = k } =
+      walked-passed s ∙ ap (λ (y : ℕ). record { at = passed s (keep (has k) others) y; kind = k }) n-is in
+      ap (ended s) p ∙ sym (ended-not s (record { at = passed s (keep (has k) others) (suc (length s)); kind = k }) (λ e. omega (arith, past-end s (keep (has k) others) (suc (length s)) (omega arith)))) ∙ sym (field-gone s b 0 1 body q))

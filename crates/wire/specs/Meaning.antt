@@ -2,7 +2,6 @@
 use Prim.Native.Nat.{ℕ, _^_, _<_}
 use mathlib.Core.Path.{_≡_}
 use mathlib.Core.Bool.{true}
-use mathlib.Core.List.{[], _∷_}
 use mathlib.Core.Option.{Option, none, some}
 use Rattle.fields.specs.Names.{nameOf}
 use Rattle.rules.specs.Messages as messages
@@ -53,14 +52,9 @@ Writable (Blame v a) = Unit
 Writable (BlameSet v m) = Unit
 Writable (Status h b c m) = Unit
 
--- a cursor: its place, and the values by their tags
+-- a cursor: its place, and its kind
 unfoldable pub placeOf : Cursor → Place
-unfolding nameOf
-placeOf c =
-    record {
-      at = c .at;
-      values = 0 ∷ c .kind ∷ c .view ∷ c .height ∷ nameOf (c .name) ∷ nameOf (c .parent) ∷ c .cert ∷ c .mask ∷ c .author ∷ [];
-    }
+placeOf c = record { at = c .at; kind = c .kind }
 
 -- the number that the paper gives to each case, 0 where there is a message, and the message: "4 unreadable message"
 pub record Answer : Type 0 where

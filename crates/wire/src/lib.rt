@@ -53,5 +53,6 @@ pub enum Read {
 pub fn read_message(message: &[u8]) -> Read
     ensures { λ r. ⌜ readOf r ≡ read (now (message .entry)) ⌝ }
 {
-    reader::walk(message)
+    let cursor = reader::walk(message);
+    kinds::message_at(message, cursor)
 }

@@ -1,7 +1,8 @@
 -- `acts::planned` meets its contract: a repeat, or what its two tallies need decides. Assumes nothing.
-use Rattle.acts.proofs.Plans.{needed-few, planned-repeat}
+use Rattle.acts.proofs.Plans.{planned-repeat}
+use Rattle.storing.proofs.Records.{needed-few}
 use Rattle.acts.proofs.Statements.{is-repeat, is-new, new-planned}
-use Rattle.acts.proofs.Places.{sendable-certifies}
+use Rattle.storing.proofs.Statements.{sendable-certifies}
 use Rattle.store.proofs.Loaded.{loaded-statements, loaded-tallies}
 use Rattle.store.proofs.Forms.{form-long, form-tallies}
 use Rattle.store.specs.Decode.{stateOf}

@@ -2,7 +2,7 @@
 use Rattle.acts.proofs.Plans.{plan-tells}
 use Rattle.acts.proofs.Statements.{code-unvoted, repeat-fits, repeat-left, stored-stands, statement-repeat}
 use Rattle.acts.proofs.Answers.{statement-new, new-room}
-use Rattle.acts.proofs.Places.{sendable-certifies}
+use Rattle.storing.proofs.Statements.{sendable-certifies}
 use Rattle.acts.proofs.Works.{formed-parts, left-formed, works-is, works-none}
 use Rattle.acts.specs.Answers.{answered}
 use Rattle.acts.specs.declared.Plan.the-variants.{Repeat, New, Full}

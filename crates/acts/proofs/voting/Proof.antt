@@ -2,7 +2,8 @@
 use Rattle.fields.specs.Names.{nameOf}
 use Rattle.acts.proofs.Votes.{voting-below, voting-cast, ballot-is, loaded-own, own-small, loaded-below}
 use Rattle.tallies.specs.Meaning.{withVoters}
-use Rattle.acts.proofs.Places.{voter-block, sendable-certifies, sendable-linked, place-sendable, place-voted, place-room, place-clock, place-found}
+use Rattle.storing.proofs.Statements.{voter-block, sendable-certifies}
+use Rattle.acts.proofs.Places.{sendable-linked, place-sendable, place-voted, place-room, place-clock, place-found}
 use Rattle.acts.proofs.Works.{formed-parts, ballot-bytes, works-is, works-none, works-saying}
 use Rattle.kept.proofs.Facts.{clocks-of}
 use Rattle.store.proofs.Loaded.{loaded-clock}

@@ -72,7 +72,7 @@ is-told-requires : tie.Need-is-told-requires Inv-loop μ-loop
 is-told-requires c κs =
     let begun = c .before .before .before .before .before .before .before .before .pre .0 in
     let up = c .before .before .before .loop .inv .up in
-    (form-long _ (begun .form), omega (arith, up, begun .all, form-statements _ (begun .form)), begun .heights (c .before .before .before .loop .i - 1) (omega (arith, up)) (ripe-propose _ _ _ _ (due c)), begun .tells .long)
+    (form-long _ (begun .form), omega (arith, up, begun .all, form-statements _ (begun .form)), begun .tells .long)
 
 loop-less-2 : tie.Need-loop-less-2 Inv-loop μ-loop
 loop-less-2 c =

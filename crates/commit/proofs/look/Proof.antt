@@ -1,7 +1,7 @@
 -- `commit::look` meets its contract, by the loaded numbers. Assumes nothing.
 use native.Mathlib.Omega.{arith}
 use borrow.Author.Needs.{needs}
-use Rattle.commit.proofs.Ticks.{begun, delay-short}
+use Rattle.commit.proofs.Ticks.{begun, views, delay-short}
 use Rattle.commit.proofs.look.Statement.{statement}
 use Rattle.commit.proofs.look.Tie as tie
 
@@ -18,7 +18,7 @@ add-look-down c = search needs
 look-down-requires : tie.Need-look-down-requires
 look-down-requires c κs =
     let pre = c .before .before .before .before .before .pre in
-    begun _ _ _ (pre .2) (pre .0) (pre .1) (pre .3)
+    (begun _ _ _ (pre .2) (pre .0) (pre .1) (pre .3), views _ (pre .1) _ (pre .2) (pre .0))
 
 returns : tie.Need-returns
 returns c = search needs

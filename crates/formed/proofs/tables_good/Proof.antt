@@ -13,8 +13,8 @@ returns : tie.Need-returns
 returns c =
     untold (tables-not _ _ _ _ (c .before .good-and-apart .ensures .is) (c .if1 .taken))
 
-all-there-requires : tie.Need-all-there-requires
-all-there-requires c κs =
+there-and-apart-requires : tie.Need-there-and-apart-requires
+there-and-apart-requires c κs =
     let p = c .before .before .before .before .before .before .before .before .pre .0 in
     (p .tallies, c .before .before .before .good-and-apart .ensures .hang (not-false _ (c .before .before .if1 .left)), p .statements, p .certify)
 
@@ -32,7 +32,7 @@ returns-2 c =
     let linked = c .before .is-linked .ensures in
     record {
       is =
-          rw (c .before .before .before .before .all-there .ensures, c .before .before .before .all-good .ensures, linked .is, c .few-opened .ensures)
+          rw (c .before .before .before .before .there-and-apart .ensures, c .before .before .before .all-good .ensures, linked .is, c .few-opened .ensures)
           (tables-then (settingsOf (c .before .before .before .before .before .before .before .before .before .before .before .before .before .args .station .settings)) _ _ _ (c .before .before .before .before .before .before .before .before .good-and-apart .ensures .is) (c .before .before .before .before .before .before .before .if1 .left));
       told = λ q. linked .told;
     }
@@ -43,7 +43,7 @@ tables-good-spec =
     (tie.spec
     good-and-apart-requires
     returns
-    all-there-requires
+    there-and-apart-requires
     all-good-requires
     is-linked-requires
     few-opened-requires

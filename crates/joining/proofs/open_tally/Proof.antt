@@ -2,20 +2,17 @@
 use Rattle.joining.proofs.Tallies.{add-tally, tally-fits}
 use Rattle.fields.proofs.Names.{name-lt}
 use Rattle.tallies.specs.Meaning.{tallyOf}
-use Rattle.store.proofs.Forms.{form-long}
+use Rattle.store.proofs.Forms.{form-long, behind-last}
 use native.Mathlib.Omega.{arith}
 use borrow.Author.Needs.{needs}
 use Rattle.joining.proofs.open_tally.Statement.{statement}
 use Rattle.joining.proofs.open_tally.Tie as tie
 
 get-count-requires : tie.Need-get-count-requires
-get-count-requires c κs =
-    omega (arith, form-long _ (c .before .before .pre .0))
+get-count-requires c κs = omega (arith, form-long _ (c .before .before .pre .0))
 
 tally-place-requires : tie.Need-tally-place-requires
-tally-place-requires c κs =
-    let start = c .before .before .before .before .before in
-    (form-long _ (start .pre .0), omega (arith, start .pre .1, c .before .before .get-count .ensures .0))
+tally-place-requires c κs = behind-last _ (c .before .before .before .before .before .pre) (c .before .before .get-count .ensures .0)
 
 put-tally-requires : tie.Need-put-tally-requires
 put-tally-requires c κs = search needs
@@ -24,9 +21,7 @@ add-put : tie.Need-add-put
 add-put c = search needs
 
 put-requires : tie.Need-put-requires
-put-requires c κs =
-    let start = c .before .before .before .before .before .before .before .before .before .before in
-    omega (arith, form-long _ (start .pre .0))
+put-requires c κs = omega (arith, form-long _ (c .before .before .before .before .before .before .before .before .before .before .pre .0))
 
 same-length : tie.Need-same-length
 same-length c = search needs

@@ -1,9 +1,9 @@
 -- `journal::find_room` meets its contract: what is looked for from a slot on is what is looked for from the first on. Assumes nothing.
-use Prim.Native.Nat.{_+_, _-_, _*_, _≤_}
+use Prim.Native.Nat.{_-_, _≤_}
 use mathlib.Core.Path.{_≡_}
 use native.Mathlib.Omega.{arith}
 use Rattle.journal.specs.Journal.{slotCount, slotsFrom, roomFrom, roomIn}
-use Rattle.journal.proofs.Rooms.{slot-count, part-held, room-starts, room-ends, at-blank, at-torn, at-bad, at-other, at-next}
+use Rattle.journal.proofs.Rooms.{slot-count, room-starts, room-ends, at-blank, at-torn, at-bad, at-other, at-next}
 use borrow.Author.Needs.{needs}
 use Rattle.journal.proofs.find_room.Statement.{statement}
 use Rattle.journal.proofs.find_room.Tie as tie
@@ -19,33 +19,18 @@ loop-holds : tie.Need-loop-holds Inv-loop μ-loop
 loop-holds c =
     (search needs, search needs, slot-count _, room-starts (c .before .args .journal .now) (slot-count _))
 
-mul-at : tie.Need-mul-at Inv-loop μ-loop
-mul-at c = search needs
-
-add-end : tie.Need-add-end Inv-loop μ-loop
-add-end c = search needs
-
-sub-judge : tie.Need-sub-judge Inv-loop μ-loop
-sub-judge c = search needs
-
-part-judge-start : tie.Need-part-judge-start Inv-loop μ-loop
-part-judge-start c = search needs
-
-part-judge-end : tie.Need-part-judge-end Inv-loop μ-loop
-part-judge-end c = search needs
-
-judge-requires : tie.Need-judge-requires Inv-loop μ-loop
-judge-requires c κs = search needs
+judge-at-requires : tie.Need-judge-at-requires Inv-loop μ-loop
+judge-at-requires c κs = omega (arith, c .before .loop .inv .2)
 
 enum-told : tie.Need-enum-told Inv-loop μ-loop
 enum-told c = search needs
 
 returns : tie.Need-returns Inv-loop μ-loop
 returns c =
-    let j = c .before .before .before .before .before .before .before .args .journal .now in
-    let l = c .before .before .before .before .before .loop in
-    let s = part-held j (l .place) {m = (l .place * 128 + 128) - l .place * 128} (c .before .before .judge .ensures) (omega arith) in
-    at-blank j (l .records) (l .place) _ (l .inv .3) (c .before .before .before .before .loop-test .taken) _ s (c .enum-told .given .1) (l .inv .2) (l .inv .1)
+    let j = c .before .before .before .before .before .before .args .journal .now in
+    let l = c .before .before .before .before .loop in
+    let s = c .before .before .judge-at .ensures .is in
+    at-blank j (l .records) (l .place) _ (l .inv .3) (c .before .before .before .loop-test .taken) _ s (c .enum-told .given .1) (l .inv .2) (l .inv .1)
 
 enum-told-2 : tie.Need-enum-told-2 Inv-loop μ-loop
 enum-told-2 c = search needs
@@ -58,30 +43,30 @@ loop-less c = search needs
 
 loop-again : tie.Need-loop-again Inv-loop μ-loop
 loop-again c =
-    let j = c .before .before .before .before .before .before .before .args .journal .now in
-    let l = c .before .before .before .before .before .loop in
-    let s = part-held j (l .place) {m = (l .place * 128 + 128) - l .place * 128} (c .before .before .judge .ensures) (omega arith) in
-    (omega arith, omega arith, l .inv .2, at-torn j (l .records) (l .place) _ (l .inv .3) (c .before .before .before .before .loop-test .taken) _ s (c .enum-told2 .given .1))
+    let j = c .before .before .before .before .before .before .args .journal .now in
+    let l = c .before .before .before .before .loop in
+    let s = c .before .before .judge-at .ensures .is in
+    (omega arith, omega arith, l .inv .2, at-torn j (l .records) (l .place) _ (l .inv .3) (c .before .before .before .loop-test .taken) _ s (c .enum-told2 .given .1))
 
 enum-told-3 : tie.Need-enum-told-3 Inv-loop μ-loop
 enum-told-3 c = search needs
 
 returns-2 : tie.Need-returns-2 Inv-loop μ-loop
 returns-2 c =
-    let j = c .before .before .before .before .before .before .before .args .journal .now in
-    let l = c .before .before .before .before .before .loop in
-    let s = part-held j (l .place) {m = (l .place * 128 + 128) - l .place * 128} (c .before .before .judge .ensures) (omega arith) in
-    at-bad j (l .records) (l .place) _ (l .inv .3) (c .before .before .before .before .loop-test .taken) _ s (c .enum-told3 .given .1)
+    let j = c .before .before .before .before .before .before .args .journal .now in
+    let l = c .before .before .before .before .loop in
+    let s = c .before .before .judge-at .ensures .is in
+    at-bad j (l .records) (l .place) _ (l .inv .3) (c .before .before .before .loop-test .taken) _ s (c .enum-told3 .given .1)
 
 enum-known-sequence : tie.Need-enum-known-sequence Inv-loop μ-loop
 enum-known-sequence c = search needs
 
 returns-3 : tie.Need-returns-3 Inv-loop μ-loop
 returns-3 c =
-    let j = c .before .before .before .before .before .before .before .before .before .args .journal .now in
-    let l = c .before .before .before .before .before .before .before .loop in
-    let s = part-held j (l .place) {m = (l .place * 128 + 128) - l .place * 128} (c .before .before .before .before .judge .ensures) (omega arith) in
-    at-other j (l .records) (l .place) _ (l .inv .3) (c .before .before .before .before .before .before .loop-test .taken) _ s (c .before .before .sequence .given .1) (c .if1 .taken)
+    let j = c .before .before .before .before .before .before .before .before .args .journal .now in
+    let l = c .before .before .before .before .before .before .loop in
+    let s = c .before .before .before .before .judge-at .ensures .is in
+    at-other j (l .records) (l .place) _ (l .inv .3) (c .before .before .before .before .before .loop-test .taken) _ s (c .before .before .sequence .given .1) (c .if1 .taken)
 
 add-records : tie.Need-add-records Inv-loop μ-loop
 add-records c = search needs
@@ -94,10 +79,10 @@ loop-less-2 c = search needs
 
 loop-again-2 : tie.Need-loop-again-2 Inv-loop μ-loop
 loop-again-2 c =
-    let j = c .before .before .before .before .before .before .before .before .before .args .journal .now in
-    let l = c .before .before .before .before .before .before .before .loop in
-    let s = part-held j (l .place) {m = (l .place * 128 + 128) - l .place * 128} (c .before .before .before .before .judge .ensures) (omega arith) in
-    (omega arith, omega arith, l .inv .2, at-next j (l .records) (l .place) _ (l .inv .3) (c .before .before .before .before .before .before .loop-test .taken) _ s (c .before .before .sequence .given .1) (c .if1 .left))
+    let j = c .before .before .before .before .before .before .before .before .args .journal .now in
+    let l = c .before .before .before .before .before .before .loop in
+    let s = c .before .before .before .before .judge-at .ensures .is in
+    (omega arith, omega arith, l .inv .2, at-next j (l .records) (l .place) _ (l .inv .3) (c .before .before .before .before .before .loop-test .taken) _ s (c .before .before .sequence .given .1) (c .if1 .left))
 
 returns-4 : tie.Need-returns-4 Inv-loop μ-loop
 returns-4 c =
@@ -110,12 +95,7 @@ find-room-spec =
     Inv-loop
     μ-loop
     loop-holds
-    mul-at
-    add-end
-    sub-judge
-    part-judge-start
-    part-judge-end
-    judge-requires
+    judge-at-requires
     enum-told
     returns
     enum-told-2

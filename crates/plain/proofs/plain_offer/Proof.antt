@@ -2,7 +2,7 @@
 use mathlib.Core.Path.{_≡_, refl}
 use Rattle.lent_list.specs.Lists.{kindOf, bytesOf, inputOf}
 use Rattle.lent_list.specs.Plain.{plainOffer}
-use Rattle.plain.proofs.Answers.{name-short, name-good}
+use Rattle.plain.proofs.Offers.{name-short, name-good}
 use borrow.Author.Needs.{needs}
 use Rattle.plain.proofs.plain_offer.Statement.{statement}
 use Rattle.plain.proofs.plain_offer.Tie as tie

@@ -6,7 +6,7 @@ use lib.ListN.{length, take, drop}
 use Rattle.slots.specs.Slots.{slotLength, judged}
 use Rattle.slots.specs.Meaning.{inputPlace, slotOf}
 use Rattle.journal.specs.Journal.{slotAt, slotsFrom, slotsOf}
-use Rattle.journal.proofs.Rooms.{slot-count, part-held}
+use Rattle.journal.proofs.Rooms.{slot-count}
 use Rattle.replay.proofs.Turns.{at-start, at-end, at-blank, at-torn, at-bad, at-other, at-untaken, at-taken, input-part, whole-within}
 use Rattle.replay.specs.Replay.{replayFrom}
 use Rattle.replay.specs.Meaning.{endOf}
@@ -26,23 +26,8 @@ loop-holds : tie.Need-loop-holds Inv-loop μ-loop
 loop-holds c =
     let a = c .before .before .before .before .args in (search needs, search needs, search needs, refl, refl, refl, at-start (a .journal .now) (a .store .now) (a .out .now) (a .report .now))
 
-mul-at : tie.Need-mul-at Inv-loop μ-loop
-mul-at c = search needs
-
-add-end : tie.Need-add-end Inv-loop μ-loop
-add-end c = search needs
-
-sub-judge : tie.Need-sub-judge Inv-loop μ-loop
-sub-judge c = search needs
-
-part-judge-start : tie.Need-part-judge-start Inv-loop μ-loop
-part-judge-start c = search needs
-
-part-judge-end : tie.Need-part-judge-end Inv-loop μ-loop
-part-judge-end c = search needs
-
-judge-requires : tie.Need-judge-requires Inv-loop μ-loop
-judge-requires c κs = search needs
+judge-at-requires : tie.Need-judge-at-requires Inv-loop μ-loop
+judge-at-requires c κs = omega (arith, slot-count (c .before .before .before .before .before .before .args .journal .now))
 
 enum-told : tie.Need-enum-told Inv-loop μ-loop
 enum-told c = search needs
@@ -58,11 +43,11 @@ same-length-3 c = search needs
 
 returns : tie.Need-returns Inv-loop μ-loop
 returns c =
-    let a = c .before .before .before .before .before .before .before .before .before .before .args in
-    let l = c .before .before .before .before .before .loop in
+    let a = c .before .before .before .before .before .before .before .before .before .args in
+    let l = c .before .before .before .before .loop in
     let j = a .journal .now in
-    let s = part-held j (l .place) {m = (l .place * 128 + 128) - l .place * 128} (c .before .before .judge .ensures) (omega arith) in
-    record { is = at-blank j _ (l .records) (l .place) (length j / 128) (l .torn) (l .store) (l .out) (l .report) (l .inv .6) (c .before .before .before .before .loop-test .taken) _ s (c .enum-told .given .1); bounded = record { records = l .inv .1; torn = l .inv .2; place = omega (arith, slot-count j, l .inv .0) } }
+    let s = c .before .before .judge-at .ensures .is in
+    record { is = at-blank j _ (l .records) (l .place) (length j / 128) (l .torn) (l .store) (l .out) (l .report) (l .inv .6) (c .before .before .before .loop-test .taken) _ s (c .enum-told .given .1); bounded = record { records = l .inv .1; torn = l .inv .2; place = omega (arith, slot-count j, l .inv .0) } }
 
 enum-told-2 : tie.Need-enum-told-2 Inv-loop μ-loop
 enum-told-2 c = search needs
@@ -75,10 +60,10 @@ add-put c = search needs
 
 put-requires : tie.Need-put-requires Inv-loop μ-loop
 put-requires c κs =
-    let a = c .before .before .before .before .before .before .before .before .before .before .before .args in
-    let l = c .before .before .before .before .before .before .loop in
+    let a = c .before .before .before .before .before .before .before .before .before .before .args in
+    let l = c .before .before .before .before .before .loop in
     let j = a .journal .now in
-    omega (arith, slot-count j, c .before .before .before .before .before .before .before .before .before .before .before .pre .1, l .inv .2, l .inv .5, c .before .before .before .before .before .loop-test .taken)
+    omega (arith, slot-count j, c .before .before .before .before .before .before .before .before .before .before .pre .1, l .inv .2, l .inv .5, c .before .before .before .before .loop-test .taken)
 
 add-torn : tie.Need-add-torn Inv-loop μ-loop
 add-torn c = search needs
@@ -91,17 +76,17 @@ loop-less c = search needs
 
 loop-again : tie.Need-loop-again Inv-loop μ-loop
 loop-again c =
-    let a = c .before .before .before .before .before .before .before .before .before .before .before .before .before .before .args in
-    let l = c .before .before .before .before .before .before .before .before .before .loop in
+    let a = c .before .before .before .before .before .before .before .before .before .before .before .before .before .args in
+    let l = c .before .before .before .before .before .before .before .before .loop in
     let j = a .journal .now in
-    let s = part-held j (l .place) {m = (l .place * 128 + 128) - l .place * 128} (c .before .before .before .before .before .before .judge .ensures) (omega arith) in (
+    let s = c .before .before .before .before .before .before .judge-at .ensures .is in (
       omega arith,
       omega arith,
       omega arith,
       l .inv .3,
       l .inv .4,
       omega (arith, c .before .before .put .kept .0, l .inv .5),
-      at-torn j _ (l .records) (l .place) (length j / 128) (l .torn) (l .store) (l .out) (l .report) (l .inv .6) (c .before .before .before .before .before .before .before .before .loop-test .taken) _ s (c .before .before .before .before .enum-told2 .given .1) (omega (arith, slot-count j, c .before .before .before .before .before .before .before .before .before .before .before .before .before .before .pre .0, c .before .before .before .before .before .before .before .before .loop-test .taken)) (c .before .before .put .ensures),
+      at-torn j _ (l .records) (l .place) (length j / 128) (l .torn) (l .store) (l .out) (l .report) (l .inv .6) (c .before .before .before .before .before .before .before .loop-test .taken) _ s (c .before .before .before .before .enum-told2 .given .1) (omega (arith, slot-count j, c .before .before .before .before .before .before .before .before .before .before .before .before .before .pre .0, c .before .before .before .before .before .before .before .loop-test .taken)) (c .before .before .put .ensures),
     )
 
 enum-told-3 : tie.Need-enum-told-3 Inv-loop μ-loop
@@ -118,11 +103,11 @@ same-length-6 c = search needs
 
 returns-2 : tie.Need-returns-2 Inv-loop μ-loop
 returns-2 c =
-    let a = c .before .before .before .before .before .before .before .before .before .before .args in
-    let l = c .before .before .before .before .before .loop in
+    let a = c .before .before .before .before .before .before .before .before .before .args in
+    let l = c .before .before .before .before .loop in
     let j = a .journal .now in
-    let s = part-held j (l .place) {m = (l .place * 128 + 128) - l .place * 128} (c .before .before .judge .ensures) (omega arith) in
-    record { is = at-bad j _ (l .records) (l .place) (length j / 128) (l .torn) (l .store) (l .out) (l .report) (l .inv .6) (c .before .before .before .before .loop-test .taken) _ s (c .enum-told3 .given .1); bounded = record { records = l .inv .1; torn = l .inv .2; place = omega (arith, slot-count j, l .inv .0) } }
+    let s = c .before .before .judge-at .ensures .is in
+    record { is = at-bad j _ (l .records) (l .place) (length j / 128) (l .torn) (l .store) (l .out) (l .report) (l .inv .6) (c .before .before .before .loop-test .taken) _ s (c .enum-told3 .given .1); bounded = record { records = l .inv .1; torn = l .inv .2; place = omega (arith, slot-count j, l .inv .0) } }
 
 enum-known-sequence : tie.Need-enum-known-sequence Inv-loop μ-loop
 enum-known-sequence c = search needs
@@ -138,18 +123,21 @@ same-length-9 c = search needs
 
 returns-3 : tie.Need-returns-3 Inv-loop μ-loop
 returns-3 c =
-    let a = c .before .before .before .before .before .before .before .before .before .before .before .before .args in
-    let l = c .before .before .before .before .before .before .before .loop in
+    let a = c .before .before .before .before .before .before .before .before .before .before .before .args in
+    let l = c .before .before .before .before .before .before .loop in
     let j = a .journal .now in
-    let s = part-held j (l .place) {m = (l .place * 128 + 128) - l .place * 128} (c .before .before .before .before .judge .ensures) (omega arith) in
-    record { is = at-other j _ (l .records) (l .place) (length j / 128) (l .torn) (l .store) (l .out) (l .report) (l .inv .6) (c .before .before .before .before .before .before .loop-test .taken) _ s (c .before .before .sequence .given .1) (c .if1 .taken); bounded = record { records = l .inv .1; torn = l .inv .2; place = omega (arith, slot-count j, l .inv .0) } }
+    let s = c .before .before .before .before .judge-at .ensures .is in
+    record { is = at-other j _ (l .records) (l .place) (length j / 128) (l .torn) (l .store) (l .out) (l .report) (l .inv .6) (c .before .before .before .before .before .loop-test .taken) _ s (c .before .before .sequence .given .1) (c .if1 .taken); bounded = record { records = l .inv .1; torn = l .inv .2; place = omega (arith, slot-count j, l .inv .0) } }
+
+mul-from : tie.Need-mul-from Inv-loop μ-loop
+mul-from c = search needs
 
 add-from : tie.Need-add-from Inv-loop μ-loop
 add-from c = search needs
 
 add-to : tie.Need-add-to Inv-loop μ-loop
 add-to c =
-    omega (arith, whole-within (c .before .before .before .before .judge .ensures .within) (c .before .before .sequence .given .1))
+    omega (arith, whole-within (c .before .before .before .before .judge-at .ensures .within) (c .before .before .sequence .given .1))
 
 sub-hand : tie.Need-sub-hand Inv-loop μ-loop
 sub-hand c = search needs
@@ -159,7 +147,7 @@ part-hand-start c = search needs
 
 part-hand-end : tie.Need-part-hand-end Inv-loop μ-loop
 part-hand-end c =
-    omega (arith, whole-within (c .before .before .before .before .judge .ensures .within) (c .before .before .sequence .given .1))
+    omega (arith, whole-within (c .before .before .before .before .judge-at .ensures .within) (c .before .before .sequence .given .1))
 
 hand-requires : tie.Need-hand-requires Inv-loop μ-loop
 hand-requires c κs = search needs
@@ -178,23 +166,21 @@ loop-less-2 c = search needs
 
 -- the slot was judged, and its input lies in it
 slot : (c : tie.After-is-taken Inv-loop μ-loop)
-    → slotOf (slotAt (c .before .before .before .before .before .before .before .before .before .before .before .before .before .before .before .before .before .before .before .before .before .args .journal .now) (c .before .before .before .before .before .before .before .before .before .before .before .before .before .before .before .before .loop .place)) (c .before .before .before .before .before .before .before .before .before .before .before .before .before .judge .result) ≡ judged (slotAt (c .before .before .before .before .before .before .before .before .before .before .before .before .before .before .before .before .before .before .before .before .before .args .journal .now) (c .before .before .before .before .before .before .before .before .before .before .before .before .before .before .before .before .loop .place))
-slot c =
-    let p = c .before .before .before .before .before .before .before .before .before .before .before .before .before .before .before .before .loop .place in
-    part-held (c .before .before .before .before .before .before .before .before .before .before .before .before .before .before .before .before .before .before .before .before .before .args .journal .now) p {m = (p * 128 + 128) - p * 128} (c .before .before .before .before .before .before .before .before .before .before .before .before .before .judge .ensures) (omega arith)
+    → slotOf (slotAt (c .before .before .before .before .before .before .before .before .before .before .before .before .before .before .before .before .before .before .before .before .args .journal .now) (c .before .before .before .before .before .before .before .before .before .before .before .before .before .before .before .loop .place)) (c .before .before .before .before .before .before .before .before .before .before .before .before .before .judge-at .result) ≡ judged (slotAt (c .before .before .before .before .before .before .before .before .before .before .before .before .before .before .before .before .before .before .before .before .args .journal .now) (c .before .before .before .before .before .before .before .before .before .before .before .before .before .before .before .loop .place))
+slot c = c .before .before .before .before .before .before .before .before .before .before .before .before .before .judge-at .ensures .is
 
 input : (c : tie.After-is-taken Inv-loop μ-loop)
-    → take (c .before .before .before .before .before .before .before .before .before .before .before .sequence .given .0 .1 .1 .0) (drop inputPlace (slotAt (c .before .before .before .before .before .before .before .before .before .before .before .before .before .before .before .before .before .before .before .before .before .args .journal .now) (c .before .before .before .before .before .before .before .before .before .before .before .before .before .before .before .before .loop .place)))
-    ≡ take ((c .before .before .before .before .before .before .before .before .before .before .before .before .before .before .before .before .loop .place * 128 + 11 + c .before .before .before .before .before .before .before .before .before .before .before .sequence .given .0 .1 .1 .0) - (c .before .before .before .before .before .before .before .before .before .before .before .before .before .before .before .before .loop .place * 128 + 11)) (drop (c .before .before .before .before .before .before .before .before .before .before .before .before .before .before .before .before .loop .place * slotLength + inputPlace) (c .before .before .before .before .before .before .before .before .before .before .before .before .before .before .before .before .before .before .before .before .before .args .journal .now))
+    → take (c .before .before .before .before .before .before .before .before .before .before .before .sequence .given .0 .1 .1 .0) (drop inputPlace (slotAt (c .before .before .before .before .before .before .before .before .before .before .before .before .before .before .before .before .before .before .before .before .args .journal .now) (c .before .before .before .before .before .before .before .before .before .before .before .before .before .before .before .loop .place)))
+    ≡ take ((c .before .before .before .before .before .before .before .before .before .before .before .before .before .before .before .loop .place * 128 + 11 + c .before .before .before .before .before .before .before .before .before .before .before .sequence .given .0 .1 .1 .0) - (c .before .before .before .before .before .before .before .before .before .before .before .before .before .before .before .loop .place * 128 + 11)) (drop (c .before .before .before .before .before .before .before .before .before .before .before .before .before .before .before .loop .place * slotLength + inputPlace) (c .before .before .before .before .before .before .before .before .before .before .before .before .before .before .before .before .before .before .before .before .args .journal .now))
 input c =
-    let p = c .before .before .before .before .before .before .before .before .before .before .before .before .before .before .before .before .loop .place in
+    let p = c .before .before .before .before .before .before .before .before .before .before .before .before .before .before .before .loop .place in
     let m = c .before .before .before .before .before .before .before .before .before .before .before .sequence .given .0 .1 .1 .0 in
-    input-part (c .before .before .before .before .before .before .before .before .before .before .before .before .before .before .before .before .before .before .before .before .before .args .journal .now) p m ((p * 128 + 11 + m) - (p * 128 + 11)) (whole-within (c .before .before .before .before .before .before .before .before .before .before .before .before .before .judge .ensures .within) (c .before .before .before .before .before .before .before .before .before .before .before .sequence .given .1)) (omega arith)
+    input-part (c .before .before .before .before .before .before .before .before .before .before .before .before .before .before .before .before .before .before .before .before .args .journal .now) p m ((p * 128 + 11 + m) - (p * 128 + 11)) (whole-within (c .before .before .before .before .before .before .before .before .before .before .before .before .before .judge-at .ensures .within) (c .before .before .before .before .before .before .before .before .before .before .before .sequence .given .1)) (omega arith)
 
 loop-again-2 : tie.Need-loop-again-2 Inv-loop μ-loop
 loop-again-2 c =
-    let a = c .before .before .before .before .before .before .before .before .before .before .before .before .before .before .before .before .before .before .before .before .before .before .args in
-    let l = c .before .before .before .before .before .before .before .before .before .before .before .before .before .before .before .before .before .loop in
+    let a = c .before .before .before .before .before .before .before .before .before .before .before .before .before .before .before .before .before .before .before .before .before .args in
+    let l = c .before .before .before .before .before .before .before .before .before .before .before .before .before .before .before .before .loop in
     let j = a .journal .now in (
       omega arith,
       omega arith,
@@ -202,7 +188,7 @@ loop-again-2 c =
       omega (arith, c .before .before .before .before .before .before .hand .kept .1 .1 .0, l .inv .3),
       omega (arith, c .before .before .before .before .before .before .hand .kept .1 .1 .1 .0, l .inv .4),
       l .inv .5,
-      at-taken j _ (l .records) (l .place) (length j / 128) (l .torn) (l .store) (l .out) (l .report) (l .inv .6) (c .before .before .before .before .before .before .before .before .before .before .before .before .before .before .before .before .loop-test .taken) _ (slot (c .before)) (c .before .before .before .before .before .before .before .before .before .before .before .before .sequence .given .1) (c .before .before .before .before .before .before .hand .ensures) (c .before .before .before .before .before .before .before .before .before .before .if1 .left) (input (c .before)) (c .before .is-taken .ensures) (c .if2 .taken),
+      at-taken j _ (l .records) (l .place) (length j / 128) (l .torn) (l .store) (l .out) (l .report) (l .inv .6) (c .before .before .before .before .before .before .before .before .before .before .before .before .before .before .before .loop-test .taken) _ (slot (c .before)) (c .before .before .before .before .before .before .before .before .before .before .before .before .sequence .given .1) (c .before .before .before .before .before .before .hand .ensures) (c .before .before .before .before .before .before .before .before .before .before .if1 .left) (input (c .before)) (c .before .is-taken .ensures) (c .if2 .taken),
     )
 
 same-length-10 : tie.Need-same-length-10 Inv-loop μ-loop
@@ -216,10 +202,10 @@ same-length-12 c = search needs
 
 returns-4 : tie.Need-returns-4 Inv-loop μ-loop
 returns-4 c =
-    let a = c .before .before .before .before .before .before .before .before .before .before .before .before .before .before .before .before .before .before .before .before .before .before .args in
-    let l = c .before .before .before .before .before .before .before .before .before .before .before .before .before .before .before .before .before .loop in
+    let a = c .before .before .before .before .before .before .before .before .before .before .before .before .before .before .before .before .before .before .before .before .before .args in
+    let l = c .before .before .before .before .before .before .before .before .before .before .before .before .before .before .before .before .loop in
     let j = a .journal .now in
-    record { is = at-untaken j _ (l .records) (l .place) (length j / 128) (l .torn) (l .store) (l .out) (l .report) (l .inv .6) (c .before .before .before .before .before .before .before .before .before .before .before .before .before .before .before .before .loop-test .taken) _ (slot (c .before)) (c .before .before .before .before .before .before .before .before .before .before .before .before .sequence .given .1) (c .before .before .before .before .before .before .hand .ensures) (c .before .before .before .before .before .before .before .before .before .before .if1 .left) (input (c .before)) (c .before .is-taken .ensures) (c .if2 .left); bounded = record { records = l .inv .1; torn = l .inv .2; place = omega (arith, slot-count j, l .inv .0) } }
+    record { is = at-untaken j _ (l .records) (l .place) (length j / 128) (l .torn) (l .store) (l .out) (l .report) (l .inv .6) (c .before .before .before .before .before .before .before .before .before .before .before .before .before .before .before .loop-test .taken) _ (slot (c .before)) (c .before .before .before .before .before .before .before .before .before .before .before .before .sequence .given .1) (c .before .before .before .before .before .before .hand .ensures) (c .before .before .before .before .before .before .before .before .before .before .if1 .left) (input (c .before)) (c .before .is-taken .ensures) (c .if2 .left); bounded = record { records = l .inv .1; torn = l .inv .2; place = omega (arith, slot-count j, l .inv .0) } }
 
 same-length-13 : tie.Need-same-length-13 Inv-loop μ-loop
 same-length-13 c = search needs
@@ -244,12 +230,7 @@ replay-slots-spec =
     Inv-loop
     μ-loop
     loop-holds
-    mul-at
-    add-end
-    sub-judge
-    part-judge-start
-    part-judge-end
-    judge-requires
+    judge-at-requires
     enum-told
     same-length
     same-length-2
@@ -273,6 +254,7 @@ replay-slots-spec =
     same-length-8
     same-length-9
     returns-3
+    mul-from
     add-from
     add-to
     sub-hand

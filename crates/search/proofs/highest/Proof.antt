@@ -1,16 +1,16 @@
 -- `search::highest` meets its contract: the highest of what was passed is known. Assumes nothing.
-use Prim.Native.Nat.{_-_, _≤_}
-use mathlib.Core.Path.{_≡_, _∙_, ap}
-use native.Mathlib.Omega.{arith}
-use Rattle.rules.specs.Words as words
-use Rattle.rules.specs.Words.{certificateOf}
-use Rattle.settings.specs.Made.{settingsOf}
-use Rattle.words.specs.Meaning.{blockOf}
-use Rattle.store.specs.Layout.{tallyTable, countOf}
-use Rattle.store.specs.Decode.{rows, tallyAt, tallies, stateOf}
-use Rattle.store.proofs.Loaded.{loaded-settings, loaded-tallies}
+use Rattle.search.proofs.Tops.{chosen-below, highest-none, highest-step, highest-all}
 use Rattle.search.proofs.Counts.{long, few-tallies}
-use Rattle.search.proofs.Tops.{highest-none, highest-step, highest-all}
+use Rattle.store.proofs.Loaded.{loaded-settings, loaded-tallies}
+use Rattle.store.specs.Decode.{rows, tallyAt, tallies, stateOf}
+use Rattle.store.specs.Layout.{tallyTable, countOf}
+use Rattle.words.specs.Meaning.{blockOf}
+use Rattle.settings.specs.Made.{settingsOf}
+use Rattle.rules.specs.Words.{certificateOf}
+use Rattle.rules.specs.Words as words
+use native.Mathlib.Omega.{arith}
+use mathlib.Core.Path.{_≡_, refl, sym, _∙_, ap}
+use Prim.Native.Nat.{_-_, _≤_}
 use Rattle.search.proofs.highest.Statement.{statement}
 use Rattle.search.proofs.highest.Tie as tie
 
@@ -27,38 +27,61 @@ load-requires c κs =
     omega (arith, long (c .before .pre))
 
 genesis-requires : tie.Need-genesis-requires Inv-loop μ-loop
-genesis-requires c κs = tt
+genesis-requires c κs =
+    tt
 
 loop-holds : tie.Need-loop-holds Inv-loop μ-loop
 loop-holds c =
-    let e = loaded-tallies (c .before .before .load .result) (c .before .before .before .before .args .store .now) (c .before .before .load .ensures) in
-    (omega (arith, e), c .genesis .ensures ∙ highest-none (stateOf (c .before .before .before .before .args .store .now) .settings) (c .before .before .before .before .args .view) (tallyAt (c .before .before .before .before .args .store .now)) (countOf tallyTable (c .before .before .before .before .args .store .now)) (c .before .before .load .result .tallies) (omega (arith, e)))
+    let a = c .before .before .before .before .args in
+    let b = a .store .now in
+    let e = loaded-tallies (c .before .before .load .result) b (c .before .before .load .ensures) in
+    (omega (arith, e), c .genesis .ensures ∙ highest-none (stateOf b .settings) (a .view) (tallyAt b) (countOf tallyTable b) (c .before .before .load .result .tallies) (omega (arith, e)))
 
 sub-i : tie.Need-sub-i Inv-loop μ-loop
 sub-i c =
     c .loop-test .taken
 
+ranks-below-requires : tie.Need-ranks-below-requires Inv-loop μ-loop
+ranks-below-requires c κs =
+    (long (c .before .before .before .before .before .before .pre), omega (arith, few-tallies (c .before .before .before .before .before .before .pre), c .before .loop .inv .0))
+
+loop-less : tie.Need-loop-less Inv-loop μ-loop
+loop-less c =
+    omega arith
+
+loop-again : tie.Need-loop-again Inv-loop μ-loop
+loop-again c =
+    let a = c .before .before .before .before .before .before .before .before .args in
+    let b = a .store .now in
+    let l = c .before .before .before .loop in
+    let g = stateOf b .settings in
+    let t = certificateOf (tallyAt b (l .i - 1)) in
+    (omega (arith, l .inv .0), highest-step g (a .view) (tallyAt b) (countOf tallyTable b) (l .i) (c .before .before .loop-test .taken) (l .inv .0) g t (blockOf (l .best)) (blockOf (l .best)) refl refl (l .inv .1) (chosen-below g (a .view) t (blockOf (l .best)) (sym (c .before .ranks-below .ensures) ∙ c .if1 .taken)))
+
 tally-at-requires : tie.Need-tally-at-requires Inv-loop μ-loop
 tally-at-requires c κs =
-    (long (c .before .before .before .before .before .before .pre), omega (arith, few-tallies (c .before .before .before .before .before .before .pre)))
+    (long (c .before .before .before .before .before .before .before .before .pre), omega (arith, few-tallies (c .before .before .before .before .before .before .before .before .pre), c .before .before .before .loop .inv .0))
 
 certificate-requires : tie.Need-certificate-requires Inv-loop μ-loop
-certificate-requires c κs = tt
+certificate-requires c κs =
+    tt
 
 better-requires : tie.Need-better-requires Inv-loop μ-loop
 better-requires c κs =
     tt
 
-loop-less : tie.Need-loop-less Inv-loop μ-loop
-loop-less c = omega arith
+loop-less-2 : tie.Need-loop-less-2 Inv-loop μ-loop
+loop-less-2 c =
+    omega arith
 
-loop-again : tie.Need-loop-again Inv-loop μ-loop
-loop-again c =
-    let a = c .before .before .before .before .before .before .before .before .before .args in
+loop-again-2 : tie.Need-loop-again-2 Inv-loop μ-loop
+loop-again-2 c =
+    let a = c .before .before .before .before .before .before .before .before .before .before .before .args in
     let b = a .store .now in
-    let l = c .before .before .before .before .loop in
+    let l = c .before .before .before .before .before .before .loop in
+    let loaded = c .before .before .before .before .before .before .before .before .before .load in
     let tally = c .before .certificate .ensures ∙ ap certificateOf (c .before .before .tally-at .ensures) in
-    (omega (arith, l .inv .0), highest-step (stateOf b .settings) (a .view) (tallyAt b) (countOf tallyTable b) (l .i) (c .before .before .before .loop-test .taken) (l .inv .0) (settingsOf (c .before .before .before .before .before .before .before .load .result .settings)) (blockOf (c .before .certificate .result)) (blockOf (l .best)) (blockOf (c .better .result)) (loaded-settings (c .before .before .before .before .before .before .before .load .result) b (c .before .before .before .before .before .before .before .load .ensures)) tally (l .inv .1) (c .better .ensures))
+    (omega (arith, l .inv .0), highest-step (stateOf b .settings) (a .view) (tallyAt b) (countOf tallyTable b) (l .i) (c .before .before .before .before .before .loop-test .taken) (l .inv .0) (settingsOf (loaded .result .settings)) (blockOf (c .before .certificate .result)) (blockOf (l .best)) (blockOf (c .better .result)) (loaded-settings (loaded .result) b (loaded .ensures)) tally (l .inv .1) (c .better .ensures))
 
 returns : tie.Need-returns Inv-loop μ-loop
 unfolding tallies
@@ -76,9 +99,12 @@ highest-spec =
     genesis-requires
     loop-holds
     sub-i
+    ranks-below-requires
+    loop-less
+    loop-again
     tally-at-requires
     certificate-requires
     better-requires
-    loop-less
-    loop-again
+    loop-less-2
+    loop-again-2
     returns)

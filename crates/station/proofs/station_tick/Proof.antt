@@ -1,17 +1,17 @@
--- `station_tick` meets its contract: barred, or the rules answer. Assumes nothing.
+-- `station_tick` meets its contract: refused by the check, or the rules answer. Assumes nothing.
 use native.Mathlib.Omega.{arith}
-use Rattle.refusals.proofs.Opening.{barred-small}
-use Rattle.station.proofs.Ticks.{barred-tick, tick-may, tick-gives}
+use Rattle.refusals.proofs.Opening.{unformed-small}
+use Rattle.station.proofs.Ticks.{unformed-tick, tick-may, tick-gives}
 use borrow.Author.Needs.{needs}
 use Rattle.station.proofs.station_tick.Statement.{statement}
 use Rattle.station.proofs.station_tick.Tie as tie
 
-barred-told-requires : tie.Need-barred-told-requires
-barred-told-requires c κs = search needs
+checked-requires : tie.Need-checked-requires
+checked-requires c κs = search needs
 
 refuse-requires : tie.Need-refuse-requires
 refuse-requires c κs =
-    let a = c .before .before .before .before .before .before .before .args in omega (arith, c .before .barred-told .ensures .is, barred-small (a .store .now) (a .out .now))
+    let a = c .before .before .before .before .before .before .before .args in omega (arith, c .before .checked .ensures .is, unformed-small (a .store .now) (a .out .now))
 
 same-length : tie.Need-same-length
 same-length c = search needs
@@ -21,15 +21,15 @@ same-length-2 c = search needs
 
 returns : tie.Need-returns
 returns c =
-    let a = c .before .before .before .before .before .before .before .before .args in barred-tick (a .store .now) (a .out .now) (c .before .before .before .before .before .before .before .slice-known .given) (c .before .before .barred-told .ensures .is) (c .before .if1 .taken) (c .refuse .ensures)
+    let a = c .before .before .before .before .before .before .before .before .args in unformed-tick (a .store .now) (a .out .now) (c .before .before .checked .ensures .is) (c .before .if1 .taken) (c .refuse .ensures)
 
 ticked-requires : tie.Need-ticked-requires
 ticked-requires c κs =
     let a = c .before .before .before .before .before .before .before .before .before .before .args in
-    let bars = c .before .before .before .before .barred-told .ensures in
-    let unbarred = c .before .before .before .if1 .left in
-    let may = tick-may (a .store .now) (a .out .now) (c .before .before .before .before .before .before .before .before .before .slice-known .given) (bars .is) unbarred in
-    (may .0, may .1, may .2, bars .told unbarred)
+    let checks = c .before .before .before .before .checked .ensures in
+    let formed = c .before .before .before .if1 .left in
+    let may = tick-may (a .store .now) (a .out .now) (checks .is) (c .before .before .before .before .before .before .before .before .before .slice-known .given) formed in
+    (may .0, may .1, checks .told formed)
 
 same-length-3 : tie.Need-same-length-3
 same-length-3 c = search needs
@@ -39,13 +39,13 @@ same-length-4 c = search needs
 
 returns-2 : tie.Need-returns-2
 returns-2 c =
-    let a = c .before .before .before .before .before .before .before .before .before .before .before .before .before .before .before .args in tick-gives (a .store .now) (a .out .now) (c .before .before .before .before .before .before .before .before .before .before .before .before .before .before .slice-known .given) (c .before .before .before .before .before .before .before .before .before .barred-told .ensures .is) (c .before .before .before .before .before .before .before .before .if1 .left) (c .before .before .before .before .ticked .ensures)
+    let a = c .before .before .before .before .before .before .before .before .before .before .before .before .before .before .before .args in tick-gives (a .store .now) (a .out .now) (c .before .before .before .before .before .before .before .before .before .checked .ensures .is) (c .before .before .before .before .before .before .before .before .before .before .before .before .before .before .slice-known .given) (c .before .before .before .before .before .before .before .before .if1 .left) (c .before .before .before .before .ticked .ensures)
 
 pub station-tick-spec : {M : Type 1} → statement M
 station-tick-spec =
     tie.close
     (tie.spec
-    barred-told-requires
+    checked-requires
     refuse-requires
     same-length
     same-length-2

@@ -1,23 +1,18 @@
--- `ticks::turning` meets its contract: the clock, the log, and what follows. Assumes nothing.
-use Rattle.ticks.proofs.Turns.{enough-now, logged-formed, logged-room, logged-space, logged-votes, turned}
+-- `ticks::turning` meets its contract: what follows the log. Assumes nothing.
+use Rattle.ticks.proofs.Turns.{grown-formed, grown-room, grown-votes, grown-space, turned}
 use borrow.Author.Needs.{needs}
 use Rattle.ticks.proofs.turning.Statement.{statement}
 use Rattle.ticks.proofs.turning.Tie as tie
 
-set-clock-requires : tie.Need-set-clock-requires
-set-clock-requires c κs = search needs
-
-logging-requires : tie.Need-logging-requires
-logging-requires c κs =
-    let p = c .before .before .before .before .before .before .before .before .before .pre .0 in
-    enough-now (p .formed) (p .last) (p .gained) (p .next) (c .before .before .before .before .set-clock .ensures) (p .long) (p .space)
+growing-requires : tie.Need-growing-requires
+growing-requires c κs =
+    c .before .before .before .before .before .pre .0
 
 moving-requires : tie.Need-moving-requires
 moving-requires c κs =
-    let p = c .before .before .before .before .before .before .before .before .before .before .before .before .before .before .before .before .pre .0 in
-    let l = c .before .before .before .before .before .before .before .before .before .before .before .set-clock .ensures in
-    let w = c .before .before .before .before .before .before .logging .ensures in
-    (logged-formed (p .formed) (p .last) (p .gained) (p .next) l w, logged-room (p .formed) (p .last) (p .gained) (p .next) l w (p .fits), logged-space (p .formed) (p .last) (p .gained) (p .next) l w (p .space), logged-votes (p .formed) (p .last) (p .gained) (p .next) l w (c .before .before .before .before .before .before .before .before .before .before .before .before .before .before .before .before .pre .1))
+    let p = c .before .before .before .before .before .before .before .before .before .before .before .before .pre .0 in
+    let w = c .before .before .before .before .before .before .growing .ensures in
+    (grown-formed (p .formed) (p .last) (p .gained) w, grown-room (p .formed) (p .last) (p .gained) w (p .fits), grown-space (p .formed) (p .last) (p .gained) w (p .space), grown-votes (p .formed) (p .last) (p .gained) w (c .before .before .before .before .before .before .before .before .before .before .before .before .pre .1))
 
 same-length : tie.Need-same-length
 same-length c = search needs
@@ -27,9 +22,8 @@ same-length-2 c = search needs
 
 returns : tie.Need-returns
 returns c =
-    let p = c .before .before .before .before .before .before .before .before .before .before .before .before .before .before .before .before .before .before .before .before .before .pre .0 in
-    turned (p .formed) (p .last) (p .gained) (p .next) (c .before .before .before .before .before .before .before .before .before .before .before .before .before .before .before .before .set-clock .ensures) (c .before .before .before .before .before .before .before .before .before .before .before .logging .ensures) (c .before .before .before .before .moving .ensures)
+    let p = c .before .before .before .before .before .before .before .before .before .before .before .before .before .before .before .before .before .pre .0 in turned (p .formed) (p .last) (p .gained) (c .before .before .before .before .before .before .before .before .before .before .before .growing .ensures) (c .before .before .before .before .moving .ensures)
 
 pub turning-spec : {M : Type 1} → statement M
 turning-spec =
-    tie.close (tie.spec set-clock-requires logging-requires moving-requires same-length same-length-2 returns)
+    tie.close (tie.spec growing-requires moving-requires same-length same-length-2 returns)

@@ -1,7 +1,6 @@
 -- `turns::logging` meets its contract. The invariant: the names up to k are logged and reported. The measure is what is left. Assumes nothing.
 use Rattle.fields.specs.Names.{nameOf}
 use Rattle.turns.proofs.Names.{enough-few, Logged, logged-none, logged-next, logged-size, logged-count, logged-name, logged-ends, logged-done, committed-bytes}
-use Rattle.store.proofs.Loaded.{loaded-logged}
 use Rattle.store.proofs.Forms.{form-long, form-statements}
 use native.Mathlib.Omega.{arith}
 use Prim.Native.Nat.{_+_, _-_, _≤_}
@@ -20,16 +19,15 @@ abbrev μ-loop : tie.MeasureT-loop
 μ-loop store₀ out₀ at gained len k₀ next₀ store out k next =
     len - k
 
-load-requires : tie.Need-load-requires Inv-loop μ-loop
-load-requires c κs =
+get-count-requires : tie.Need-get-count-requires Inv-loop μ-loop
+get-count-requires c κs =
     omega (arith, form-long _ (c .before .before .before .before .pre .form))
 
 loop-holds : tie.Need-loop-holds Inv-loop μ-loop
 loop-holds c =
     let a = c .before .before .before .before .before .args in
     let p = c .before .before .before .before .before .pre in
-    let e = loaded-logged (c .load .result) (a .store .now) (c .load .ensures) in
-    (omega (arith, e, p .more), logged-none (a .store .now) (a .gained .now) (a .out .now) (a .at) (c .load .result .logged) e (p .form))
+    (omega (arith, c .get-count .ensures, p .more), logged-none (a .store .now) (a .gained .now) (a .out .now) (a .at) _ (c .get-count .ensures .0) (p .form))
 
 mul-statement-at : tie.Need-mul-statement-at Inv-loop μ-loop
 mul-statement-at c =
@@ -107,7 +105,7 @@ logging-spec =
     (tie.spec
     Inv-loop
     μ-loop
-    load-requires
+    get-count-requires
     loop-holds
     mul-statement-at
     shared-slice-read-statement-at

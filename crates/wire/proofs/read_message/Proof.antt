@@ -1,5 +1,6 @@
--- `read_message` meets its contract: what a reader has behind all fields is what is read. Assumes nothing.
-use mathlib.Core.Path.{_∙_}
+-- `read_message` meets its contract: what is read where a reader has walked the message is what is read of it. Assumes nothing.
+use mathlib.Core.Path.{ap, _∙_}
+use Rattle.wire.specs.Fields.{ended}
 use Rattle.wire.proofs.Reading.{walked-read}
 use borrow.Author.Needs.{needs}
 use Rattle.wire.proofs.read_message.Statement.{statement}
@@ -8,8 +9,15 @@ use Rattle.wire.proofs.read_message.Tie as tie
 walk-requires : tie.Need-walk-requires
 walk-requires c κs = search needs
 
+message-at-requires : tie.Need-message-at-requires
+message-at-requires c κs = c .walk .ensures
+
 returns : tie.Need-returns
-returns c = c .walk .ensures ∙ walked-read (c .before .before .args .message .now) (c .before .shared-slice-known .given)
+returns c =
+    let start = c .before .before .before in
+    let s = start .args .message .now in
+    c .message-at .ensures ∙ ap (ended s) (c .before .walk .ensures) ∙ walked-read s (c .before .before .shared-slice-known .given)
 
 pub read-message-spec : {M : Type 1} → statement M
-read-message-spec = tie.close (tie.spec walk-requires returns)
+read-message-spec =
+    tie.close (tie.spec walk-requires message-at-requires returns)

@@ -19,22 +19,10 @@ returns-2 c =
     less-second (a .self) (a .other) (start .before .struct-known .given) (start .struct-known2 .given) (test1 .if1 .left) (test2 .if2 .taken)
 
 returns-3 : tie.Need-returns-3
-returns-3 c =
-    let test3 = c .before .before in
-    let test2 = test3 .before .before .before in
-    let test1 = test2 .before .before .before in
-    let start = test1 .before in
-    let a = start .before .before .args in
-    less-third (a .self) (a .other) (start .before .struct-known .given) (start .struct-known2 .given) (test1 .if1 .left) (test2 .if2 .left) (test3 .if3 .taken)
+returns-3 c = less-third _ _ (c .before .before .before .before .before .before .before .before .before .before .struct-known .given) (c .before .before .before .before .before .before .before .before .before .struct-known2 .given) (c .before .before .before .before .before .before .before .before .if1 .left) (c .before .before .before .before .before .if2 .left) (c .before .before .if3 .taken)
 
 returns-4 : tie.Need-returns-4
-returns-4 c =
-    let test3 = c .before .before in
-    let test2 = test3 .before .before .before in
-    let test1 = test2 .before .before .before in
-    let start = test1 .before in
-    let a = start .before .before .args in
-    less-fourth (a .self) (a .other) (start .before .struct-known .given) (start .struct-known2 .given) (test1 .if1 .left) (test2 .if2 .left) (test3 .if3 .left)
+returns-4 c = less-fourth _ _ (c .before .before .before .before .before .before .before .before .before .before .struct-known .given) (c .before .before .before .before .before .before .before .before .before .struct-known2 .given) (c .before .before .before .before .before .before .before .before .if1 .left) (c .before .before .before .before .before .if2 .left) (c .before .before .if3 .left)
 
 pub less-spec : {M : Type 1} → statement M
 less-spec = tie.close (tie.spec returns returns-2 returns-3 returns-4)

@@ -1,73 +1,86 @@
 -- `kinds::message_at` meets its contract: by the place, then by the kind. Assumes nothing.
-use native.Mathlib.Nat.{zero-add}
 use mathlib.Core.Path.{refl}
-use Rattle.fields.specs.Names.{nameOf}
-use Rattle.rules.specs.Messages.{rowOf, table}
-use Rattle.rules.specs.Words.{message}
-use Rattle.wire.specs.Meaning.{readOf, messageOf, statementOf, placeOf}
-use Rattle.wire.proofs.Reading.{ended-made, ended-not, no-row}
-use borrow.Author.Needs.{needs}
+use native.Mathlib.Omega.{arith}
+use Rattle.rules.specs.Lists.{any, keep}
+use Rattle.rules.specs.Messages.{width, tagsOf, rowOf, table}
+use Rattle.wire.specs.Fields.{has}
+use Rattle.wire.specs.Meaning.{readOf, placeOf}
+use Rattle.wire.proofs.Reading.{ended-made, ended-not, made-none, no-row, whole}
 use Rattle.wire.proofs.kinds.message_at.Statement.{statement}
 use Rattle.wire.proofs.kinds.message_at.Tie as tie
 
 returns : tie.Need-returns
 unfolding readOf placeOf
-returns c = ended-not (c .before .before .args .s .now) _ (c .if1 .taken)
+returns c = ended-not (c .before .before .before .args .s .now) _ (c .if1 .taken)
 
-cast-t10 : tie.Need-cast-t10
-cast-t10 c = search needs
+new-view-requires : tie.Need-new-view-requires
+unfolding placeOf keep has any width tagsOf rowOf table
+new-view-requires c κs = omega (arith, whole (c .before .before .before .before .args .s .now) (placeOf (c .before .before .before .before .args .cursor)) 1 (c .before .before .before .before .pre) (c .before .if1 .left) (c .match .keys1))
+
+propose-requires : tie.Need-propose-requires
+unfolding placeOf keep has any width tagsOf rowOf table
+propose-requires c κs = omega (arith, whole (c .before .before .before .before .args .s .now) (placeOf (c .before .before .before .before .args .cursor)) 2 (c .before .before .before .before .pre) (c .before .if1 .left) (c .match .keys2))
+
+vote-requires : tie.Need-vote-requires
+unfolding placeOf keep has any width tagsOf rowOf table
+vote-requires c κs = omega (arith, whole (c .before .before .before .before .args .s .now) (placeOf (c .before .before .before .before .args .cursor)) 3 (c .before .before .before .before .pre) (c .before .if1 .left) (c .match .keys3))
+
+blame-requires : tie.Need-blame-requires
+unfolding placeOf keep has any width tagsOf rowOf table
+blame-requires c κs = omega (arith, whole (c .before .before .before .before .args .s .now) (placeOf (c .before .before .before .before .args .cursor)) 4 (c .before .before .before .before .pre) (c .before .if1 .left) (c .match .keys4))
+
+blame-set-requires : tie.Need-blame-set-requires
+unfolding placeOf keep has any width tagsOf rowOf table
+blame-set-requires c κs = omega (arith, whole (c .before .before .before .before .args .s .now) (placeOf (c .before .before .before .before .args .cursor)) 5 (c .before .before .before .before .pre) (c .before .if1 .left) (c .match .keys5))
+
+status-requires : tie.Need-status-requires
+unfolding placeOf keep has any width tagsOf rowOf table
+status-requires c κs = omega (arith, whole (c .before .before .before .before .args .s .now) (placeOf (c .before .before .before .before .args .cursor)) 6 (c .before .before .before .before .pre) (c .before .if1 .left) (c .match .keys6))
 
 returns-2 : tie.Need-returns-2
-unfolding readOf messageOf statementOf message nameOf placeOf rowOf table
-returns-2 c =
-    let after-if1 = c .before .before .before .before in
-    rw zero-add (ended-made (after-if1 .before .before .args .s .now) _ 1 (after-if1 .if1 .left) (c .before .match .keys1) refl)
+unfolding placeOf
+returns-2 c = ended-made (c .before .before .before .before .before .args .s .now) (placeOf (c .before .before .before .before .before .args .cursor)) 1 (c .before .before .if1 .left) (c .before .match .keys1) (c .new-view .ensures)
 
 returns-3 : tie.Need-returns-3
-unfolding readOf messageOf statementOf message placeOf rowOf table
-returns-3 c =
-    let after-if1 = c .before .before .before in
-    ended-made (after-if1 .before .before .args .s .now) _ 2 (after-if1 .if1 .left) (c .match .keys2) refl
+unfolding placeOf
+returns-3 c = ended-made (c .before .before .before .before .before .args .s .now) (placeOf (c .before .before .before .before .before .args .cursor)) 2 (c .before .before .if1 .left) (c .before .match .keys2) (c .propose .ensures)
 
 returns-4 : tie.Need-returns-4
-unfolding readOf messageOf placeOf rowOf table
-returns-4 c =
-    let after-if1 = c .before .before .before in
-    ended-made (after-if1 .before .before .args .s .now) _ 3 (after-if1 .if1 .left) (c .match .keys3) refl
+unfolding placeOf
+returns-4 c = ended-made (c .before .before .before .before .before .args .s .now) (placeOf (c .before .before .before .before .before .args .cursor)) 3 (c .before .before .if1 .left) (c .before .match .keys3) (c .vote .ensures)
 
 returns-5 : tie.Need-returns-5
-unfolding readOf messageOf placeOf rowOf table
-returns-5 c =
-    let after-if1 = c .before .before .before in
-    ended-made (after-if1 .before .before .args .s .now) _ 4 (after-if1 .if1 .left) (c .match .keys4) refl
+unfolding placeOf
+returns-5 c = ended-made (c .before .before .before .before .before .args .s .now) (placeOf (c .before .before .before .before .before .args .cursor)) 4 (c .before .before .if1 .left) (c .before .match .keys4) (c .blame .ensures)
 
 returns-6 : tie.Need-returns-6
-unfolding readOf messageOf placeOf rowOf table
-returns-6 c =
-    let after-if1 = c .before .before .before in
-    ended-made (after-if1 .before .before .args .s .now) _ 5 (after-if1 .if1 .left) (c .match .keys5) refl
+unfolding placeOf
+returns-6 c = ended-made (c .before .before .before .before .before .args .s .now) (placeOf (c .before .before .before .before .before .args .cursor)) 5 (c .before .before .if1 .left) (c .before .match .keys5) (c .blame-set .ensures)
 
 returns-7 : tie.Need-returns-7
-unfolding readOf messageOf placeOf rowOf table
-returns-7 c =
-    let after-if1 = c .before .before .before in
-    ended-made (after-if1 .before .before .args .s .now) _ 6 (after-if1 .if1 .left) (c .match .keys6) refl
+unfolding placeOf
+returns-7 c = ended-made (c .before .before .before .before .before .args .s .now) (placeOf (c .before .before .before .before .before .args .cursor)) 6 (c .before .before .if1 .left) (c .before .match .keys6) (c .status .ensures)
 
 returns-8 : tie.Need-returns-8
 unfolding readOf placeOf
 returns-8 c =
-    let after-if1 = c .before .before .before in
-    let start = after-if1 .before .before in
+    let start = c .before .before .before .before in
+    let k = start .args .cursor .kind in
     let r = c .match .rest in
-    let none-row = no-row (start .args .cursor .kind) (r .0 .0 .0 .0 .0 .1) (r .0 .0 .0 .0 .1) (r .0 .0 .0 .1) (r .0 .0 .1) (r .0 .1) (r .1) in
-    ended-made (start .args .s .now) _ (start .args .cursor .kind) (after-if1 .if1 .left) refl (rw none-row)
+    let none-row = no-row k (r .0 .0 .0 .0 .0 .1) (r .0 .0 .0 .0 .1) (r .0 .0 .0 .1) (r .0 .0 .1) (r .0 .1) (r .1) in
+    ended-made (start .args .s .now) (placeOf (start .args .cursor)) k (c .before .if1 .left) refl (made-none (start .args .s .now) k none-row)
 
 pub message-at-spec : {M : Type 1} → statement M
 message-at-spec =
     tie.close
     (tie.spec
     returns
-    cast-t10
+    new-view-requires
+    propose-requires
+    vote-requires
+    blame-requires
+    blame-set-requires
+    status-requires
     returns-2
     returns-3
     returns-4

@@ -1,39 +1,53 @@
--- `reader::stands` meets its contract: the test of the head, where there is room for the field. Assumes nothing.
-use Prim.Native.Nat.{ℕ, _*_, _+_}
+-- `reader::stands` meets its contract: the tag, then the length, where there is room for the field. Assumes nothing.
+use Prim.Native.Nat.{ℕ}
 use lib.Dec.{eqb}
 use mathlib.Core.Path.{ap, _∙_}
 use native.Mathlib.Omega.{arith}
-use Rattle.wire.proofs.Reading.{field-short, field-test}
+use Rattle.wire.proofs.Reading.{field-short, field-other, field-same}
 use borrow.Author.Needs.{needs}
 use Rattle.wire.proofs.reader.stands.Statement.{statement}
 use Rattle.wire.proofs.reader.stands.Tie as tie
 
 returns : tie.Need-returns
-returns c =
-    field-short (c .before .before .args .s .now) (c .before .before .args .at) (c .before .before .args .tag) (c .before .before .args .width) (omega arith)
+returns c = let a = c .before .before .args in field-short (a .s .now) (a .at) (a .tag) (a .width) (omega arith)
 
-add-if2 : tie.Need-add-if2
-add-if2 c = search needs
+add-field : tie.Need-add-field
+add-field c = search needs
 
 returns-2 : tie.Need-returns-2
-returns-2 c =
-    field-short (c .before .before .before .args .s .now) (c .before .before .before .args .at) (c .before .before .before .args .tag) (c .before .before .before .args .width) (omega arith)
+returns-2 c = let a = c .before .before .before .args in field-short (a .s .now) (a .at) (a .tag) (a .width) (omega arith)
+
+shared-slice-read-if3 : tie.Need-shared-slice-read-if3
+shared-slice-read-if3 c = search needs
+
+returns-3 : tie.Need-returns-3
+returns-3 c =
+    let start = c .before .before .before .before .before in
+    let a = start .args in
+    field-other (a .s .now) (c .before .shared-slice-known2 .given) (a .at) (a .tag) (a .width) (start .pre) (c .if3 .taken)
+
+add-get : tie.Need-add-get
+add-get c = search needs
 
 get-requires : tie.Need-get-requires
 get-requires c κs = search needs
 
-mul-result : tie.Need-mul-result
-mul-result c = search needs
-
-add-result : tie.Need-add-result
-add-result c = search needs
-
-returns-3 : tie.Need-returns-3
-returns-3 c =
-    let start = c .before .before .before .before in
+returns-4 : tie.Need-returns-4
+returns-4 c =
+    let start = c .before .before .before .before .before .before in
     let a = start .args in
-    ap (λ (n : ℕ). eqb n (a .tag * 65536 + a .width)) (c .get .ensures .0) ∙ field-test (a .s .now) (a .at) (a .tag) (a .width) (omega arith)
+    ap (λ (n : ℕ). eqb n (a .width)) (c .get .ensures .0)
+    ∙ field-same (a .s .now) (c .before .before .shared-slice-known2 .given) (a .at) (a .tag) (a .width) (start .pre) (omega arith) (c .before .if3 .left)
 
 pub stands-spec : {M : Type 1} → statement M
 stands-spec =
-    tie.close (tie.spec returns add-if2 returns-2 get-requires mul-result add-result returns-3)
+    tie.close
+    (tie.spec
+    returns
+    add-field
+    returns-2
+    shared-slice-read-if3
+    returns-3
+    add-get
+    get-requires
+    returns-4)
