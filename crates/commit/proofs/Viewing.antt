@@ -11,11 +11,11 @@ use Rattle.laws.proofs.Tests.{by-bool, no-bool}
 use Rattle.store.specs.Decode.{statementAt}
 use Rattle.commit.specs.Looks.{IsView, OthersFrom, FourOthers}
 
--- views differ where their last bytes do
-pub last-byte : (v w : ℕ) (high low : ℕ) → v ≡ high * 256 + low → low < 256 → IsView v → IsView w → eqb low (w % 256) ≡ eqb v w
-last-byte v w high low e l p q =
-    by-bool (eqb v w) (λ t. eq-eqb low (w % 256) (let z = eqb-true v w t in omega arith) ∙ sym t)
-    (λ t. ne-eqb low (w % 256) (λ z. no-bool (sym (eq-eqb v w (omega arith)) ∙ t)) ∙ sym t)
+-- views differ where their lower halves do
+pub lower-half : (v w : ℕ) (high low : ℕ) → v ≡ high * 65_536 + low → low < 65_536 → IsView v → IsView w → eqb low (w % 65_536) ≡ eqb v w
+lower-half v w high low e l p q =
+    by-bool (eqb v w) (λ t. eq-eqb low (w % 65_536) (let z = eqb-true v w t in omega arith) ∙ sym t)
+    (λ t. ne-eqb low (w % 65_536) (λ z. no-bool (sym (eq-eqb v w (omega arith)) ∙ t)) ∙ sym t)
 
 pub not-this : {v w : ℕ} {r : Bool} → r ≡ eqb v w → r ≡ false → v ≡ w → ⊥
 not-this {v} {w} e f z = no-bool (sym (eq-eqb v w z) ∙ sym e ∙ f)

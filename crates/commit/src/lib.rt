@@ -294,13 +294,13 @@ fn is_settled(chain: &[u16], height: usize, left: usize, own: usize, i: usize) -
     true
 }
 
-// Whether statement i is of a view: none is above 256, so the last byte tells.
+// Whether statement i is of a view: none is above 65,535, so the lower half tells.
 fn is_of_view(store: &[u8], i: usize, view: u32) -> bool
     requires { ⌜ (length (now store) ≡ storeLength (sizeIn (now store))) × (i < mostStatements (sizeIn (now store))) × IsView (statementAt (now store) i .view) × IsView view ⌝ }
     ensures { λ r. ⌜ r ≡ eqb (statementAt (now (store .entry)) i .view) view ⌝ }
 {
-    let last = STATEMENTS + STATEMENT_SIZE * i + VIEW + 3;
-    fields::get(store, last, 1) == (view % 256) as u64
+    let low = STATEMENTS + STATEMENT_SIZE * i + VIEW + 2;
+    fields::get(store, low, 2) == (view % 65_536) as u64
 }
 
 // Whether the four statements from place i on are of other views.

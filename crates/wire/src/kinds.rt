@@ -76,7 +76,7 @@ fn blame(s: &[u8]) -> Read
     })
 }
 
-// A blame-set.
+// A blame set.
 fn blame_set(s: &[u8]) -> Read
     requires { ⌜ 16 ≤ length (now s) ⌝ }
     ensures { λ r. ⌜ readOf r ≡ made (now (s .entry)) 5 ⌝ }

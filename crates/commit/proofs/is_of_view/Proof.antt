@@ -1,5 +1,5 @@
--- `commit::is_of_view` meets its contract: by the last byte. Assumes nothing.
-use Rattle.commit.proofs.Viewing.{last-byte}
+-- `commit::is_of_view` meets its contract: by the lower half. Assumes nothing.
+use Rattle.commit.proofs.Viewing.{lower-half}
 use Rattle.store.specs.Decode.{statementAt}
 use Rattle.store.specs.Layout.{statementTable, placeOf}
 use Rattle.fields.proofs.Laws.{number-split}
@@ -13,17 +13,17 @@ use borrow.Author.Needs.{needs}
 use Rattle.commit.proofs.is_of_view.Statement.{statement}
 use Rattle.commit.proofs.is_of_view.Tie as tie
 
-mul-last : tie.Need-mul-last
-mul-last c = search needs
+mul-low : tie.Need-mul-low
+mul-low c = search needs
 
-add-last : tie.Need-add-last
-add-last c = search needs
+add-low : tie.Need-add-low
+add-low c = search needs
 
-add-last-2 : tie.Need-add-last-2
-add-last-2 c = search needs
+add-low-2 : tie.Need-add-low-2
+add-low-2 c = search needs
 
-add-last-3 : tie.Need-add-last-3
-add-last-3 c = search needs
+add-low-3 : tie.Need-add-low-3
+add-low-3 c = search needs
 
 get-requires : tie.Need-get-requires
 get-requires c κs = search needs
@@ -36,9 +36,9 @@ unfolding statementAt
 returns c =
     let a = c .before .before .args in
     let at = placeOf statementTable small (a .i) + 0 in
-    ap (λ (low : ℕ). eqb low (a .view % 256)) (c .get .ensures .0)
-    ∙ last-byte _ (a .view) (number (a .store .now) at 3) (number (a .store .now) (at + 3) 1) (number-split (a .store .now) at 3 1) (omega (arith, c .get .ensures .0, c .get .ensures .1)) (c .before .before .pre .2) (c .before .before .pre .3)
+    ap (λ (low : ℕ). eqb low (a .view % 65_536)) (c .get .ensures .0)
+    ∙ lower-half _ (a .view) (number (a .store .now) at 2) (number (a .store .now) (at + 2) 2) (number-split (a .store .now) at 2 2) (omega (arith, c .get .ensures .0, c .get .ensures .1)) (c .before .before .pre .2) (c .before .before .pre .3)
 
 pub is-of-view-spec : {M : Type 1} → statement M
 is-of-view-spec =
-    tie.close (tie.spec mul-last add-last add-last-2 add-last-3 get-requires cast-result returns)
+    tie.close (tie.spec mul-low add-low add-low-2 add-low-3 get-requires cast-result returns)
