@@ -120,6 +120,9 @@ pub fn is_linked(
     requires { ⌜ Counts logTable (now store) count × Counts statementTable (now store) stored × (now told ≡ replicate mostStatementsLarge 0) ⌝ }
     ensures { λ r. ⌜ Checked (now (store .entry)) r (now (told .exit)) ⌝ }
 {
+    if count == 0 {
+        return true;
+    }
     let mut heads: [u16; CHAINS] = [0; CHAINS];
     let mut nexts: [u16; Settings::MOST_TALLIES_LARGE] = [0; Settings::MOST_TALLIES_LARGE];
     hang_all(store, stored, &mut heads, &mut nexts);

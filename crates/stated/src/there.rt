@@ -225,6 +225,9 @@ pub fn there_and_apart(
     requires { ⌜ Counts tallyTable (now store) count × Chained (tallyChain (now store) salt) 0 count (now heads) (now nexts) × Counts statementTable (now store) stored × AllCertify (now store) stored ⌝ }
     ensures { λ r. ⌜ r ≡ (all (talliesThere (tallies (now (store .entry)))) (statements (now (store .entry))) && distinct sameStatement (statements (now (store .entry)))) ⌝ }
 {
+    if stored == 0 {
+        return true;
+    }
     let mut hung: [u16; CHAINS] = [0; CHAINS];
     let mut follow: [u16; Settings::MOST_TALLIES_LARGE] = [0; Settings::MOST_TALLIES_LARGE];
     let mut after = Certified {

@@ -20,28 +20,33 @@ abbrev μ-loop : tie.MeasureT-loop
 μ-loop store count stored told₀ heads nexts telling₀ k₀ told telling k =
     count - k
 
+returns : tie.Need-returns Inv-loop μ-loop
+returns c =
+    let p = c .before .before .pre in
+    record { is = sym (linked-start _ _ (p .0 .is) ∙ linked-end _ _ _ (omega (arith, c .if1 .taken))); told = so-far-none (p .2) .told }
+
 hang-all-requires : tie.Need-hang-all-requires Inv-loop μ-loop
 hang-all-requires c κs =
-    (c .before .before .before .pre .1, record { heads-are = refl; nexts-are = refl })
+    (c .before .before .before .before .pre .1, record { heads-are = refl; nexts-are = refl })
 
 loop-holds : tie.Need-loop-holds Inv-loop μ-loop
 loop-holds c =
-    let p = c .before .before .before .before .pre in
+    let p = c .before .before .before .before .before .pre in
     (linked-start _ _ (p .0 .is), so-far-none (p .2))
 
 first-sought-requires : tie.Need-first-sought-requires Inv-loop μ-loop
 first-sought-requires c κs =
-    let p = c .before .before .before .before .before .before .before .before .pre in
+    let p = c .before .before .before .before .before .before .before .before .before .pre in
     (omega (arith, c .before .before .loop-test .taken, p .0 .room), p .1, c .before .before .before .before .hang-all .ensures)
 
-returns : tie.Need-returns Inv-loop μ-loop
-returns c =
+returns-2 : tie.Need-returns-2 Inv-loop μ-loop
+returns-2 c =
     let inv = c .before .before .before .before .before .loop .inv in
-    let none = link-none _ _ _ _ (c .before .before .before .before .before .before .before .before .before .before .pre .1 .is) (c .before .first-sought .ensures .above) (c .if1 .taken) in
+    let none = link-none _ _ _ _ (c .before .before .before .before .before .before .before .before .before .before .before .pre .1 .is) (c .before .first-sought .ensures .above) (c .if2 .taken) in
     record { is = sym (inv .0 ∙ linked-here _ _ _ (c .before .before .before .before .loop-test .taken) none); told = inv .1 .told }
 
 add-k : tie.Need-add-k Inv-loop μ-loop
-add-k c = omega (arith, c .before .before .before .before .before .before .loop-test .taken, few-names (c .before .before .before .before .before .before .before .before .before .before .before .before .pre .0))
+add-k c = omega (arith, c .before .before .before .before .before .before .loop-test .taken, few-names (c .before .before .before .before .before .before .before .before .before .before .before .before .before .pre .0))
 
 loop-less : tie.Need-loop-less Inv-loop μ-loop
 loop-less c = omega (arith, c .before .before .before .before .before .before .loop-test .taken)
@@ -49,48 +54,48 @@ loop-less c = omega (arith, c .before .before .before .before .before .before .l
 loop-again : tie.Need-loop-again Inv-loop μ-loop
 loop-again c =
     let inv = c .before .before .before .before .before .before .before .loop .inv in
-    let some = link-some _ _ _ _ (c .before .before .before .before .before .before .before .before .before .before .before .before .pre .1 .is) (c .before .before .before .first-sought .ensures .above) (c .before .before .if1 .left) in
-    (inv .0 ∙ linked-next _ _ _ (c .before .before .before .before .before .before .loop-test .taken) some, so-far-less (inv .1) _ (c .if2 .taken))
+    let some = link-some _ _ _ _ (c .before .before .before .before .before .before .before .before .before .before .before .before .before .pre .1 .is) (c .before .before .before .first-sought .ensures .above) (c .before .before .if2 .left) in
+    (inv .0 ∙ linked-next _ _ _ (c .before .before .before .before .before .before .loop-test .taken) some, so-far-less (inv .1) _ (c .if3 .taken))
 
 sub-told : tie.Need-sub-told Inv-loop μ-loop
 sub-told c = omega (arith, c .before .before .before .first-sought .ensures .above .within)
 
 cast-told : tie.Need-cast-told Inv-loop μ-loop
 cast-told c =
-    let few = few-statements (c .before .before .before .before .before .before .before .before .before .before .before .before .pre .1) in
+    let few = few-statements (c .before .before .before .before .before .before .before .before .before .before .before .before .before .pre .1) in
     record { fits = omega (arith, c .before .before .before .first-sought .ensures .above .within) }
 
 add-told : tie.Need-add-told Inv-loop μ-loop
 add-told c =
-    let few = few-statements (c .before .before .before .before .before .before .before .before .before .before .before .before .pre .1) in
+    let few = few-statements (c .before .before .before .before .before .before .before .before .before .before .before .before .before .pre .1) in
     let found = c .before .before .before .first-sought in
-    let some : 0 < found .result .rest = omega (arith, c .before .before .if1 .left) in
+    let some : 0 < found .result .rest = omega (arith, c .before .before .if2 .left) in
     record { fits = omega (arith, found .ensures .above .within) }
 
 mul-told : tie.Need-mul-told Inv-loop μ-loop
-mul-told c = omega (arith, c .before .before .before .before .before .before .loop-test .taken, few-names (c .before .before .before .before .before .before .before .before .before .before .before .before .pre .0))
+mul-told c = omega (arith, c .before .before .before .before .before .before .loop-test .taken, few-names (c .before .before .before .before .before .before .before .before .before .before .before .before .before .pre .0))
 
 element-write-told : tie.Need-element-write-told Inv-loop μ-loop
-element-write-told c = omega (arith, c .before .before .before .before .before .before .loop-test .taken, few-names (c .before .before .before .before .before .before .before .before .before .before .before .before .pre .0))
+element-write-told c = omega (arith, c .before .before .before .before .before .before .loop-test .taken, few-names (c .before .before .before .before .before .before .before .before .before .before .before .before .before .pre .0))
 
 add-k-2 : tie.Need-add-k-2 Inv-loop μ-loop
-add-k-2 c = omega (arith, c .before .before .before .before .before .before .loop-test .taken, few-names (c .before .before .before .before .before .before .before .before .before .before .before .before .pre .0))
+add-k-2 c = omega (arith, c .before .before .before .before .before .before .loop-test .taken, few-names (c .before .before .before .before .before .before .before .before .before .before .before .before .before .pre .0))
 
 loop-less-2 : tie.Need-loop-less-2 Inv-loop μ-loop
 loop-less-2 c = omega (arith, c .before .before .before .before .before .before .loop-test .taken)
 
 loop-again-2 : tie.Need-loop-again-2 Inv-loop μ-loop
 loop-again-2 c =
-    let p = c .before .before .before .before .before .before .before .before .before .before .before .before .pre in
+    let p = c .before .before .before .before .before .before .before .before .before .before .before .before .before .pre in
     let inv = c .before .before .before .before .before .before .before .loop .inv in
     let more = c .before .before .before .before .before .before .loop-test .taken in
     let found = c .before .before .before .first-sought in
-    let some : 0 < found .result .rest = omega (arith, c .before .before .if1 .left) in
-    let links = link-some _ _ _ _ (p .1 .is) (found .ensures .above) (c .before .before .if1 .left) in
-    (inv .0 ∙ linked-next _ _ _ more links, so-far-more (inv .1) _ (c .if2 .left) (omega (arith, more, p .0 .is)) (omega (arith, more, few-names (p .0))) (p .1 .is) some (found .ensures))
+    let some : 0 < found .result .rest = omega (arith, c .before .before .if2 .left) in
+    let links = link-some _ _ _ _ (p .1 .is) (found .ensures .above) (c .before .before .if2 .left) in
+    (inv .0 ∙ linked-next _ _ _ more links, so-far-more (inv .1) _ (c .if3 .left) (omega (arith, more, p .0 .is)) (omega (arith, more, few-names (p .0))) (p .1 .is) some (found .ensures))
 
-returns-2 : tie.Need-returns-2 Inv-loop μ-loop
-returns-2 c =
+returns-3 : tie.Need-returns-3 Inv-loop μ-loop
+returns-3 c =
     let inv = c .before .loop .inv in
     record { is = sym (inv .0 ∙ linked-end _ _ _ (c .loop-test .left)); told = inv .1 .told }
 
@@ -100,10 +105,11 @@ is-linked-spec =
     (tie.spec
     Inv-loop
     μ-loop
+    returns
     hang-all-requires
     loop-holds
     first-sought-requires
-    returns
+    returns-2
     add-k
     loop-less
     loop-again
@@ -115,4 +121,4 @@ is-linked-spec =
     add-k-2
     loop-less-2
     loop-again-2
-    returns-2)
+    returns-3)
