@@ -95,7 +95,7 @@ fn parent_at(settings: Settings, slip: &[u8], at: usize, height: u32, name: Name
         return Link::Broken;
     };
     let asked = name.same(x.name) & (height == x.height);
-    if asked & allowed::statement_allowed(settings, x) {
+    if asked & allowed_statements::statement_allowed(settings, x) {
         let parent = x.link;
         return Link::Parent(parent);
     }
