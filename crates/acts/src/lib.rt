@@ -61,8 +61,8 @@ fn send_both(out: &mut [u8], at: usize, first: Message, second: Message) -> usiz
     requires { ⌜ (Writable first) × (Writable second) × (at + length (outgoing (toAll (messageOf first) ∷ toAll (messageOf second) ∷ [])) ≤ length (now out)) ⌝ }
     ensures { λ r. ⌜ Says (now (out .entry)) at (outgoing (toAll (messageOf first) ∷ toAll (messageOf second) ∷ [])) (now (out .exit)) r ⌝ }
 {
-    let next = outgoing::to_all(out, at, first);
-    outgoing::to_all(out, next, second)
+    let next = effects::to_all(out, at, first);
+    effects::to_all(out, next, second)
 }
 
 // Whether the blame mask of a view is full.
@@ -83,7 +83,7 @@ pub fn quit_with_set(store: &mut [u8], out: &mut [u8], at: usize, view: u32) -> 
 {
     let held = store::blame_at(store, view as usize - 1);
     quit(store);
-    outgoing::to_all(out, at, Message::BlameSet { view, mask: held })
+    effects::to_all(out, at, Message::BlameSet { view, mask: held })
 }
 
 // A mask joins the blames of a view; at f+1, while the station is in that view, it sends the set and quits.

@@ -72,7 +72,7 @@ fn write_entry(store: &[u8], i: usize, out: &mut [u8], at: usize) -> usize
 {
     let propose = store::statement_at(store, i);
     fields::put(out, at, 3, 0x41_0061);
-    outgoing::write_message(out, at + 3, Message::Stated(propose))
+    writing::write_message(out, at + 3, Message::Stated(propose))
 }
 
 // The chain of the log from a height down to height 1.
