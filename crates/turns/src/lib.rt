@@ -175,8 +175,8 @@ pub fn lead(store: &mut [u8], out: &mut [u8], at: usize) -> usize
         return at;
     }
     let x = own_new_view(store);
-    let plan = acts::planned(store, x);
-    acts::statement(store, out, at, x, plan)
+    let plan = plans::planned(store, x);
+    answers::statement(store, out, at, x, plan)
 }
 
 // The next view is entered, with the highest certificate as its lock, which goes to the new leader.
@@ -231,7 +231,7 @@ fn vote_in_order(store: &mut [u8], out: &mut [u8], at: usize, order: &[u16], cou
         let place = order[j] as usize;
         let x = store::statement_at(store, place);
         let tally = store::find_tally(store, words::own_block(x, 0));
-        next = acts::voting(store, out, next, place, x, tally);
+        next = ballots::voting(store, out, next, place, x, tally);
         j += 1;
     }
     next

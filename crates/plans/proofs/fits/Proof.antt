@@ -1,9 +1,9 @@
--- `acts::fits` meets its contract. Assumes nothing.
-use Rattle.acts.specs.Plans.{fits}
+-- `plans::fits` meets its contract. Assumes nothing.
+use Rattle.plans.specs.Plans.{fits}
 use mathlib.Core.Path.{sym, ap}
 use borrow.Author.Needs.{needs}
-use Rattle.acts.proofs.fits.Statement.{statement}
-use Rattle.acts.proofs.fits.Tie as tie
+use Rattle.plans.proofs.fits.Statement.{statement}
+use Rattle.plans.proofs.fits.Tie as tie
 
 enum-told : tie.Need-enum-told
 enum-told c = search needs

@@ -11,8 +11,8 @@ use Rattle.store.specs.Decode.{tallies}
 use Rattle.store.specs.Searches.{firstFrom, blockAt}
 use Rattle.storing.specs.Records.{certifiedAt}
 use Rattle.store.specs.declared.Found.{Found}
-use Rattle.acts.specs.declared.Plan.{Plan}
-use Rattle.acts.specs.declared.Plan.the-variants.{Repeat, New, Full}
+use Rattle.plans.specs.declared.Plan.{Plan}
+use Rattle.plans.specs.declared.Plan.the-variants.{Repeat, New, Full}
 
 -- what comes of a new statement, by whether there is room
 abbrev pub newPlan : Bool → Found → Found → Plan

@@ -1,13 +1,13 @@
--- `acts::answer` meets its contract. Assumes nothing.
+-- `answers::answer` meets its contract. Assumes nothing.
 use Rattle.rules.specs.Inputs as inputs
 use Rattle.rules.specs.Words.{message}
 use Rattle.rules.specs.Messages.{Message, toAll}
 use mathlib.Core.List.{[], _∷_}
 use mathlib.Core.Path.{ap}
 use Rattle.acts.proofs.Statements.{conflict-within, conflict-at, conflict-none}
 use Rattle.acts.proofs.Places.{sendable-linked, place-sendable, place-message}
 use Rattle.acts.proofs.Answers.{answered-out, answered-votes, answered-quits}
 use Rattle.acts.proofs.Works.{works-is, works-none}
 use Rattle.store.proofs.Forms.{form-long, form-statements}
 use Rattle.store.specs.Decode.{stateOf}
 use Rattle.wire.specs.Meaning.{statementOf}
@@ -16,8 +16,8 @@ use mathlib.Core.Option.{none}
 use native.Mathlib.Omega.{arith}
 use mathlib.Core.Path.{refl, sym, _∙_}
 use borrow.Author.Needs.{needs}
-use Rattle.acts.proofs.answer.Statement.{statement}
-use Rattle.acts.proofs.answer.Tie as tie
+use Rattle.answers.proofs.answer.Statement.{statement}
+use Rattle.answers.proofs.answer.Tie as tie
 
 is-in-requires : tie.Need-is-in-requires
 is-in-requires c κs = search needs

@@ -1,11 +1,11 @@
--- `acts::statement` meets its contract: what the plan tells. Assumes nothing.
-use Rattle.acts.proofs.Plans.{plan-tells}
+-- `answers::statement` meets its contract: what the plan tells. Assumes nothing.
+use Rattle.plans.proofs.Plans.{plan-tells}
 use Rattle.acts.proofs.Statements.{code-unvoted, repeat-fits, repeat-left, stored-stands, statement-repeat}
 use Rattle.acts.proofs.Answers.{statement-new, new-room}
 use Rattle.storing.proofs.Statements.{sendable-certifies}
 use Rattle.acts.proofs.Works.{formed-parts, left-formed, works-is, works-none}
 use Rattle.acts.specs.Answers.{answered}
-use Rattle.acts.specs.declared.Plan.the-variants.{Repeat, New, Full}
+use Rattle.plans.specs.declared.Plan.the-variants.{Repeat, New, Full}
 use Rattle.kept.proofs.Facts.{clocks-of}
 use Rattle.kept.proofs.Tables.{stored-formed}
 use Rattle.laws.proofs.Tests.{no-bool}
@@ -18,8 +18,8 @@ use Rattle.words.specs.Meaning.{blockOf}
 use mathlib.Core.Option.{none}
 use mathlib.Core.Path.{sym, ap, _∙_}
 use borrow.Author.Needs.{needs}
-use Rattle.acts.proofs.statement.Statement.{statement}
-use Rattle.acts.proofs.statement.Tie as tie
+use Rattle.answers.proofs.statement.Statement.{statement}
+use Rattle.answers.proofs.statement.Tie as tie
 
 enum-told : tie.Need-enum-told
 enum-told c = search needs

@@ -1,7 +1,6 @@
--- `acts::planned` meets its contract: a repeat, or what its two tallies need decides. Assumes nothing.
-use Rattle.acts.proofs.Plans.{planned-repeat}
+-- `plans::planned` meets its contract: a repeat, or what its two tallies need decides. Assumes nothing.
+use Rattle.plans.proofs.Plans.{planned-repeat, is-repeat, is-new, new-planned}
 use Rattle.storing.proofs.Records.{needed-few}
-use Rattle.acts.proofs.Statements.{is-repeat, is-new, new-planned}
 use Rattle.storing.proofs.Statements.{sendable-certifies}
 use Rattle.store.proofs.Loaded.{loaded-statements, loaded-tallies}
 use Rattle.store.proofs.Forms.{form-long, form-tallies}
@@ -12,8 +11,8 @@ use mathlib.Core.Option.{none}
 use mathlib.Core.Path.{_∙_}
 use native.Mathlib.Omega.{arith}
 use borrow.Author.Needs.{needs}
-use Rattle.acts.proofs.planned.Statement.{statement}
-use Rattle.acts.proofs.planned.Tie as tie
+use Rattle.plans.proofs.planned.Statement.{statement}
+use Rattle.plans.proofs.planned.Tie as tie
 
 find-statement-requires : tie.Need-find-statement-requires
 find-statement-requires c κs = search needs

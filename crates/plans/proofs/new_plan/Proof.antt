@@ -1,7 +1,7 @@
--- `acts::new_plan` meets its contract. Assumes nothing.
+-- `plans::new_plan` meets its contract. Assumes nothing.
 use borrow.Author.Needs.{needs}
-use Rattle.acts.proofs.new_plan.Statement.{statement}
-use Rattle.acts.proofs.new_plan.Tie as tie
+use Rattle.plans.proofs.new_plan.Statement.{statement}
+use Rattle.plans.proofs.new_plan.Tie as tie
 
 returns : tie.Need-returns
 returns c =

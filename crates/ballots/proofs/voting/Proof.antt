@@ -1,10 +1,10 @@
--- `acts::voting` meets its contract. Assumes nothing.
+-- `ballots::voting` meets its contract. Assumes nothing.
 use Rattle.fields.specs.Names.{nameOf}
 use Rattle.acts.proofs.Votes.{voting-below, voting-cast, ballot-is, loaded-own, own-small, loaded-below}
 use Rattle.tallies.specs.Meaning.{withVoters}
 use Rattle.storing.proofs.Statements.{voter-block, sendable-certifies}
 use Rattle.acts.proofs.Places.{sendable-linked, place-sendable, place-voted, place-room, place-clock, place-found}
 use Rattle.acts.proofs.Works.{formed-parts, ballot-bytes, works-is, works-none, works-saying}
 use Rattle.kept.proofs.Facts.{clocks-of}
 use Rattle.store.proofs.Loaded.{loaded-clock}
 use Rattle.store.proofs.Forms.{form-long}
@@ -19,8 +19,8 @@ use native.Mathlib.Omega.{arith}
 use Prim.Native.Nat.{ℕ}
 use mathlib.Core.Path.{refl, sym, ap, _∙_}
 use borrow.Author.Needs.{needs}
-use Rattle.acts.proofs.voting.Statement.{statement}
-use Rattle.acts.proofs.voting.Tie as tie
+use Rattle.ballots.proofs.voting.Statement.{statement}
+use Rattle.ballots.proofs.voting.Tie as tie
 
 load-requires : tie.Need-load-requires
 load-requires c κs =
