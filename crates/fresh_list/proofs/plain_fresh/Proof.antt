@@ -1,11 +1,12 @@
--- `lent_list::plain_fresh` meets its contract. Assumes nothing.
+-- `fresh_list::plain_fresh` meets its contract. Assumes nothing.
 use mathlib.Core.Path.{refl, sym, _∙_}
 use native.Mathlib.Omega.{arith}
 use Rattle.lent_list.proofs.Lengths.{lengths}
-use Rattle.lent_list.proofs.Made.{made-good, made-bad, length-refused, settings-refused, is-fresh}
+use Rattle.lent_list.proofs.Made.{made-good, made-bad}
+use Rattle.fresh_list.proofs.Fresh.{length-refused, settings-refused, is-fresh}
 use borrow.Author.Needs.{needs}
-use Rattle.lent_list.proofs.plain_fresh.Statement.{statement}
-use Rattle.lent_list.proofs.plain_fresh.Tie as tie
+use Rattle.fresh_list.proofs.plain_fresh.Statement.{statement}
+use Rattle.fresh_list.proofs.plain_fresh.Tie as tie
 
 has-length-requires : tie.Need-has-length-requires
 has-length-requires c κs = search needs

@@ -1,9 +1,9 @@
--- `lent_list::is_full` meets its contract. Assumes nothing.
+-- `list_writer::is_full` meets its contract. Assumes nothing.
 use native.Mathlib.Omega.{arith}
 use Rattle.lent_list.proofs.Lengths.{lengths, slots-counted}
-use Rattle.lent_list.proofs.Entering.{full-counted}
-use Rattle.lent_list.proofs.is_full.Statement.{statement}
-use Rattle.lent_list.proofs.is_full.Tie as tie
+use Rattle.list_writer.proofs.Entering.{full-counted}
+use Rattle.list_writer.proofs.is_full.Statement.{statement}
+use Rattle.list_writer.proofs.is_full.Tie as tie
 
 sub-slots : tie.Need-sub-slots
 sub-slots c = omega (arith, lengths (c .before .args .list .now) (c .before .pre) .0)

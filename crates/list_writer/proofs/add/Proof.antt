@@ -1,14 +1,14 @@
--- `lent_list::add` meets its contract. Assumes nothing.
+-- `list_writer::add` meets its contract. Assumes nothing.
 use Prim.Native.Nat.{_+_, _*_}
 use mathlib.Core.Path.{_∙_}
 use native.Mathlib.Omega.{arith}
 use borrow.Rule.Slice.PartMut.{mid-len}
 use Rattle.slots.proofs.Inputs.{input-fits}
 use Rattle.lent_list.proofs.Lengths.{lengths}
-use Rattle.lent_list.proofs.Adding.{within, is-added}
+use Rattle.list_writer.proofs.Adding.{within, is-added}
 use borrow.Author.Needs.{needs}
-use Rattle.lent_list.proofs.add.Statement.{statement}
-use Rattle.lent_list.proofs.add.Tie as tie
+use Rattle.list_writer.proofs.add.Statement.{statement}
+use Rattle.list_writer.proofs.add.Tie as tie
 
 get-requires : tie.Need-get-requires
 get-requires c κs = omega (arith, lengths (c .before .before .before .args .list .now) (c .before .before .before .pre .0) .0)

@@ -1,12 +1,12 @@
--- `lent_list::enter` meets its contract. Assumes nothing.
+-- `list_writer::enter` meets its contract. Assumes nothing.
 use mathlib.Core.Path.{sym, _∙_, ap}
 use Prim.Native.Nat.{ℕ, _+_}
 use lib.ListN.{length}
 use native.Mathlib.Omega.{arith}
-use Rattle.lent_list.proofs.Entering.{not-kept, no-slot, is-entered}
+use Rattle.list_writer.proofs.Entering.{not-kept, no-slot, is-entered}
 use borrow.Author.Needs.{needs}
-use Rattle.lent_list.proofs.enter.Statement.{statement}
-use Rattle.lent_list.proofs.enter.Tie as tie
+use Rattle.list_writer.proofs.enter.Statement.{statement}
+use Rattle.list_writer.proofs.enter.Tie as tie
 
 is-kept-requires : tie.Need-is-kept-requires
 is-kept-requires c κs = search needs
