@@ -1,5 +1,5 @@
 -- An entry read by its places is the entry that is read: where the heads stand, and nowhere else, there is a propose. Assumes nothing.
-use Prim.Native.Nat.{ℕ, zero, suc, _+_, _-_, _^_, _<_, _≤_}
+use Prim.Native.Nat.{ℕ, suc, _+_, _-_, _^_, _<_, _≤_}
 use mathlib.Core.Path.{_≡_, refl, sym, ap, ap₂, _∙_}
 use mathlib.Core.Bool.{Bool, true, false, _&&_}
 use mathlib.Core.List.{List, [], _∷_, _++_}
@@ -20,11 +20,11 @@ use Rattle.laws.proofs.Bytes as rules
 use Rattle.laws.proofs.Bytes.{length-unbe, be-unbe, unbe-be}
 use Rattle.laws.proofs.ReadBack.{write-read}
 use Rattle.laws.proofs.Written.{read-write}
-use Rattle.laws.proofs.Tests.{by-bool, by-option, no-some, no-bool, and-left, and-right}
+use Rattle.laws.proofs.Tests.{by-bool, by-option, no-some, no-bool, and-right}
 use Rattle.wire.specs.Fields.{head, isField}
 use Rattle.wire.proofs.Reading.{be-number, field-test, field-short}
-use Rattle.slip.specs.Slips.{entryBytes, proposeOf, proposeIn, entryAt}
-use Rattle.slip.specs.Heads.{headsStand, proposeAt}
+use Rattle.slip_entries.specs.Entries.{proposeOf, proposeIn, entryAt}
+use Rattle.slip_entries.specs.Heads.{headsStand, proposeAt}
 
 -- ---- numbers side by side
 

@@ -1,10 +1,10 @@
--- `slip::propose_at` meets its contract: each number stands at its place. Assumes nothing.
+-- `propose_at` meets its contract: each number stands at its place. Assumes nothing.
 use mathlib.Core.Path.{refl}
 use Rattle.wire.specs.Meaning.{statementOf}
-use Rattle.slip.specs.Heads.{proposeAt}
+use Rattle.slip_entries.specs.Heads.{proposeAt}
 use borrow.Author.Needs.{needs}
-use Rattle.slip.proofs.propose_at.Statement.{statement}
-use Rattle.slip.proofs.propose_at.Tie as tie
+use Rattle.slip_entries.proofs.propose_at.Statement.{statement}
+use Rattle.slip_entries.proofs.propose_at.Tie as tie
 
 add-get : tie.Need-add-get
 add-get c = search needs

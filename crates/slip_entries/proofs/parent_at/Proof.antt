@@ -1,11 +1,11 @@
--- `slip::parent_at` meets its contract: nothing there, the block asked for and allowed, or not. Assumes nothing.
+-- `parent_at` meets its contract: nothing there, the block asked for and allowed, or not. Assumes nothing.
 use mathlib.Core.Path.{sym, ap, _∙_}
 use Rattle.wire.specs.Meaning.{statementOf}
-use Rattle.slip.specs.Meaning.{entryOf}
-use Rattle.slip.proofs.Judging.{parent-unread, parent-here, parent-other}
+use Rattle.slip_entries.specs.Meaning.{entryOf}
+use Rattle.slip_entries.proofs.Parents.{parent-unread, parent-here, parent-other}
 use borrow.Author.Needs.{needs}
-use Rattle.slip.proofs.parent_at.Statement.{statement}
-use Rattle.slip.proofs.parent_at.Tie as tie
+use Rattle.slip_entries.proofs.parent_at.Statement.{statement}
+use Rattle.slip_entries.proofs.parent_at.Tie as tie
 
 entry-at-requires : tie.Need-entry-at-requires
 entry-at-requires c κs = search needs

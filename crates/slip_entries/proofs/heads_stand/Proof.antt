@@ -1,9 +1,9 @@
--- `slip::heads_stand` meets its contract: seven tests joined. Assumes nothing.
+-- `heads_stand` meets its contract: seven tests joined. Assumes nothing.
 use mathlib.Core.Path.{refl}
-use Rattle.slip.specs.Heads.{headsStand}
+use Rattle.slip_entries.specs.Heads.{headsStand}
 use borrow.Author.Needs.{needs}
-use Rattle.slip.proofs.heads_stand.Statement.{statement}
-use Rattle.slip.proofs.heads_stand.Tie as tie
+use Rattle.slip_entries.proofs.heads_stand.Statement.{statement}
+use Rattle.slip_entries.proofs.heads_stand.Tie as tie
 
 get-requires : tie.Need-get-requires
 get-requires c κs = search needs

@@ -1,11 +1,11 @@
--- `slip::entry_at` meets its contract: no room, the heads of a propose, or others. Assumes nothing.
+-- `entry_at` meets its contract: no room, the heads of a propose, or others. Assumes nothing.
 use mathlib.Core.Path.{sym, ap, _∙_}
 use mathlib.Core.Option.{some}
 use native.Mathlib.Omega.{arith}
-use Rattle.slip.proofs.Reading.{entry-short, entry-here, entry-other}
+use Rattle.slip_entries.proofs.Reading.{entry-short, entry-here, entry-other}
 use borrow.Author.Needs.{needs}
-use Rattle.slip.proofs.entry_at.Statement.{statement}
-use Rattle.slip.proofs.entry_at.Tie as tie
+use Rattle.slip_entries.proofs.entry_at.Statement.{statement}
+use Rattle.slip_entries.proofs.entry_at.Tie as tie
 
 sub-if1 : tie.Need-sub-if1
 sub-if1 c = search needs
