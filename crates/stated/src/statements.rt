@@ -12,7 +12,6 @@ ghost use Rattle.store.specs.Decode.{statementAt, statements};
 ghost use Rattle.heading.specs.Lent.{Counts, alone};
 ghost use Rattle.settings.specs.Made.{settingsOf};
 ghost use Rattle.stated.specs.Stated.{voteInOrder, newViewSaid, proposeSaid, Read};
-use allowed::clauses;
 use settings::Settings;
 use store::AUTHOR;
 use store::HEIGHT;

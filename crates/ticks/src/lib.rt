@@ -30,7 +30,7 @@ fn next_fits(store: &[u8], station: Station) -> bool
         return true;
     }
     let x = turns::own_new_view(store);
-    acts::fits(acts::planned(store, x))
+    plans::fits(plans::planned(store, x))
 }
 
 // What follows the commits of a tick: blame, the leader's new-view, entering a view.

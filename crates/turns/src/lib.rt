@@ -70,7 +70,7 @@ pub fn complain(store: &mut [u8], out: &mut [u8], at: usize, votes: usize) -> us
         view: station.view,
         author: own as u8,
     };
-    let next = outgoing::to_all(out, at, blame);
+    let next = effects::to_all(out, at, blame);
     acts::blaming(store, out, next, station.view, settings::only(own) as u16)
 }
 
@@ -175,8 +175,8 @@ pub fn lead(store: &mut [u8], out: &mut [u8], at: usize) -> usize
         return at;
     }
     let x = own_new_view(store);
-    let plan = acts::planned(store, x);
-    acts::statement(store, out, at, x, plan)
+    let plan = plans::planned(store, x);
+    answers::statement(store, out, at, x, plan)
 }
 
 // The next view is entered, with the highest certificate as its lock, which goes to the new leader.
@@ -200,7 +200,7 @@ fn entered(store: &mut [u8], out: &mut [u8], at: usize) -> usize
         cert: lock.view,
         mask: lock.mask,
     };
-    outgoing::to_one(out, at, to as u8, status)
+    effects::to_one(out, at, to as u8, status)
 }
 
 // The log grows by the names of the statements whose places stand in a table, each reported.
@@ -214,7 +214,7 @@ pub fn logging(store: &mut [u8], out: &mut [u8], at: usize, gained: &[u16], len:
         let x = store::statement_at(store, gained[k] as usize);
         let name = x.name;
         records::append_name(store, name);
-        next = outgoing::committed(out, next, (k + 1) as u32, name);
+        next = effects::committed(out, next, (k + 1) as u32, name);
         k += 1;
     }
     next
@@ -231,7 +231,7 @@ fn vote_in_order(store: &mut [u8], out: &mut [u8], at: usize, order: &[u16], cou
         let place = order[j] as usize;
         let x = store::statement_at(store, place);
         let tally = store::find_tally(store, words::own_block(x, 0));
-        next = acts::voting(store, out, next, place, x, tally);
+        next = ballots::voting(store, out, next, place, x, tally);
         j += 1;
     }
     next

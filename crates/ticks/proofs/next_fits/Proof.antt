@@ -5,7 +5,7 @@ use mathlib.Core.Option.{none}
 use borrow.Author.Tests.{not-true, not-false}
 use Rattle.wire.specs.Meaning.{statementOf}
 use Rattle.store.specs.Decode.{stateOf}
-use Rattle.acts.proofs.Plans.{plan-room}
+use Rattle.plans.proofs.Plans.{plan-room}
 use Rattle.acts.proofs.Works.{formed-parts}
 use Rattle.ticks.proofs.Turns.{clock-small, loaded-next, later-leader, never-next, fits-next}
 use borrow.Author.Needs.{needs}

@@ -5,7 +5,7 @@ use Rattle.stated.proofs.statements.new_view_said.Statement.{statement}
 use Rattle.stated.proofs.statements.new_view_said.Tie as tie
 use Rattle.stated.proofs.statements.new_view_said.Reads as reads
 use Rattle.stated.proofs.statements.new_view_said.Lts as lts
-use Rattle.allowed.proofs.clauses.certificate_allowed.Reads as certificate-allowed-reads
+use Rattle.clauses.proofs.certificate_allowed.Reads as certificate-allowed-reads
 use Rattle.fields.proofs.all_zero.Reads as all-zero-reads
 use Rattle.fields.proofs.get.Reads as get-reads
 

@@ -6,7 +6,7 @@ use Rattle.stated.proofs.statements.propose_said.Statement.{statement}
 use Rattle.stated.proofs.statements.propose_said.Tie as tie
 use Rattle.stated.proofs.statements.propose_said.Reads as reads
 use Rattle.stated.proofs.statements.propose_said.Lts as lts
-use Rattle.allowed.proofs.clauses.mask_allowed.Reads as mask-allowed-reads
+use Rattle.clauses.proofs.mask_allowed.Reads as mask-allowed-reads
 use Rattle.fields.proofs.all_zero.Reads as all-zero-reads
 use Rattle.tallied.proofs.block.height_good.Reads as height-good-reads
 

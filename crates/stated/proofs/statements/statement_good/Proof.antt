@@ -7,8 +7,8 @@ use Rattle.stated.proofs.statements.statement_good.Statement.{statement
 use Rattle.stated.proofs.statements.statement_good.Tie as tie
 use Rattle.stated.proofs.statements.statement_good.Reads as reads
 use Rattle.stated.proofs.statements.statement_good.Lts as lts
-use Rattle.allowed.proofs.clauses.leads.Reads as leads-reads
-use Rattle.allowed.proofs.clauses.view_allowed.Reads as view-allowed-reads
+use Rattle.clauses.proofs.leads.Reads as leads-reads
+use Rattle.clauses.proofs.view_allowed.Reads as view-allowed-reads
 use Rattle.fields.proofs.all_zero.Reads as all-zero-reads
 use Rattle.fields.proofs.get.Reads as get-reads
 use Rattle.stated.proofs.statements.new_view_said.Reads as new-view-said-reads
