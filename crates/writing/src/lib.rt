@@ -29,9 +29,9 @@ pub fn write_message(out: &mut [u8], at: usize, message: Message) -> usize
     match message {
         Message::Stated(x) => {
             if x.is_new_view {
-                kinds::new_view_out(out, at, x)
+                by_kind::new_view_out(out, at, x)
             } else {
-                kinds::propose_out(out, at, x)
+                by_kind::propose_out(out, at, x)
             }
         }
         Message::Vote {
@@ -39,14 +39,14 @@ pub fn write_message(out: &mut [u8], at: usize, message: Message) -> usize
             height,
             name,
             author,
-        } => kinds::vote_out(out, at, view, height, name, author),
-        Message::Blame { view, author } => kinds::blame_out(out, at, view, author),
-        Message::BlameSet { view, mask } => kinds::blame_set_out(out, at, view, mask),
+        } => by_kind::vote_out(out, at, view, height, name, author),
+        Message::Blame { view, author } => by_kind::blame_out(out, at, view, author),
+        Message::BlameSet { view, mask } => by_kind::blame_set_out(out, at, view, mask),
         Message::Status {
             height,
             name,
             cert,
             mask,
-        } => kinds::status_out(out, at, height, name, cert, mask),
+        } => by_kind::status_out(out, at, height, name, cert, mask),
     }
 }

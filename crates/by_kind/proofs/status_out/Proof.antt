@@ -3,8 +3,8 @@ use Rattle.fields.specs.Names.{nameOf}
 use Rattle.rules.specs.Messages.{status, tagsOf, rowOf, table, kind, values, width}
 use Rattle.outgoing.proofs.Writing.{first-field, no-fields, message-says}
 use borrow.Author.Needs.{needs}
-use Rattle.kinds.proofs.status_out.Statement.{statement}
-use Rattle.kinds.proofs.status_out.Tie as tie
+use Rattle.by_kind.proofs.status_out.Statement.{statement}
+use Rattle.by_kind.proofs.status_out.Tie as tie
 
 number-field-requires : tie.Need-number-field-requires
 number-field-requires c κs = search needs

@@ -4,8 +4,8 @@ use Rattle.rules.specs.Messages.{propose, tagsOf, rowOf, table, kind, values, w
 use Rattle.wire.proofs.Statements.{propose-said}
 use Rattle.outgoing.proofs.Writing.{first-field, fields-both, message-says}
 use borrow.Author.Needs.{needs}
-use Rattle.kinds.proofs.propose_out.Statement.{statement}
-use Rattle.kinds.proofs.propose_out.Tie as tie
+use Rattle.by_kind.proofs.propose_out.Statement.{statement}
+use Rattle.by_kind.proofs.propose_out.Tie as tie
 
 block-requires : tie.Need-block-requires
 block-requires c κs = search needs

@@ -7,8 +7,8 @@ use lib.Dec.{lit<}
 use Prim.Native.Nat.{_^_}
 use native.Mathlib.Omega.{arith}
 use borrow.Author.Needs.{needs}
-use Rattle.kinds.proofs.new_view_out.Statement.{statement}
-use Rattle.kinds.proofs.new_view_out.Tie as tie
+use Rattle.by_kind.proofs.new_view_out.Statement.{statement}
+use Rattle.by_kind.proofs.new_view_out.Tie as tie
 
 block-requires : tie.Need-block-requires
 block-requires c κs = search needs

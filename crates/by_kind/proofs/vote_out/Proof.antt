@@ -3,8 +3,8 @@ use Rattle.fields.specs.Names.{nameOf}
 use Rattle.rules.specs.Messages.{vote, tagsOf, rowOf, table, kind, values, width}
 use Rattle.outgoing.proofs.Writing.{first-field, no-fields, fields-both, message-says}
 use borrow.Author.Needs.{needs}
-use Rattle.kinds.proofs.vote_out.Statement.{statement}
-use Rattle.kinds.proofs.vote_out.Tie as tie
+use Rattle.by_kind.proofs.vote_out.Statement.{statement}
+use Rattle.by_kind.proofs.vote_out.Tie as tie
 
 block-requires : tie.Need-block-requires
 block-requires c κs = search needs
