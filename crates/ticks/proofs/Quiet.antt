@@ -19,8 +19,8 @@ use Rattle.store.proofs.Forms.{form-log}
 use Rattle.store.proofs.Loaded.{loaded-clock}
 use Rattle.linked.specs.Told.{Told}
 use Rattle.commit.specs.Outcome.{tickLog, Gained}
-use Rattle.commit.specs.Looks.{Seen}
-use Rattle.commit.specs.declared.Glance.{Glance}
+use Rattle.glance.specs.Looks.{Seen}
+use Rattle.glance.specs.declared.Glance.{Glance}
 use Rattle.commit.proofs.Ticks.{gained-none, told-log}
 use Rattle.acts.specs.Works.{Formed, Works}
 use Rattle.acts.proofs.Works.{works-is, works-none}

@@ -34,8 +34,8 @@ use Rattle.kept.proofs.Reports.{due-stored}
 use Rattle.kept.proofs.Room.{complain-bytes, lead-bytes}
 use Rattle.kept.proofs.Ticks.{logging-keeps, complain-keeps, lead-keeps}
 use Rattle.commit.specs.Outcome.{tickLog, Gained, Committed}
-use Rattle.commit.specs.declared.Merged.{Merged}
-use Rattle.commit.specs.declared.Merged.the-variants.{Grown}
+use Rattle.merging.specs.declared.Merged.{Merged}
+use Rattle.merging.specs.declared.Merged.the-variants.{Grown}
 use Rattle.acts.specs.Works.{Formed, Works}
 use Rattle.acts.proofs.Answers.{new-room}
 use Rattle.acts.proofs.Rooms.{room-made}

@@ -10,13 +10,13 @@ ghost use Rattle.store.specs.Layout.{sizeIn};
 ghost use Rattle.store.specs.Decode.{stateOf};
 ghost use Rattle.store.specs.Meaning.{Loads};
 ghost use Rattle.linked.specs.Told.{Told};
-ghost use Rattle.commit.specs.Looks.{Seen};
+ghost use Rattle.glance.specs.Looks.{Seen};
 ghost use Rattle.acts.specs.Works.{Formed, Works};
 ghost use Rattle.turns.specs.Gains.{grownLog};
 ghost use Rattle.refusals.specs.Answers.{Answers};
 ghost use Rattle.ticks.specs.Turns.{later, moving, growing, turning, Clear, Running, Calmly};
-use commit::Glance;
-use commit::Merged;
+use glance::Glance;
+use merging::Merged;
 use settings::Settings;
 use store::Cause;
 use store::Station;
@@ -123,7 +123,7 @@ pub fn ticked(
     if station.clock as u64 == Settings::LAST_CLOCK {
         return refusals::stop(store, 8, Cause::Clock);
     }
-    let glance = commit::look(store, station, told);
+    let glance = glance::look(store, station, told);
     let calm = is_calm(store, station, glance.votes);
     if calm & (station.statements <= glance.settled) {
         records::set_clock(store, station.clock + 1);

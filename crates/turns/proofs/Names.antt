@@ -20,9 +20,9 @@ use Rattle.store.specs.Layout.{statementTable, logTable, sizeIn, countOf}
 use Rattle.store.specs.Decode.{rows, statementAt, nameAt, statements, names, stateFrom, stateOf, Form, Left}
 use Rattle.records.specs.Changes.{appending}
 use Rattle.store.proofs.Rows.{rows-append, rows-length, rows-same, rows-at}
-use Rattle.commit.specs.Chains.{nameIn, statementIn}
+use Rattle.walks.specs.Chains.{nameIn, statementIn}
 use Rattle.commit.specs.Outcome.{tickLog, Gained}
-use Rattle.commit.proofs.Readers.{name-of}
+use Rattle.glance.proofs.Readers.{name-of}
 use Rattle.laws.proofs.Lengths.{weight, length-effect, reports-bytes}
 use Rattle.acts.specs.Works.{Works}
 use Rattle.acts.proofs.Works.{left-then, works-is, works-saying}
