@@ -24,7 +24,7 @@ use Rattle.glance.specs.declared.Glance.{Glance}
 use Rattle.commit.proofs.Ticks.{gained-none, told-log}
 use Rattle.acts.specs.Works.{Formed, Works}
 use Rattle.acts.proofs.Works.{works-is, works-none}
-use Rattle.turns.specs.Gains.{grownLog}
+use Rattle.reports.specs.Gains.{grownLog}
 use Rattle.turns.proofs.Parts.{complain-calm}
 use Rattle.turns.proofs.Leading.{lead-never}
 use Rattle.turns.proofs.Arriving.{enter-not}

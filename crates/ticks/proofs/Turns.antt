@@ -40,11 +40,12 @@ use Rattle.acts.specs.Works.{Formed, Works}
 use Rattle.acts.proofs.Answers.{new-room}
 use Rattle.acts.proofs.Rooms.{room-made}
 use Rattle.acts.proofs.Works.{formed-parts, state-size, works-is, works-end, works-length, works-formed}
-use Rattle.turns.specs.Gains.{grownLog, Enough}
+use Rattle.reports.specs.Gains.{grownLog, Enough}
 use Rattle.turns.proofs.Leading.{now-leads, lead-never, now-fits}
-use Rattle.turns.proofs.Moments.{clock-leads}
-use Rattle.turns.proofs.Names.{grown-length, gained-log, gained-enough}
-use Rattle.turns.proofs.Parts.{left-size, works-then}
+use Rattle.moments.proofs.Moments.{clock-leads}
+use Rattle.reports.proofs.Names.{grown-length, gained-log, gained-enough}
+use Rattle.moments.proofs.Sizes.{left-size}
+use Rattle.turns.proofs.Parts.{works-then}
 use Rattle.turns.proofs.Room.{lead-complained, lead-logged, tick-room}
 use Rattle.ticks.proofs.Clocks.{certificate-length, both-length}
 use Rattle.refusals.specs.Answers.{Answers, Mutely}

@@ -12,7 +12,7 @@ ghost use Rattle.store.specs.Meaning.{Loads};
 ghost use Rattle.linked.specs.Told.{Told};
 ghost use Rattle.glance.specs.Looks.{Seen};
 ghost use Rattle.acts.specs.Works.{Formed, Works};
-ghost use Rattle.turns.specs.Gains.{grownLog};
+ghost use Rattle.reports.specs.Gains.{grownLog};
 ghost use Rattle.refusals.specs.Answers.{Answers};
 ghost use Rattle.ticks.specs.Turns.{later, moving, growing, turning, Clear, Running, Calmly};
 use glance::Glance;
@@ -26,7 +26,7 @@ fn next_fits(store: &[u8], station: Station) -> bool
     requires { ⌜ (Formed (now store)) × (Loads station (now store)) ⌝ }
     ensures { λ r. ⌜ r ≡ hasRoom (inputs.lead (later (stateOf (now (store .entry)))) .now) ⌝ }
 {
-    if !turns::leads_at(store, station, station.clock + 1) {
+    if !moments::leads_at(store, station, station.clock + 1) {
         return true;
     }
     let x = turns::own_new_view(store);
@@ -49,7 +49,7 @@ fn growing(store: &mut [u8], out: &mut [u8], clock: u32, gained: &[u16], len: us
     ensures { λ r. ⌜ Works (growing (grownLog (now (store .entry)) (now (gained .entry)) len) (stateOf (now (store .entry)))) (now (out .entry)) 0 (now (store .exit)) (now (out .exit)) r ⌝ }
 {
     records::set_clock(store, clock);
-    turns::logging(store, out, 0, gained, len)
+    reports::logging(store, out, 0, gained, len)
 }
 
 // The same; then what else is due.
@@ -74,10 +74,10 @@ fn is_calm(store: &[u8], station: Station, votes: usize) -> bool
     ensures { λ r. ⌜ Calmly (now (store .entry)) r ⌝ }
 {
     let next = station.clock + 1;
-    if turns::overdue_at(store, station, next, votes) {
+    if moments::overdue_at(store, station, next, votes) {
         return false;
     }
-    !turns::leads_at(store, station, next) & !turns::enters_at(store, station, next)
+    !moments::leads_at(store, station, next) & !moments::enters_at(store, station, next)
 }
 
 // A tick that may do more than move the clock on: refused before anything is written, or done. Where it is calm the commits are all.

@@ -1,7 +1,7 @@
 -- `ticks::is_calm` meets its contract: each part of a tick is asked at the next clock. Assumes nothing.
 use Rattle.ticks.proofs.Quiet.{calm-by}
 use Rattle.ticks.proofs.Turns.{clock-small}
-use Rattle.turns.proofs.Moments.{entered-before}
+use Rattle.moments.proofs.Moments.{entered-before}
 use native.Mathlib.Omega.{arith}
 use borrow.Author.Needs.{needs}
 use Rattle.ticks.proofs.is_calm.Statement.{statement}

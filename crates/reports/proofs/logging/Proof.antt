@@ -1,15 +1,15 @@
--- `turns::logging` meets its contract. The invariant: the names up to k are logged and reported. The measure is what is left. Assumes nothing.
+-- `reports::logging` meets its contract. The invariant: the names up to k are logged and reported. The measure is what is left. Assumes nothing.
 use Rattle.fields.specs.Names.{nameOf}
-use Rattle.turns.proofs.Names.{enough-few, Logged, logged-none, logged-next, logged-size, logged-count, logged-name, logged-ends, logged-done, committed-bytes}
+use Rattle.reports.proofs.Names.{enough-few, Logged, logged-none, logged-next, logged-size, logged-count, logged-name, logged-ends, logged-done, committed-bytes}
 use Rattle.store.proofs.Forms.{form-long, form-statements}
 use native.Mathlib.Omega.{arith}
 use Prim.Native.Nat.{_+_, _-_, _≤_}
 use mathlib.Core.Path.{ap}
 use Rattle.rules.specs.Limits.{mostStatements}
-use Rattle.turns.proofs.Parts.{same-long}
+use Rattle.moments.proofs.Sizes.{same-long}
 use Rattle.outgoing.proofs.Writing.{says-length}
-use Rattle.turns.proofs.logging.Statement.{statement}
-use Rattle.turns.proofs.logging.Tie as tie
+use Rattle.reports.proofs.logging.Statement.{statement}
+use Rattle.reports.proofs.logging.Tie as tie
 
 abbrev Inv-loop : tie.InvT-loop
 Inv-loop store₀ out₀ at gained len k₀ next₀ store out k next =

@@ -1,9 +1,9 @@
--- `turns::leads` meets its contract. Assumes nothing.
+-- `moments::leads` meets its contract. Assumes nothing.
 use Rattle.store.proofs.Forms.{form-long}
 use native.Mathlib.Omega.{arith}
 use borrow.Author.Needs.{needs}
-use Rattle.turns.proofs.leads.Statement.{statement}
-use Rattle.turns.proofs.leads.Tie as tie
+use Rattle.moments.proofs.leads.Statement.{statement}
+use Rattle.moments.proofs.leads.Tie as tie
 
 load-requires : tie.Need-load-requires
 load-requires c κs =

@@ -1,11 +1,11 @@
--- `turns::leads_at` meets its contract, by the loaded numbers. Assumes nothing.
-use Rattle.turns.proofs.Moments.{short-delay, loaded-never, loaded-then}
+-- `moments::leads_at` meets its contract, by the loaded numbers. Assumes nothing.
+use Rattle.moments.proofs.Moments.{short-delay, loaded-never, loaded-then}
 use borrow.Author.Tests.{not-true, not-false}
 use native.Mathlib.Omega.{arith}
 use mathlib.Core.Path.{sym, _∙_}
 use borrow.Author.Needs.{needs}
-use Rattle.turns.proofs.leads_at.Statement.{statement}
-use Rattle.turns.proofs.leads_at.Tie as tie
+use Rattle.moments.proofs.leads_at.Statement.{statement}
+use Rattle.moments.proofs.leads_at.Tie as tie
 
 mul-is-past : tie.Need-mul-is-past
 mul-is-past c =

@@ -1,9 +1,9 @@
--- `turns::leads_in` meets its contract, by the loaded numbers. Assumes nothing.
-use Rattle.turns.proofs.Moments.{some-stations, loaded-outside, loaded-leads}
+-- `moments::leads_in` meets its contract, by the loaded numbers. Assumes nothing.
+use Rattle.moments.proofs.Moments.{some-stations, loaded-outside, loaded-leads}
 use borrow.Author.Tests.{not-true, not-false}
 use borrow.Author.Needs.{needs}
-use Rattle.turns.proofs.leads_in.Statement.{statement}
-use Rattle.turns.proofs.leads_in.Tie as tie
+use Rattle.moments.proofs.leads_in.Statement.{statement}
+use Rattle.moments.proofs.leads_in.Tie as tie
 
 is-in-view-requires : tie.Need-is-in-view-requires
 is-in-view-requires c κs =

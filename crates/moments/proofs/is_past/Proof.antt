@@ -1,7 +1,7 @@
--- `turns::is_past` meets its contract: the sums fit. Assumes nothing.
+-- `moments::is_past` meets its contract: the sums fit. Assumes nothing.
 use borrow.Author.Needs.{needs}
-use Rattle.turns.proofs.is_past.Statement.{statement}
-use Rattle.turns.proofs.is_past.Tie as tie
+use Rattle.moments.proofs.is_past.Statement.{statement}
+use Rattle.moments.proofs.is_past.Tie as tie
 
 add-result : tie.Need-add-result
 add-result c = search needs

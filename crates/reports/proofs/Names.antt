@@ -26,8 +26,8 @@ use Rattle.glance.proofs.Readers.{name-of}
 use Rattle.laws.proofs.Lengths.{weight, length-effect, reports-bytes}
 use Rattle.acts.specs.Works.{Works}
 use Rattle.acts.proofs.Works.{left-then, works-is, works-saying}
-use Rattle.turns.specs.Gains.{grownLog, Enough}
-use Rattle.turns.proofs.Parts.{left-size}
+use Rattle.reports.specs.Gains.{grownLog, Enough}
+use Rattle.moments.proofs.Sizes.{left-size}
 
 -- ---- lists
 

@@ -1,5 +1,5 @@
--- `turns::overdue_at` meets its contract: each test is one of the rule's, by the loaded numbers. Assumes nothing.
-use Rattle.turns.proofs.Moments.{view-limits, short-delay, few-votes, short-wait, loaded-calm, loaded-early, loaded-overdue}
+-- `moments::overdue_at` meets its contract: each test is one of the rule's, by the loaded numbers. Assumes nothing.
+use Rattle.moments.proofs.Moments.{view-limits, short-delay, few-votes, short-wait, loaded-calm, loaded-early, loaded-overdue}
 use Rattle.store.proofs.Forms.{form-long}
 use native.Mathlib.Omega.{arith}
 use borrow.Author.Tests.{not-true, not-false}
@@ -7,8 +7,8 @@ use mathlib.Core.Path.{ap, _∙_}
 use mathlib.Core.Bool.{not}
 use Rattle.acts.proofs.Votes.{own-small}
 use borrow.Author.Needs.{needs}
-use Rattle.turns.proofs.overdue_at.Statement.{statement}
-use Rattle.turns.proofs.overdue_at.Tie as tie
+use Rattle.moments.proofs.overdue_at.Statement.{statement}
+use Rattle.moments.proofs.overdue_at.Tie as tie
 
 is-in-view-requires : tie.Need-is-in-view-requires
 is-in-view-requires c κs =

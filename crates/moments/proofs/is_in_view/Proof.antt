@@ -1,4 +1,4 @@
--- `turns::is_in_view` meets its contract, by the loaded phase. Assumes nothing.
+-- `moments::is_in_view` meets its contract, by the loaded phase. Assumes nothing.
 use mathlib.Core.Path.{sym, ap, _∙_}
 use mathlib.Core.Logic.{⊎-elim}
 use native.Mathlib.Omega.{arith}
@@ -7,8 +7,8 @@ use Rattle.laws.proofs.Tests.{eqb-self}
 use Rattle.store.proofs.Phase.{the-type}
 use Rattle.acts.proofs.Stores.{in-view, not-in-view}
 use borrow.Author.Needs.{needs}
-use Rattle.turns.proofs.is_in_view.Statement.{statement}
-use Rattle.turns.proofs.is_in_view.Tie as tie
+use Rattle.moments.proofs.is_in_view.Statement.{statement}
+use Rattle.moments.proofs.is_in_view.Tie as tie
 
 enum-told : tie.Need-enum-told
 enum-told c = search needs

@@ -1,11 +1,11 @@
--- `turns::enters_now` meets its contract. Assumes nothing.
+-- `moments::enters_now` meets its contract. Assumes nothing.
 use Rattle.store.proofs.Forms.{form-long}
 use native.Mathlib.Omega.{arith}
 use mathlib.Core.Path.{_∙_}
-use Rattle.turns.proofs.Moments.{enters-now}
+use Rattle.moments.proofs.Moments.{enters-now}
 use borrow.Author.Needs.{needs}
-use Rattle.turns.proofs.enters_now.Statement.{statement}
-use Rattle.turns.proofs.enters_now.Tie as tie
+use Rattle.moments.proofs.enters_now.Statement.{statement}
+use Rattle.moments.proofs.enters_now.Tie as tie
 
 load-requires : tie.Need-load-requires
 load-requires c κs =

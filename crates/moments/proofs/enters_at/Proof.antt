@@ -1,15 +1,15 @@
--- `turns::enters_at` meets its contract, by the loaded phase. Assumes nothing.
+-- `moments::enters_at` meets its contract, by the loaded phase. Assumes nothing.
 use mathlib.Core.Path.{ap, _∙_}
 use mathlib.Core.Bool.{_&&_}
 use mathlib.Core.Logic.{⊎-elim}
 use lib.Dec.{ltb}
 use denote.Enum.Declared.{tagOf}
 use Rattle.store.proofs.Phase.{the-type}
-use Rattle.turns.proofs.Moments.{short-delay, enters-then, enters-never}
+use Rattle.moments.proofs.Moments.{short-delay, enters-then, enters-never}
 use native.Mathlib.Omega.{arith}
 use borrow.Author.Needs.{needs}
-use Rattle.turns.proofs.enters_at.Statement.{statement}
-use Rattle.turns.proofs.enters_at.Tie as tie
+use Rattle.moments.proofs.enters_at.Statement.{statement}
+use Rattle.moments.proofs.enters_at.Tie as tie
 
 enum-known-phase : tie.Need-enum-known-phase
 enum-known-phase c = search needs
