@@ -1,8 +1,8 @@
--- `ticks::turning` meets its contract: what follows the log. Assumes nothing.
-use Rattle.ticks.proofs.Turns.{grown-formed, grown-room, grown-votes, grown-space, turned}
+-- `moves::turning` meets its contract: what follows the log. Assumes nothing.
+use Rattle.moves.proofs.Turns.{grown-formed, grown-room, grown-votes, grown-space, turned}
 use borrow.Author.Needs.{needs}
-use Rattle.ticks.proofs.turning.Statement.{statement}
-use Rattle.ticks.proofs.turning.Tie as tie
+use Rattle.moves.proofs.turning.Statement.{statement}
+use Rattle.moves.proofs.turning.Tie as tie
 
 growing-requires : tie.Need-growing-requires
 growing-requires c κs =

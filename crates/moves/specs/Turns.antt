@@ -7,11 +7,9 @@ use lib.ListN.{length}
 use Rattle.rules.specs.Limits.{lastClock, leastOut, mostStatementsLarge}
 use Rattle.rules.specs.Words.{State}
 use Rattle.rules.specs.Inputs.{Work, _▸_, withClock, logging, overdue, complain, leadsNow, lead, entersNow, enter}
-use Rattle.rules.specs.Refusals.{hasRoom, running}
+use Rattle.rules.specs.Refusals.{hasRoom}
 use Rattle.store.specs.Layout.{sizeIn}
 use Rattle.store.specs.Decode.{stateOf}
-use Rattle.store.specs.Meaning.{Loads}
-use Rattle.store.specs.declared.Station.{Station}
 use Rattle.commit.specs.Outcome.{Gained}
 use Rattle.acts.specs.Works.{Formed}
 
@@ -43,14 +41,6 @@ pub record Clear (b t : List ℕ) (clock n room : ℕ) : Type 0 where
   pub gained : Gained b t n
   pub long : length t ≡ mostStatementsLarge
   pub fits : hasRoom (lead (later (stateOf b)) .now) ≡ true
-  pub space : leastOut (sizeIn b) ≤ room
-
--- a running station whose clock is not the last, and an out buffer for what it says
-pub record Running (b : List ℕ) (s : Station) (room : ℕ) : Type 0 where
-  pub formed : Formed b
-  pub runs : running (stateOf b) ≡ true
-  pub loaded : Loads s b
-  pub ahead : s .clock ≡ lastClock → ⊥
   pub space : leastOut (sizeIn b) ≤ room
 
 -- nothing but the log is due at the next clock

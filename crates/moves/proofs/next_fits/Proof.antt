@@ -1,4 +1,4 @@
--- `ticks::next_fits` meets its contract: whether a statement fits is the same at every clock. Assumes nothing.
+-- `moves::next_fits` meets its contract: whether a statement fits is the same at every clock. Assumes nothing.
 use mathlib.Core.Path.{sym, _∙_}
 use native.Mathlib.Omega.{arith}
 use mathlib.Core.Option.{none}
@@ -7,10 +7,10 @@ use Rattle.wire.specs.Meaning.{statementOf}
 use Rattle.store.specs.Decode.{stateOf}
 use Rattle.acts.proofs.Plans.{plan-room}
 use Rattle.acts.proofs.Works.{formed-parts}
-use Rattle.ticks.proofs.Turns.{clock-small, loaded-next, later-leader, never-next, fits-next}
+use Rattle.moves.proofs.Turns.{clock-small, loaded-next, later-leader, never-next, fits-next}
 use borrow.Author.Needs.{needs}
-use Rattle.ticks.proofs.next_fits.Statement.{statement}
-use Rattle.ticks.proofs.next_fits.Tie as tie
+use Rattle.moves.proofs.next_fits.Statement.{statement}
+use Rattle.moves.proofs.next_fits.Tie as tie
 
 add-leads-at : tie.Need-add-leads-at
 add-leads-at c =

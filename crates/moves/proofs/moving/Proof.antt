@@ -1,11 +1,11 @@
--- `ticks::moving` meets its contract: three acts, each at the place after the one before. Assumes nothing.
+-- `moves::moving` meets its contract: three acts, each at the place after the one before. Assumes nothing.
 use mathlib.Core.Path.{ap}
 use native.Mathlib.Omega.{arith}
 use Rattle.rules.specs.Limits.{mostStatements}
-use Rattle.ticks.proofs.Turns.{complained-formed, complained-end, complained-room, led-formed, led-end, led-size, moved}
+use Rattle.moves.proofs.Turns.{complained-formed, complained-end, complained-room, led-formed, led-end, led-size, moved}
 use borrow.Author.Needs.{needs}
-use Rattle.ticks.proofs.moving.Statement.{statement}
-use Rattle.ticks.proofs.moving.Tie as tie
+use Rattle.moves.proofs.moving.Statement.{statement}
+use Rattle.moves.proofs.moving.Tie as tie
 
 complain-requires : tie.Need-complain-requires
 complain-requires c κs = search needs

@@ -1,8 +1,8 @@
--- `ticks::growing` meets its contract: the clock and the log. Assumes nothing.
-use Rattle.ticks.proofs.Turns.{enough-now, grown}
+-- `moves::growing` meets its contract: the clock and the log. Assumes nothing.
+use Rattle.moves.proofs.Turns.{enough-now, grown}
 use borrow.Author.Needs.{needs}
-use Rattle.ticks.proofs.growing.Statement.{statement}
-use Rattle.ticks.proofs.growing.Tie as tie
+use Rattle.moves.proofs.growing.Statement.{statement}
+use Rattle.moves.proofs.growing.Tie as tie
 
 set-clock-requires : tie.Need-set-clock-requires
 set-clock-requires c κs = search needs

@@ -1,11 +1,11 @@
--- `ticks::is_calm` meets its contract: each part of a tick is asked at the next clock. Assumes nothing.
-use Rattle.ticks.proofs.Quiet.{calm-by}
-use Rattle.ticks.proofs.Turns.{clock-small}
+-- `moves::is_calm` meets its contract: each part of a tick is asked at the next clock. Assumes nothing.
+use Rattle.moves.proofs.Calming.{calm-by}
+use Rattle.moves.proofs.Turns.{clock-small}
 use Rattle.moments.proofs.Moments.{entered-before}
 use native.Mathlib.Omega.{arith}
 use borrow.Author.Needs.{needs}
-use Rattle.ticks.proofs.is_calm.Statement.{statement}
-use Rattle.ticks.proofs.is_calm.Tie as tie
+use Rattle.moves.proofs.is_calm.Statement.{statement}
+use Rattle.moves.proofs.is_calm.Tie as tie
 
 add-next : tie.Need-add-next
 add-next c =
