@@ -21,7 +21,8 @@ use Rattle.store.proofs.Forms.{form-log}
 use Rattle.linked.specs.Told.{Told}
 use Rattle.glance.specs.Votes.{isRipe}
 use Rattle.glance.specs.Looks.{Tells, ToldBelow}
-use Rattle.walks.specs.Chains.{statementIn, nameIn, lacking, Walked, WalkedFrom}
+use Rattle.glance.specs.Tables.{statementIn, nameIn}
+use Rattle.walks.specs.Chains.{lacking, Walked, WalkedFrom}
 use Rattle.merging.specs.Joins.{nameSoFar, WholeChain, Log, Has, JoinedWith}
 use Rattle.commit.specs.Outcome.{Settled, Joined}
 use Rattle.merging.specs.declared.Merged.{Merged}

@@ -19,7 +19,7 @@ use Rattle.store.specs.Decode.{rows, statementAt, statements, nameAt, names, st
 use Rattle.store.proofs.Rows.{rows-same, rows-append}
 use Rattle.linked.specs.Told.{Told}
 use Rattle.glance.specs.Votes.{isRipe}
-use Rattle.walks.specs.Chains.{nameIn}
+use Rattle.glance.specs.Tables.{nameIn}
 use Rattle.merging.specs.Joins.{nameSoFar}
 use Rattle.commit.specs.Outcome.{tickLog, Joined, Committed}
 use Rattle.glance.specs.Looks.{ToldIn}

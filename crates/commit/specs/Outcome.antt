@@ -9,7 +9,7 @@ use Rattle.rules.specs.Limits.{mostStatementsLarge}
 use Rattle.rules.specs.Inputs.{withClock, due, commits}
 use Rattle.store.specs.Layout.{logTable, countOf}
 use Rattle.store.specs.Decode.{rows, names, stateOf}
-use Rattle.walks.specs.Chains.{nameIn, Stored}
+use Rattle.glance.specs.Tables.{nameIn, Stored}
 use Rattle.merging.specs.Joins.{Log}
 use Rattle.merging.specs.declared.Merged.{Merged}
 use Rattle.merging.specs.declared.Merged.the-variants.{Grown, Differs}

@@ -4,3 +4,4 @@ pub mod Viewing
 pub mod Voting
 pub mod Looking
 pub mod Seeing
+pub mod Tables

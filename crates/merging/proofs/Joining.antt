@@ -12,7 +12,7 @@ use Rattle.rules.specs.Words.{Statement}
 use Rattle.rules.specs.Inputs.{chain, merge, commit}
 use Rattle.store.specs.Decode.{rows}
 use Rattle.store.proofs.Rows.{rows-same}
-use Rattle.walks.specs.Chains.{nameIn}
+use Rattle.glance.specs.Tables.{nameIn}
 use Rattle.merging.specs.Joins.{nameSoFar, Copied, WholeChain, Agree, JoinedWith}
 use Rattle.merging.specs.declared.Merged.the-variants.{Grown, Differs}
 use Rattle.merging.proofs.Places.{name-same, so-far-new, so-far-same}

@@ -9,7 +9,7 @@ use lib.Seq.{getD-set-same, getD-set-other}
 use borrow.Author.Tests.{lt-ltb, le-ltb}
 use Rattle.store.specs.Layout.{logTable, countOf}
 use Rattle.store.specs.Decode.{statementAt, nameAt}
-use Rattle.walks.specs.Chains.{statementIn, nameIn}
+use Rattle.glance.specs.Tables.{statementIn, nameIn}
 use Rattle.merging.specs.Joins.{nameSoFar, Copied}
 
 module _ (b t : List ℕ) (k : ℕ) where

@@ -10,7 +10,7 @@ use Rattle.rules.specs.Limits.{mostStatementsLarge}
 use Rattle.rules.specs.Inputs.{merge}
 use Rattle.store.specs.Layout.{logTable, countOf}
 use Rattle.store.specs.Decode.{rows, nameAt, Form}
-use Rattle.walks.specs.Chains.{nameIn, Stored}
+use Rattle.glance.specs.Tables.{nameIn, Stored}
 use Rattle.merging.specs.declared.Merged.{Merged}
 use Rattle.merging.specs.declared.Merged.the-variants.{Grown, Differs}
 

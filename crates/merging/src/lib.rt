@@ -6,7 +6,7 @@ ghost use Prim.Native.Nat.{_<_, _≤_};
 ghost use Rattle.rules.specs.Limits.{mostStatements};
 ghost use Rattle.fields.specs.Names.{nameOf};
 ghost use Rattle.store.specs.Layout.{sizeIn, logTable, storeLength, countOf};
-ghost use Rattle.walks.specs.Chains.{nameIn, Known};
+ghost use Rattle.glance.specs.Tables.{nameIn, Known};
 ghost use Rattle.merging.specs.Joins.{nameSoFar, WholeChain, Agree, Copied, JoinedWith};
 use fields::Name;
 

@@ -39,10 +39,11 @@ use Rattle.acts.proofs.Works.{formed-parts, state-size, works-is, works-end, wo
 use Rattle.reports.specs.Gains.{grownLog, Enough}
 use Rattle.turns.proofs.Leading.{now-leads, lead-never, now-fits}
 use Rattle.moments.proofs.Moments.{clock-leads}
-use Rattle.reports.proofs.Names.{grown-length, gained-log, gained-enough}
+use Rattle.reports.proofs.Names.{grown-length}
 use Rattle.moments.proofs.Sizes.{left-size}
 use Rattle.turns.proofs.Parts.{works-then}
 use Rattle.turns.proofs.Room.{lead-complained, lead-logged, tick-room}
+use Rattle.moves.proofs.Gaining.{gained-log, gained-enough}
 use Rattle.moves.proofs.Clocks.{certificate-length, both-length}
 use Rattle.moves.specs.Turns.{later, moving, growing, turning}
 

@@ -6,7 +6,7 @@ use lib.ListN.{length}
 use Rattle.rules.specs.Limits.{mostStatements, mostStatementsLarge}
 use Rattle.store.specs.Layout.{logTable, sizeIn, countOf}
 use Rattle.store.specs.Decode.{rows, names, Form}
-use Rattle.walks.specs.Chains.{nameIn, Stored}
+use Rattle.glance.specs.Tables.{nameIn, Stored}
 
 -- the log's names, then those of the statements whose places stand in the table up to a length
 abbrev pub grownLog : List ℕ → List ℕ → ℕ → List ℕ

@@ -1,19 +1,12 @@
--- Tables of places: the names that they stand for, and how what the check told is copied into one. Assumes nothing.
+-- How what the check told is copied into a table of places. Assumes nothing.
 use Prim.Native.Nat.{ℕ, _+_, _-_, _<_}
-use mathlib.Core.Path.{_≡_, refl, ap, _∙_, subst}
+use mathlib.Core.Path.{_≡_, refl, _∙_, subst}
 use mathlib.Core.List.{List}
 use native.Mathlib.Omega.{arith}
 use native.Mathlib.Decide.{decLt}
 use lib.ListN.{length, getD, set}
 use lib.Seq.{getD-set-same, getD-set-other}
-use Rattle.store.specs.Decode.{statementAt}
-use Rattle.walks.specs.Chains.{statementIn, nameIn, Lowered}
-
-pub name-at : (b t : List ℕ) (k p : ℕ) → p ≡ getD t k 0 → statementAt b p .name ≡ nameIn b t k
-unfolding nameIn statementIn
-name-at b t k p e = ap (λ (i : ℕ). statementAt b i .name) e
-
--- ---- the loop that copies
+use Rattle.walks.specs.Chains.{Lowered}
 
 module _ (from to : List ℕ) where
   pub lowered-none : Lowered from to to 0

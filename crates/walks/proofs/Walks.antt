@@ -22,9 +22,10 @@ use Rattle.store.proofs.Rows.{rows-same}
 use Rattle.store.specs.Searches.{firstFrom}
 use Rattle.store.proofs.Searches.{found-within, found-matches, found-first, missing-first}
 use Rattle.linked.specs.Told.{nameBelow, Told}
-use Rattle.walks.specs.Chains.{statementIn, nameIn, Stored, lacking, Walked, WalkedDown, Meets, Lowered}
+use Rattle.glance.specs.Tables.{statementIn, nameIn, Stored}
+use Rattle.walks.specs.Chains.{lacking, Walked, WalkedDown, Meets, Lowered}
 use Rattle.glance.proofs.Readers.{block-height, block-name}
-use Rattle.walks.proofs.Places.{name-at}
+use Rattle.glance.proofs.Tables.{name-at}
 use Rattle.glance.proofs.Telling.{told-name}
 use Rattle.walks.proofs.Reaching.{below-name, told-under, told-at, reach, told-chain}
 

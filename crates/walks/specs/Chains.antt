@@ -5,22 +5,9 @@ use mathlib.Core.Bool.{Bool, true, false}
 use mathlib.Core.List.{List}
 use mathlib.Core.Option.{Option, none, some}
 use lib.ListN.{getD}
-use Rattle.rules.specs.Words.{Statement}
 use Rattle.rules.specs.Inputs.{chain}
-use Rattle.store.specs.Layout.{statementTable, logTable, countOf}
 use Rattle.store.specs.Decode.{rows, statementAt, nameAt, statements}
-
--- the statement whose place stands in a table, and its name
-unfoldable pub statementIn : List ℕ → List ℕ → ℕ → Statement
-statementIn b t k = statementAt b (getD t k 0)
-
-unfoldable pub nameIn : List ℕ → List ℕ → ℕ → ℕ
-unfolding statementIn
-nameIn b t k = statementIn b t k .name
-
--- the places from one to another are those of stored statements
-abbrev pub Stored : List ℕ → List ℕ → ℕ → ℕ → Type 0
-Stored b t from to = (k : ℕ) → from ≤ k → k < to → getD t k 0 < countOf statementTable b
+use Rattle.glance.specs.Tables.{statementIn, nameIn, Stored, Known}
 
 -- a chain that lacks so many of its lowest names: whole where it lacks none
 abbrev pub lacking : ℕ → List ℕ → Option (List ℕ)
@@ -37,11 +24,6 @@ pub record WalkedFrom (b t : List ℕ) (i left : ℕ) : Type 0 where
   pub walked : Walked b t (statementAt b i .height) left
   pub below : left < statementAt b i .height
   pub top : getD t (statementAt b i .height - 1) 0 ≡ i
-
--- the lowest names of a table's chain are the log's
-pub record Known (b t : List ℕ) (known : ℕ) : Type 0 where
-  pub logged : known ≤ countOf logTable b
-  pub names : (k : ℕ) → k < known → nameIn b t k ≡ nameAt b k
 
 -- the walk from statement i, and how many of its lowest names are the log's
 pub record WalkedDown (b t : List ℕ) (i left known : ℕ) : Type 0 where

@@ -1,6 +1,6 @@
 -- `merging::agrees` meets its contract. The invariant: the names below height k agree as far as they are asked for. The measure is what is left of them. Assumes nothing.
 use Rattle.store.proofs.Forms.{form-long, form-statements, form-log}
-use Rattle.walks.specs.Chains.{nameIn}
+use Rattle.glance.specs.Tables.{nameIn}
 use Rattle.merging.specs.Joins.{nameSoFar}
 use Rattle.merging.proofs.Places.{so-far-old}
 use borrow.Author.Count.{below-more}

@@ -1,5 +1,5 @@
 -- `merging::name_in` meets its contract. Assumes nothing.
-use Rattle.walks.proofs.Places.{name-at}
+use Rattle.glance.proofs.Tables.{name-at}
 use Rattle.glance.proofs.Readers.{name-of}
 use mathlib.Core.Path.{_∙_}
 use borrow.Author.Needs.{needs}
