@@ -33,7 +33,7 @@ use Rattle.acts.specs.Answers.{Stands}
 use Rattle.acts.specs.Works.{Formed, Works}
 use Rattle.acts.proofs.Places.{place-sendable, place-message, sendable-linked}
 use Rattle.acts.proofs.Works.{formed-parts, left-formed, works-is}
-use Rattle.turns.proofs.Parts.{left-size}
+use Rattle.moments.proofs.Sizes.{left-size}
 
 -- ---- by the rules' names
 

@@ -27,7 +27,8 @@ use Rattle.acts.specs.Works.{Formed, Works}
 use Rattle.acts.proofs.Places.{place-sendable}
 use Rattle.acts.proofs.Votes.{voting-below, voting-cast}
 use Rattle.acts.proofs.Works.{formed-parts, left-formed, ballot-bytes, works-none, works-is}
-use Rattle.turns.proofs.Parts.{left-size, works-then, left-same}
+use Rattle.moments.proofs.Sizes.{left-size}
+use Rattle.turns.proofs.Parts.{works-then, left-same}
 
 -- ---- statements without their votes
 
