@@ -1,4 +1,4 @@
--- `search::opened_by` meets its contract. Assumes nothing.
+-- `certificates::opened_by` meets its contract. Assumes nothing.
 use Prim.Native.Nat.{_-_, _+_, _≤_}
 use mathlib.Core.Path.{_≡_, refl, sym, ap, _∙_}
 use native.Mathlib.Omega.{arith}
@@ -7,10 +7,10 @@ use Rattle.rules.specs.Words.{openedBy}
 use Rattle.store.specs.Layout.{tallyTable, countOf}
 use Rattle.store.specs.Decode.{rows, tallyAt, tallies}
 use Rattle.store.proofs.Loaded.{loaded-tallies}
-use Rattle.search.proofs.Counts.{long, few-tallies}
-use Rattle.search.proofs.Openings.{opened-start, opened-whole, opened-few, opened-one, opened-none}
-use Rattle.search.proofs.opened_by.Statement.{statement}
-use Rattle.search.proofs.opened_by.Tie as tie
+use Rattle.store.proofs.Counts.{long, few-tallies}
+use Rattle.certificates.proofs.Openings.{opened-start, opened-whole, opened-few, opened-one, opened-none}
+use Rattle.certificates.proofs.opened_by.Statement.{statement}
+use Rattle.certificates.proofs.opened_by.Tie as tie
 
 abbrev Inv-loop : tie.InvT-loop
 Inv-loop store author opened₀ i₀ opened i =

@@ -1,12 +1,12 @@
--- `search::better` meets its contract. Assumes nothing.
+-- `certificates::better` meets its contract. Assumes nothing.
 use mathlib.Core.Path.{_∙_, sym}
 use borrow.Author.Tests.{not-true, not-false}
 use borrow.Author.Needs.{needs}
 use Rattle.settings.specs.Made.{settingsOf}
 use Rattle.words.specs.Meaning.{blockOf}
-use Rattle.search.proofs.Tops.{chosen-late, chosen-few, chosen-lower, chosen-here}
-use Rattle.search.proofs.better.Statement.{statement}
-use Rattle.search.proofs.better.Tie as tie
+use Rattle.certificates.proofs.Ranks.{chosen-late, chosen-few, chosen-lower, chosen-here}
+use Rattle.certificates.proofs.better.Statement.{statement}
+use Rattle.certificates.proofs.better.Tie as tie
 
 returns : tie.Need-returns
 unfolding blockOf

@@ -1,4 +1,4 @@
--- `search::voters` meets its contract. Assumes nothing.
+-- `certificates::voters` meets its contract. Assumes nothing.
 use mathlib.Core.Path.{sym, ap, _∙_}
 use native.Mathlib.Omega.{arith}
 use borrow.Author.Needs.{needs}
@@ -8,10 +8,10 @@ use Rattle.tallies.specs.Meaning.{tallyOf}
 use Rattle.store.specs.Layout.{tallyTable, countOf}
 use Rattle.store.specs.Decode.{tallyAt, tallies}
 use Rattle.store.proofs.Searches.{found-within, found-first, missing-first}
-use Rattle.search.proofs.Counts.{long, few-tallies}
-use Rattle.search.proofs.Pairs.{maskOf, voters-first}
-use Rattle.search.proofs.voters.Statement.{statement}
-use Rattle.search.proofs.voters.Tie as tie
+use Rattle.store.proofs.Counts.{long, few-tallies}
+use Rattle.certificates.proofs.Masks.{maskOf, voters-first}
+use Rattle.certificates.proofs.voters.Statement.{statement}
+use Rattle.certificates.proofs.voters.Tie as tie
 
 find-tally-requires : tie.Need-find-tally-requires
 find-tally-requires c κs = search needs

@@ -1,5 +1,5 @@
--- `search::ranks_below` meets its contract: a rank is the number of the first eight bytes. Assumes nothing.
-use Rattle.search.proofs.Tops.{rank-number}
+-- `certificates::ranks_below` meets its contract: a rank is the number of the first eight bytes. Assumes nothing.
+use Rattle.certificates.proofs.Ranks.{rank-number}
 use Rattle.store.specs.Decode.{tallyFor, tallyAt}
 use Rattle.store.specs.Layout.{tallyTable, sizeIn, placeOf}
 use Rattle.words.specs.Meaning.{blockOf}
@@ -10,8 +10,8 @@ use native.Mathlib.Nat.{add-zero}
 use mathlib.Core.Path.{refl, sym, ap, _∙_}
 use Prim.Native.Nat.{ℕ, _+_, _*_, _^_}
 use borrow.Author.Needs.{needs}
-use Rattle.search.proofs.ranks_below.Statement.{statement}
-use Rattle.search.proofs.ranks_below.Tie as tie
+use Rattle.certificates.proofs.ranks_below.Statement.{statement}
+use Rattle.certificates.proofs.ranks_below.Tie as tie
 
 tally-place-requires : tie.Need-tally-place-requires
 tally-place-requires c κs = search needs

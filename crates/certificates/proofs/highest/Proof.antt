@@ -1,6 +1,6 @@
--- `search::highest` meets its contract: the highest of what was passed is known. Assumes nothing.
-use Rattle.search.proofs.Tops.{chosen-below, highest-none, highest-step, highest-all}
-use Rattle.search.proofs.Counts.{long, few-tallies}
+-- `certificates::highest` meets its contract: the highest of what was passed is known. Assumes nothing.
+use Rattle.certificates.proofs.Ranks.{chosen-below, highest-none, highest-step, highest-all}
+use Rattle.store.proofs.Counts.{long, few-tallies}
 use Rattle.store.proofs.Loaded.{loaded-settings, loaded-tallies}
 use Rattle.store.specs.Decode.{rows, tallyAt, tallies, stateOf}
 use Rattle.store.specs.Layout.{tallyTable, countOf}
@@ -11,8 +11,8 @@ use Rattle.rules.specs.Words as words
 use native.Mathlib.Omega.{arith}
 use mathlib.Core.Path.{_≡_, refl, sym, _∙_, ap}
 use Prim.Native.Nat.{_-_, _≤_}
-use Rattle.search.proofs.highest.Statement.{statement}
-use Rattle.search.proofs.highest.Tie as tie
+use Rattle.certificates.proofs.highest.Statement.{statement}
+use Rattle.certificates.proofs.highest.Tie as tie
 
 abbrev Inv-loop : tie.InvT-loop
 Inv-loop store view settings best₀ i₀ best i =
