@@ -40,7 +40,7 @@ fn extended(store: &[u8], name: Name) -> Offer
         return Offer::NotTaken;
     };
     let top = store::statement_at(store, i);
-    let mask = search::voters(store, words::own_block(top, 0));
+    let mask = certificates::voters(store, words::own_block(top, 0));
     if !settings.quorum(mask as u64) {
         return Offer::NotTaken;
     }

@@ -19,7 +19,7 @@ use Rattle.outgoing.proofs.Writing.{says-length}
 use Rattle.store.specs.Layout.{statementTable, sizeIn, countOf}
 use Rattle.store.specs.Decode.{rows, statementAt, statements, stateFrom, stateOf}
 use Rattle.store.proofs.Rows.{rows-length, rows-at, rows-from}
-use Rattle.search.specs.Orders.{standing, placeAt}
+use Rattle.orders.specs.Orders.{standing, placeAt}
 use Rattle.kept.proofs.Keeps.{voting-keeps}
 use Rattle.laws.proofs.Lengths.{bytes-none}
 use Rattle.acts.specs.Answers.{Stands}

@@ -11,7 +11,7 @@ ghost use Rattle.rules.specs.Refusals.{hasRoom};
 ghost use Rattle.wire.specs.Meaning.{statementOf};
 ghost use Rattle.store.specs.Layout.{sizeIn};
 ghost use Rattle.store.specs.Decode.{rows, stateOf};
-ghost use Rattle.search.specs.Orders.{standing};
+ghost use Rattle.orders.specs.Orders.{standing};
 ghost use Rattle.kept.specs.Said.{Sendable};
 ghost use Rattle.acts.specs.Works.{Formed, Works};
 ghost use Rattle.turns.specs.Ballots.{Listed};
@@ -48,7 +48,7 @@ pub fn own_new_view(store: &[u8]) -> Statement
 {
     let station = Station::load(store);
     let settings = station.settings;
-    let best = search::highest(store, station.view);
+    let best = certificates::highest(store, station.view);
     let name = best.name;
     let link = Name {
         first: 0,
@@ -89,7 +89,7 @@ fn entered(store: &mut [u8], out: &mut [u8], at: usize) -> usize
     let station = Station::load(store);
     let settings = station.settings;
     let view = station.view + 1;
-    let lock = search::highest(store, view);
+    let lock = certificates::highest(store, view);
     records::enter(store, view, lock);
     let to = settings.leader(view as u64);
     if to == settings.own {
@@ -139,7 +139,7 @@ fn arrive(store: &mut [u8], out: &mut [u8], at: usize, order: &mut [u16]) -> usi
             acts::quit_with_pair(store, out, at, earlier, later)
         }
         Pair::Nothing => {
-            let count = search::in_order(store, view, order);
+            let count = orders::in_order(store, view, order);
             vote_in_order(store, out, at, order, count)
         }
     }
