@@ -18,9 +18,9 @@ use Rattle.laws.proofs.Tests.{by-bool, by-option, no-some}
 use Rattle.laws.proofs.Truths.{and-3, both}
 use Rattle.laws.proofs.Lengths.{length-field}
 use Rattle.slots.specs.Slots.{isReadable}
-use Rattle.envelope.specs.Items.{Items, end, message, envelope, envelopeTag, messageTag, bytesOf, joined, Held}
-use Rattle.envelope.specs.Reading.{mostBytes, mostDepth, isWhole, valueIn, restIn, itemOf, itemIn, itemsFrom, inside, isOpened, envelopeIn}
-use Rattle.envelope.proofs.Reading.{item-message, item-envelope, tested, sorted, onward, inside-none, inside-step}
+use Rattle.items.specs.Items.{Items, end, message, envelope, envelopeTag, messageTag, bytesOf, joined, Held}
+use Rattle.items.specs.Reading.{mostBytes, mostDepth, isWhole, valueIn, restIn, itemOf, itemIn, itemsFrom, inside, isOpened, envelopeIn}
+use Rattle.items.proofs.Reading.{item-message, item-envelope, tested, sorted, onward, inside-none, inside-step}
 
 -- ---- a field in front of other bytes
 

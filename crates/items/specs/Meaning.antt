@@ -5,12 +5,12 @@ use mathlib.Core.List.{List}
 use mathlib.Core.Option.{Option, none, some}
 use lib.ListN.{length}
 use Rattle.fields.specs.Places.{number}
-use Rattle.envelope.specs.Items.{Items, messagesOf}
-use Rattle.envelope.specs.Reading.{itemIn, inside}
-use Rattle.envelope.specs.declared.Item.{Item}
-use Rattle.envelope.specs.declared.Item.the-variants.{Good, Bad}
-use Rattle.envelope.specs.declared.Count.{Count}
-use Rattle.envelope.specs.declared.Count.the-variants.{All, Broken}
+use Rattle.items.specs.Items.{Items, messagesOf}
+use Rattle.items.specs.Reading.{itemIn, inside}
+use Rattle.items.specs.declared.Item.{Item}
+use Rattle.items.specs.declared.Item.the-variants.{Good, Bad}
+use Rattle.items.specs.declared.Count.{Count}
+use Rattle.items.specs.declared.Count.the-variants.{All, Broken}
 
 -- the number of messages of what was read
 unfoldable pub countOf : Option Items → Count

@@ -1,10 +1,10 @@
--- `envelope::read_envelope` meets its contract, test by test. Assumes nothing.
+-- `items::read_envelope` meets its contract, test by test. Assumes nothing.
 use mathlib.Core.Path.{refl}
 use native.Mathlib.Omega.{arith}
-use Rattle.envelope.proofs.Answers.{read-long, read-other, read-cut, read-inside}
+use Rattle.items.proofs.Openings.{read-long, read-other, read-cut, read-inside}
 use borrow.Author.Needs.{needs}
-use Rattle.envelope.proofs.read_envelope.Statement.{statement}
-use Rattle.envelope.proofs.read_envelope.Tie as tie
+use Rattle.items.proofs.read_envelope.Statement.{statement}
+use Rattle.items.proofs.read_envelope.Tie as tie
 
 returns : tie.Need-returns
 returns c = read-long _ (c .if1 .taken)

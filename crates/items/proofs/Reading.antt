@@ -11,14 +11,14 @@ use lib.Dec.{eqb}
 use borrow.Author.Tests.{le-leb, lt-leb, eq-eqb, ne-eqb}
 use Rattle.fields.specs.Places.{number}
 use Rattle.slots.specs.Slots.{isReadable}
-use Rattle.envelope.specs.Items.{Items, end, message, envelope, envelopeTag, messageTag, joined, messagesOf}
-use Rattle.envelope.specs.Reading.{isWhole, valueIn, restIn, itemOf, itemIn, itemsFrom, inside}
-use Rattle.envelope.specs.Meaning as meaning
-use Rattle.envelope.specs.Meaning.{countOf, Few, Within, FirstOf, AllOf}
-use Rattle.envelope.specs.declared.Item.{Item}
-use Rattle.envelope.specs.declared.Item.the-variants.{Good, Bad}
-use Rattle.envelope.specs.declared.Count.{Count}
-use Rattle.envelope.specs.declared.Count.the-variants.{All, Broken}
+use Rattle.items.specs.Items.{Items, end, message, envelope, envelopeTag, messageTag, joined, messagesOf}
+use Rattle.items.specs.Reading.{isWhole, valueIn, restIn, itemOf, itemIn, itemsFrom, inside}
+use Rattle.items.specs.Meaning as meaning
+use Rattle.items.specs.Meaning.{countOf, Few, Within, FirstOf, AllOf}
+use Rattle.items.specs.declared.Item.{Item}
+use Rattle.items.specs.declared.Item.the-variants.{Good, Bad}
+use Rattle.items.specs.declared.Count.{Count}
+use Rattle.items.specs.declared.Count.the-variants.{All, Broken}
 
 -- ---- the first item
 

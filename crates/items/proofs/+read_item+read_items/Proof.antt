@@ -1,25 +1,25 @@
--- `envelope::read_item` and `envelope::read_items`, which call each other, meet their contracts. The measures are twice the length of
+-- `items::read_item` and `items::read_items`, which call each other, meet their contracts. The measures are twice the length of
 -- what is left, and one more for a list of items. The loop's invariant: the messages so far and those left are all. Assumes nothing.
 use borrow.Author.Needs.{needs}
 use Prim.Native.Nat.{ℕ, suc, _<_, _≤_, _+_, _*_, _-_}
 use mathlib.Core.Path.{_≡_, refl}
 use native.Mathlib.Omega.{arith}
 use lib.ListN.{length, take, drop, length-take, length-drop}
-use Rattle.envelope.specs.Reading.{inside}
-use Rattle.envelope.specs.Meaning.{countOf}
-use Rattle.envelope.proofs.Reading.{more, first-cut, first-message, first-unreadable, first-stray, first-deep, first-broken, first-envelope, count-starts, items-end, items-bad, item-within, items-next}
+use Rattle.items.specs.Reading.{inside}
+use Rattle.items.specs.Meaning.{countOf}
+use Rattle.items.proofs.Reading.{more, first-cut, first-message, first-unreadable, first-stray, first-deep, first-broken, first-envelope, count-starts, items-end, items-bad, item-within, items-next}
 use borrow.Fn.Kinds.{In}
 use borrow.Fn.PlainCycle.{Measures, is, falls, and}
-use Rattle.envelope.proofs.read_item.Reads as read-item
-use Rattle.envelope.proofs.read_item.Kinds as read-item-kinds
-use Rattle.envelope.proofs.+read_item+read_items.Lts-read_item as read-item-lts
-use Rattle.envelope.proofs.read_items.Reads as read-items
-use Rattle.envelope.proofs.read_items.Kinds as read-items-kinds
-use Rattle.envelope.proofs.+read_item+read_items.Lts-read_items as read-items-lts
+use Rattle.items.proofs.read_item.Reads as read-item
+use Rattle.items.proofs.read_item.Kinds as read-item-kinds
+use Rattle.items.proofs.+read_item+read_items.Lts-read_item as read-item-lts
+use Rattle.items.proofs.read_items.Reads as read-items
+use Rattle.items.proofs.read_items.Kinds as read-items-kinds
+use Rattle.items.proofs.+read_item+read_items.Lts-read_items as read-items-lts
 use Rattle.fields.proofs.get.Reads as get-reads
 use Rattle.slots.proofs.is_readable.Reads as is-readable-reads
-use Rattle.envelope.proofs.+read_item+read_items.{statement}
-use Rattle.envelope.proofs.+read_item+read_items.Tie.{close}
+use Rattle.items.proofs.+read_item+read_items.{statement}
+use Rattle.items.proofs.+read_item+read_items.Tie.{close}
 
 abbrev μ-read-item : Measures 1 read-item-kinds.ps ℕ
 μ-read-item κs a = 2 * length (a .0 .now)
