@@ -17,7 +17,7 @@
 enum { STACK = 16 << 20, LINE = 1 << 18, INPUTS = 1 << 14, PAINT = 0xa5, SLOTS = 200 };
 
 /* what docs/HOST.md says, in bytes */
-enum { OF_A_STATION = 64 << 10, OF_THE_PLAIN_ENGINE = 4 << 20 };
+enum { OF_A_STATION = 32 << 10, OF_THE_PLAIN_ENGINE = 2 << 20 };
 
 struct input {
     char what; /* f t s o */
