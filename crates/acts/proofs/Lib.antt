@@ -5,5 +5,4 @@ pub mod Answers
 pub mod Blames
 pub mod Places
 pub mod Votes
-pub mod Plans
 pub mod Statements

@@ -1,42 +1,35 @@
--- A statement: whether it was stored before, what it needs, and where it stands once it is stored. Assumes nothing.
+-- A statement: what it conflicts with, and where it stands once it is stored. Assumes nothing.
 use Prim.Native.Nat.{ℕ, _+_, _≤_, _<_}
-use mathlib.Core.Path.{_≡_, refl, sym, ap, ap₂, _∙_}
-use mathlib.Core.Bool.{true, false, _&&_}
+use mathlib.Core.Path.{_≡_, refl, sym, ap, _∙_}
+use mathlib.Core.Bool.{true}
 use mathlib.Core.List.{List, [], _∷_, _++_}
 use mathlib.Core.Option.{none, some}
 use native.Mathlib.Omega.{arith}
 use native.Mathlib.Nat.{zero-add}
-use lib.Dec.{leb, ltb}
 use lib.ListN.{length, getD, length-append}
 use lib.Seq.{getD-at}
-use Rattle.rules.specs.Limits.{mostStatements, mostTallies}
+use Rattle.rules.specs.Limits.{mostTallies}
 use Rattle.rules.specs.Lists.{first, any}
-use Rattle.rules.specs.Words.{Statement, message, sameStatement, conflict, Certificate, ownBlock, certificate, join, joinCertificate, State, moment}
+use Rattle.rules.specs.Words.{Statement, sameStatement, conflict, Certificate, certificate, joinCertificate, State, moment}
 use Rattle.rules.specs.Inputs.{saying, withTables, certificateJoined, stored, statement, handled}
 use Rattle.wire.specs.Meaning.{statementOf, messageOf}
 use Rattle.wire.specs.declared.Statement as code
 use Rattle.wire.specs.declared.Message.the-variants.{Stated}
-use Rattle.store.specs.Layout.{statementTable, tallyTable, sizeIn, countOf}
+use Rattle.store.specs.Layout.{statementTable, sizeIn, countOf}
 use Rattle.store.specs.Decode.{statementAt, statements, tallies, stateFrom, stateOf, Left}
-use Rattle.store.specs.Searches.{firstFrom, blockAt}
+use Rattle.store.specs.Searches.{firstFrom}
 use Rattle.joining.specs.Changes.{certifying}
 use Rattle.store.specs.declared.Found.{Found}
 use Rattle.store.specs.declared.Found.the-variants.{At, Nothing}
 use Rattle.store.proofs.Rows.{rows-at}
-use Rattle.store.proofs.Searches.{found-any, missing-any}
 use Rattle.search.specs.Finds.{foundIn, Inside, Finds}
 use Rattle.search.proofs.Searches.{found-first}
-use Rattle.kept.specs.Said.{Sendable}
 use Rattle.acts.specs.Answers.{Stands}
-use Rattle.storing.specs.Records.{certifiedAt, needed}
-use Rattle.storing.proofs.Records.{count-statements, count-tallies, block-adds, certificate-adds}
-use Rattle.storing.proofs.Rooms.{repeat-length, stored-room}
-use Rattle.storing.proofs.Statements.{own-stays, own-view}
-use Rattle.acts.specs.Plans.{newPlan, planned}
+use Rattle.storing.proofs.Records.{count-statements}
+use Rattle.storing.proofs.Rooms.{repeat-length}
 use Rattle.acts.specs.Works.{Formed}
 use Rattle.acts.proofs.Works.{formed-parts}
 use Rattle.acts.proofs.Answers.{handled-statement}
-use Rattle.acts.proofs.Plans.{planned-new}
 
 -- ---- as the code has it
 
@@ -56,15 +49,6 @@ module _ (b : List ℕ) (x : Statement) (r : Found) where
   abbrev n : ℕ
   n = countOf statementTable b
 
-  module _ (e : r ≡ firstFrom (sameStatement x) 0 (statements b)) where
-    pub is-repeat : (j : ℕ) → r ≡ At j → any (sameStatement x) (stateOf b .statements) ≡ true
-    unfolding stateOf stateFrom statements
-    is-repeat j q = found-any (sameStatement x) (statementAt b) n r e j q
-
-    pub is-new : r ≡ Nothing → any (sameStatement x) (stateOf b .statements) ≡ false
-    unfolding stateOf stateFrom statements
-    is-new q = missing-any (sameStatement x) (statementAt b) n r e q
-
   module _ (e : r ≡ firstFrom (conflict x) 0 (statements b)) where
     found : Finds (statementAt b) (0 + n) (first (conflict x) (stateOf b .statements)) r
     unfolding stateOf stateFrom statements
@@ -79,21 +63,7 @@ module _ (b : List ℕ) (x : Statement) (r : Found) where
     pub conflict-none : r ≡ Nothing → first (conflict x) (stateOf b .statements) ≡ none
     conflict-none q = sym (found .is) ∙ ap (foundIn (statementAt b)) q
 
--- ---- a new one, with its certificate t and its own block u
-
-module _ (b : List ℕ) (x : Statement) (m : Sendable (stateOf b .settings) (message x)) (t u : Certificate) (et : t ≡ certificate x) (eu : u ≡ ownBlock x 0) where
-  module _ (q : Found) (eq : q ≡ blockAt u (tallies b)) where
-    -- i statements and j tallies are there; its certificate needs k tallies more, its own block l
-    pub new-planned : any (sameStatement x) (stateOf b .statements) ≡ false → (p : Found) → p ≡ certifiedAt t (tallies b) → (i j k l few many : ℕ) → few ≡ mostStatements (sizeIn b) → many ≡ mostTallies (sizeIn b) → i ≡ countOf statementTable b
-        → j ≡ countOf tallyTable b → k ≡ needed t p → l ≡ needed u q → newPlan (ltb i few && leb (j + (k + l)) many) p q ≡ planned x (stateOf b)
-    unfolding stateOf stateFrom
-    new-planned new p ep i j k l few many ef em ei ej ek el =
-        let s = stateOf b in
-        let n : j + (k + l) ≡ length (join (moment none s) u (joinCertificate (moment none s) t (s .tallies))) =
-        omega (arith, count-tallies b, certificate-adds t (moment none s) (s .tallies) p ep, block-adds u (moment none s) (joinCertificate (moment none s) t (s .tallies)) q (own-view b x m t u et eu q eq) (own-stays b x m t u et eu q eq)) in
-        let room = (λ h. ltb ((ei ∙ sym (count-statements b)) h) (ef h) && leb (j + (k + l)) (em h))
-        ∙ stored-room s x (j + (k + l)) (n ∙ ap₂ (λ (v w : Certificate). length (join (moment none s) w (joinCertificate (moment none s) v (s .tallies)))) et eu) in
-        planned-new x s new room (rw (← et) ep) (rw (← eu) eq)
+-- ---- where it stands
 
 at-place : (b : List ℕ) (d : Statement) (i : ℕ) → i < countOf statementTable b → getD (stateOf b .statements) i d ≡ statementAt b i
 unfolding stateOf stateFrom statements

@@ -14,9 +14,11 @@ use Rattle.rules.specs.Lists.{unbe}
 use Rattle.laws.proofs.Bytes.{be-unbe, length-unbe}
 use Rattle.laws.proofs.Truths.{both}
 use Rattle.wire.proofs.Reading.{be-number}
-use Rattle.envelope.specs.Items.{Items, Place, partAt, placesOf, listBytes, messagesOf, flat}
-use Rattle.envelope.specs.Reading.{envelopeIn, listOf}
-use Rattle.envelope.proofs.Grammar.{bytes-all, envelope-sound}
+use Rattle.items.specs.Items.{Items, messagesOf, flat}
+use Rattle.envelope.specs.Places.{Place, partAt, placesOf, listBytes}
+use Rattle.items.specs.Reading.{envelopeIn}
+use Rattle.envelope.specs.Reading.{listOf}
+use Rattle.items.proofs.Grammar.{bytes-all, envelope-sound}
 use Rattle.envelope.proofs.Laws.{Ascending, AllReadable, listed-are, listed-apart, listed-readable}
 use Rattle.bundle.specs.Writing.{placeIn, placesFrom, placesIn, isMessageAt, gathered, flatBytes, bundleOf, bundled}
 use Rattle.bundle.proofs.Totals.{onward}

@@ -10,7 +10,7 @@ use lib.Dec.{leb, eqb}
 use borrow.Author.Tests.{le-leb, lt-leb, eq-eqb, ne-eqb}
 use Rattle.outgoing.specs.Wrote.{wrote}
 use Rattle.slots.specs.Slots.{Written, written}
-use Rattle.envelope.specs.Reading.{mostBytes}
+use Rattle.items.specs.Reading.{mostBytes}
 use Rattle.bundle.specs.Writing.{bundled, writing}
 use Rattle.bundle.specs.Meaning.{totalOf, bundleIn}
 use Rattle.bundle.specs.declared.Total.{Total}

@@ -13,9 +13,10 @@ use Rattle.fields.specs.Places as places
 use Rattle.laws.proofs.Tests.{by-bool, by-option, no-some, and-right}
 use Rattle.laws.proofs.Lengths.{length-field}
 use Rattle.slots.specs.Slots.{isReadable}
-use Rattle.envelope.specs.Items.{Items, end, message, envelope, Place, partAt, envelopeTag, bytesOf, messagesOf, flat, Held}
-use Rattle.envelope.specs.Reading.{mostBytes, envelopeIn}
-use Rattle.envelope.proofs.Grammar.{length-message, length-envelope, bytes-all, envelope-sound, envelope-complete}
+use Rattle.items.specs.Items.{Items, end, message, envelope, envelopeTag, bytesOf, messagesOf, flat, Held}
+use Rattle.envelope.specs.Places.{Place, partAt}
+use Rattle.items.specs.Reading.{mostBytes, envelopeIn}
+use Rattle.items.proofs.Grammar.{length-message, length-envelope, bytes-all, envelope-sound, envelope-complete}
 use Rattle.envelope.proofs.Laws.{AllReadable, listed-readable}
 use Rattle.bundle.specs.Writing.{placesIn, isMessageAt, gathered, flatBytes, bundleOf, bundled}
 use Rattle.bundle.proofs.Totals.{onward}

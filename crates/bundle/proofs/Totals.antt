@@ -13,9 +13,10 @@ use Rattle.fields.specs.Places.{number}
 use Rattle.laws.proofs.Tests.{and-left}
 use Rattle.laws.proofs.Lengths.{length-field}
 use Rattle.slots.specs.Slots.{isReadable}
-use Rattle.envelope.specs.Items.{Place, partAt, envelopeTag, bytesOf, flat}
-use Rattle.envelope.specs.Reading.{mostBytes}
-use Rattle.envelope.proofs.Grammar.{length-message}
+use Rattle.items.specs.Items.{envelopeTag, bytesOf, flat}
+use Rattle.envelope.specs.Places.{Place, partAt}
+use Rattle.items.specs.Reading.{mostBytes}
+use Rattle.items.proofs.Grammar.{length-message}
 use Rattle.bundle.specs.Writing.{placeIn, placesFrom, placesIn, isMessageAt, gathered, flatBytes, bundleOf, bundled}
 use Rattle.bundle.specs.Meaning.{totalOf}
 use Rattle.bundle.specs.declared.Total.{Total}

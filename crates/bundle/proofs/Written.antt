@@ -16,9 +16,10 @@ use Rattle.wire.specs.Fields.{head}
 use Rattle.outgoing.specs.Wrote.{wrote, Says}
 use Rattle.laws.proofs.Lengths.{length-field}
 use Rattle.outgoing.proofs.Writing.{wrote-append, field-says, says-length}
-use Rattle.envelope.specs.Items.{Place, partAt, envelopeTag, messageTag, bytesOf, flat}
-use Rattle.envelope.specs.Reading.{mostBytes}
-use Rattle.envelope.proofs.Grammar.{length-message}
+use Rattle.items.specs.Items.{envelopeTag, messageTag, bytesOf, flat}
+use Rattle.envelope.specs.Places.{Place, partAt}
+use Rattle.items.specs.Reading.{mostBytes}
+use Rattle.items.proofs.Grammar.{length-message}
 use Rattle.bundle.specs.Writing.{placeIn, placesFrom, placesIn, isMessageAt, gathered, flatBytes, bundleOf, bundled}
 use Rattle.bundle.specs.Meaning.{totalOf, bundleIn, MayWrite}
 use Rattle.bundle.specs.declared.Total.the-variants.{Fits, Refused}

@@ -8,8 +8,8 @@ use lib.ListN.{length, take, drop, replicate}
 use lib.Dec.{eqb}
 use Rattle.rules.specs.Messages.{field, vote, blame, blameSet, write, read}
 use Rattle.rules.specs.Script.{failing, sameList}
-use Rattle.envelope.specs.Items.{Place, listBytes}
-use Rattle.envelope.specs.Reading.{mostBytes}
+use Rattle.envelope.specs.Places.{Place, listBytes}
+use Rattle.items.specs.Reading.{mostBytes}
 use Rattle.bundle.specs.Writing.{gathered, bundleOf, writing}
 
 -- messages of 15, 57 and 16 bytes, one behind the other

@@ -4,7 +4,7 @@ use mathlib.Core.Path.{_≡_}
 use mathlib.Core.List.{List, []}
 use mathlib.Core.Option.{Option, none, some}
 use lib.ListN.{length}
-use Rattle.envelope.specs.Reading.{mostBytes}
+use Rattle.items.specs.Reading.{mostBytes}
 use Rattle.bundle.specs.Writing.{bundled}
 use Rattle.bundle.specs.declared.Total.{Total}
 use Rattle.bundle.specs.declared.Total.the-variants.{Fits, Refused}

@@ -9,8 +9,9 @@ use Rattle.rules.specs.Messages.{field}
 use Rattle.fields.specs.Places.{number}
 use Rattle.outgoing.specs.Wrote.{wrote}
 use Rattle.slots.specs.Slots.{isReadable, Written, written}
-use Rattle.envelope.specs.Items.{Place, partAt, envelopeTag, bytesOf, flat}
-use Rattle.envelope.specs.Reading.{mostBytes}
+use Rattle.items.specs.Items.{envelopeTag, bytesOf, flat}
+use Rattle.envelope.specs.Places.{Place, partAt}
+use Rattle.items.specs.Reading.{mostBytes}
 
 -- the places that a list names, eight bytes each: so many from one on, and all of them
 unfoldable pub placeIn : List ℕ → ℕ → Place

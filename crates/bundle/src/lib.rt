@@ -4,7 +4,7 @@ ghost use Prim.Native.Nat.{ℕ, _+_, _*_, _≤_};
 ghost use lib.ListN.{length};
 ghost use Rattle.outgoing.specs.Wrote.{wrote};
 ghost use Rattle.slots.specs.Slots.{written};
-ghost use Rattle.envelope.specs.Items.{Place};
+ghost use Rattle.envelope.specs.Places.{Place};
 ghost use Rattle.bundle.specs.Writing.{isMessageAt, bundled, writing};
 ghost use Rattle.bundle.specs.Meaning.{totalOf, bundleIn, MayWrite};
 
@@ -40,7 +40,7 @@ fn total_of(bytes: &[u8], list: &[u8]) -> Total
             return Total::Refused;
         }
         total = total + 3 + size as usize;
-        if envelope::MOST_BYTES < total {
+        if items::MOST_BYTES < total {
             return Total::Refused;
         }
         k += 1;
@@ -76,7 +76,7 @@ pub extern "C" fn envelope_write(bytes: &[u8], list: &[u8], out: &mut [u8]) -> u
     if list.len() % 8 != 0 {
         return slots::refuse(1);
     }
-    if out.len() < envelope::MOST_BYTES {
+    if out.len() < items::MOST_BYTES {
         return slots::refuse(1);
     }
     let Total::Fits(total) = total_of(bytes, list) else {

@@ -25,7 +25,7 @@ pub enum Choice {
 fn rank_of(settings: Settings, message: &[u8]) -> Report
     ensures { λ r. ⌜ Ranks r (report (settingsOf settings) (now (message .entry))) ⌝ }
 {
-    let Read::Readable(said) = wire::read_message(message) else {
+    let Read::Readable(said) = reading::read_message(message) else {
         return Report::Nothing;
     };
     if !allowed::message_allowed(settings, said) {

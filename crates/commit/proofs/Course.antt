@@ -9,7 +9,7 @@ use native.Mathlib.Nat.{sub-zero}
 use lib.Dec.{eqb}
 use lib.ListN.{length, getD}
 use borrow.Author.Tests.{not-true}
-use Rattle.rules.specs.Limits.{mostStatements, mostStatementsLarge}
+use Rattle.rules.specs.Limits.{mostStatementsLarge}
 use Rattle.rules.specs.Lists.{keep}
 use Rattle.rules.specs.Words.{Statement}
 use Rattle.rules.specs.Inputs.{chain, merge, commit, commits}
@@ -19,16 +19,19 @@ use Rattle.store.specs.Decode.{rows, statementAt, statements, nameAt, names, Fo
 use Rattle.store.proofs.Rows.{rows-same}
 use Rattle.store.proofs.Forms.{form-log}
 use Rattle.linked.specs.Told.{Told}
-use Rattle.commit.specs.Chains.{statementIn, nameIn, nameSoFar, lacking, Walked, WalkedFrom, Tells, Settled, WholeChain, isRipe}
-use Rattle.commit.specs.Outcome.{Log, Has, Joined, JoinedWith}
-use Rattle.commit.specs.Looks.{ToldBelow}
-use Rattle.commit.specs.declared.Merged.{Merged}
-use Rattle.commit.specs.declared.Merged.the-variants.{Grown, Differs}
+use Rattle.glance.specs.Votes.{isRipe}
+use Rattle.glance.specs.Looks.{Tells, ToldBelow}
+use Rattle.glance.specs.Tables.{statementIn, nameIn}
+use Rattle.walks.specs.Chains.{lacking, Walked, WalkedFrom}
+use Rattle.merging.specs.Joins.{nameSoFar, WholeChain, Log, Has, JoinedWith}
+use Rattle.commit.specs.Outcome.{Settled, Joined}
+use Rattle.merging.specs.declared.Merged.{Merged}
+use Rattle.merging.specs.declared.Merged.the-variants.{Grown, Differs}
 use Rattle.commit.proofs.Order.{bind, first-last}
 use Rattle.commit.proofs.Pigeon.{too-high}
-use Rattle.commit.proofs.Places.{so-far-old}
-use Rattle.commit.proofs.Voting.{keep-not, keep-so, keep-end}
-use Rattle.commit.proofs.Joining.{merge-short, commit-none, commit-some}
+use Rattle.merging.proofs.Places.{so-far-old}
+use Rattle.glance.proofs.Voting.{keep-not, keep-so, keep-end}
+use Rattle.merging.proofs.Joining.{merge-short, commit-none, commit-some}
 use Rattle.commit.proofs.Telling.{told-commits}
 
 -- the last chain walked, if whole, is in the log so far

@@ -1,12 +1,6 @@
-pub mod Readers
 pub mod Order
 pub mod Pigeon
-pub mod Joining
 pub mod Telling
-pub mod Walks
-pub mod Voting
-pub mod Places
 pub mod Course
-pub mod Viewing
-pub mod Looking
+pub mod Quiet
 pub mod Ticks

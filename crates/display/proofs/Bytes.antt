@@ -32,9 +32,9 @@ use Rattle.store.proofs.Rows.{rows-append, rows-length, rows-at}
 use Rattle.wire.specs.Meaning.{statementOf}
 use Rattle.wire.specs.declared.Statement as code
 use Rattle.fields.specs.Names.{nameOf}
-use Rattle.commit.specs.Chains.{voteIf, voteIn}
-use Rattle.commit.proofs.Readers.{height-of, name-of}
-use Rattle.commit.proofs.Ticks.{delay-is}
+use Rattle.glance.specs.Votes.{voteIf, voteIn}
+use Rattle.glance.proofs.Readers.{height-of, name-of}
+use Rattle.glance.proofs.Seeing.{delay-is}
 use Rattle.display.proofs.Shown.{not-voted, not-shown, is-shown, shown-append, shown-one}
 
 -- the out buffer has room for every stored statement

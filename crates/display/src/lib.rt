@@ -63,7 +63,7 @@ fn show_one(store: &[u8], station: Station, i: usize, out: &mut [u8], at: usize)
     requires { ⌜ (Form (now store)) × (Loads station (now store)) × (courseOf (station .phase) ≡ inView) × (i < countOf statementTable (now store)) × (at + 47 ≤ length (now out)) ⌝ }
     ensures { λ r. ⌜ Says (now (out .entry)) at (entries (showing (stateOf (now (store .entry))) (statementAt (now (store .entry)) i))) (now (out .exit)) r ⌝ }
 {
-    let vote = commit::vote_in(store, i, station.view);
+    let vote = glance::vote_in(store, i, station.view);
     if vote == 0 {
         return at;
     }

@@ -14,9 +14,10 @@ use Rattle.laws.proofs.Bytes.{Bytes}
 use Rattle.laws.proofs.Tests.{by-option}
 use Rattle.laws.proofs.Lengths.{length-field}
 use Rattle.slots.specs.Slots.{isReadable}
-use Rattle.envelope.specs.Items.{Items, end, message, envelope, envelopeTag, messageTag, bytesOf, messagesOf, Place, partAt, placesOf, Held}
-use Rattle.envelope.specs.Reading.{inside, envelopeIn}
-use Rattle.envelope.proofs.Grammar.{length-message, length-envelope, held-read, bytes-all, envelope-sound}
+use Rattle.items.specs.Items.{Items, end, message, envelope, envelopeTag, messageTag, bytesOf, messagesOf, Held}
+use Rattle.envelope.specs.Places.{Place, partAt, placesOf}
+use Rattle.items.specs.Reading.{inside, envelopeIn}
+use Rattle.items.proofs.Grammar.{length-message, length-envelope, held-read, bytes-all, envelope-sound}
 
 -- ---- what stands at the places that are listed
 

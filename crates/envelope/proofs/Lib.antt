@@ -1,5 +1,3 @@
-pub mod Reading
-pub mod Grammar
 pub mod Listing
 pub mod Answers
 pub mod Laws

@@ -22,9 +22,11 @@ use Rattle.laws.proofs.Bytes.{Bytes, bytes-split}
 use Rattle.laws.proofs.ReadBack.{write-read}
 use Rattle.laws.proofs.Tests.{by-option, no-bool}
 use Rattle.slots.specs.Slots.{isReadable}
-use Rattle.envelope.specs.Items.{Items, end, message, envelope, envelopeTag, messageTag, bytesOf, joined, Place, placesOf, listBytes, Held}
-use Rattle.envelope.specs.Reading.{mostBytes, envelopeIn, listOf, isEnvelope, listIn}
-use Rattle.envelope.proofs.Grammar.{front-number, bytes-joined, length-message, length-envelope, bytes-all, envelope-sound}
+use Rattle.items.specs.Items.{Items, end, message, envelope, envelopeTag, messageTag, bytesOf, joined, Held}
+use Rattle.envelope.specs.Places.{Place, placesOf, listBytes}
+use Rattle.items.specs.Reading.{mostBytes, envelopeIn}
+use Rattle.envelope.specs.Reading.{listOf, isEnvelope, listIn}
+use Rattle.items.proofs.Grammar.{front-number, bytes-joined, length-message, length-envelope, bytes-all, envelope-sound}
 
 -- ---- how long a message is
 

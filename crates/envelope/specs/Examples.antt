@@ -7,7 +7,8 @@ use lib.ListN.{length, take, drop, replicate}
 use lib.Dec.{eqb}
 use Rattle.rules.specs.Messages.{field, vote, blame, blameSet, write, read}
 use Rattle.rules.specs.Script.{failing, sameList}
-use Rattle.envelope.specs.Reading.{mostBytes, leastList, envelopeIn, reading}
+use Rattle.items.specs.Reading.{mostBytes, envelopeIn}
+use Rattle.envelope.specs.Reading.{leastList, reading}
 
 -- messages of 15, 16 and 57 bytes
 short : List ℕ

@@ -1,4 +1,3 @@
-pub mod Items
+pub mod Places
 pub mod Reading
-pub mod Meaning
 pub mod Examples

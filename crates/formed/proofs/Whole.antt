@@ -23,7 +23,7 @@ use Rattle.store.specs.Meaning.{Loads, headerOf}
 use Rattle.store.specs.declared.Station.{Station}
 use Rattle.store.proofs.Rows.{rows-length, rows-all}
 use Rattle.heading.specs.Lent.{Lent, Counts, alone}
-use Rattle.stated.specs.Stated.{AllCertify}
+use Rattle.repeats.specs.Repeats.{AllCertify}
 use Rattle.formed.specs.Ready.{Ready, tablesGood, Telling}
 use Rattle.heading.proofs.Forms.{form-tables, counts-statements, counts-tallies, counts-log}
 use Rattle.stated.proofs.Parts.{good-certifies}

@@ -13,7 +13,7 @@ use Rattle.store.specs.Layout.{sizeIn, statementTable, tallyTable, logTable}
 use Rattle.store.specs.Decode.{statements, tallies, blames, names}
 use Rattle.store.specs.declared.Station.{Station}
 use Rattle.heading.specs.Lent.{Counts}
-use Rattle.stated.specs.Stated.{AllCertify}
+use Rattle.repeats.specs.Repeats.{AllCertify}
 use Rattle.linked.specs.Told.{Told}
 
 -- the limits of the store, every table's count in range, statements that certify, and not too many stations

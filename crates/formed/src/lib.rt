@@ -14,8 +14,6 @@ use heading::blames;
 use heading::form;
 use heading::header;
 use settings::Settings;
-use stated::statements;
-use stated::there;
 use store::Station;
 use tallied::apart;
 use tallied::openers;
@@ -46,7 +44,7 @@ fn tables_good(
     if !good {
         return false;
     }
-    there::there_and_apart(store, salt, count, &heads, &nexts, station.statements)
+    repeats::there_and_apart(store, salt, count, &heads, &nexts, station.statements)
         & blames::all_good(store, settings)
         & linked::is_linked(store, station.logged, station.statements, told)
         & openers::few_opened(store, settings, count)
@@ -62,8 +60,7 @@ pub fn well_formed_told(store: &[u8], told: &mut [u16; Settings::MOST_STATEMENTS
         return false;
     }
     let salt = chains::salt(station.clock);
-    let good = header::header_good(station)
-        & statements::all_good(store, station, station.statements);
+    let good = header::header_good(station) & stated::all_good(store, station, station.statements);
     if !good {
         return false;
     }

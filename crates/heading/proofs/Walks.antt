@@ -3,19 +3,15 @@
 use Prim.Native.Nat.{ℕ, zero, suc, _+_, _-_, _<_, _≤_}
 use mathlib.Core.Path.{_≡_, refl, sym, ap, _∙_}
 use mathlib.Core.Bool.{Bool, true, false, _||_, or-true, or-false, false≢true}
-use mathlib.Core.List.{List, []}
+use mathlib.Core.List.{List}
 use native.Mathlib.Omega.{arith}
 use native.Mathlib.Nat.{sub-zero}
 use Rattle.rules.specs.Lists.{all, any, distinct}
 use Rattle.laws.proofs.Tests.{by-bool}
 use Rattle.store.specs.Decode.{rows}
-use Rattle.store.proofs.Rows.{rows-from}
+use Rattle.store.proofs.Rows.{rows-from, rows-end}
 
 module _ {A : Type 0} (f : ℕ → A) (n : ℕ) where
-  pub rows-end : (i : ℕ) → n ≤ i → rows f i (n - i) ≡ []
-  unfolding rows
-  rows-end i h = let e : n - i ≡ 0 = omega arith in rw e
-
   -- the whole, where a loop begins
   pub rows-whole : (m : ℕ) → n ≡ m → rows f 0 m ≡ rows f 0 (n - 0)
   rows-whole m e = rw (e, sub-zero)
@@ -23,7 +19,7 @@ module _ {A : Type 0} (f : ℕ → A) (n : ℕ) where
   module _ (p : A → Bool) (i : ℕ) where
     pub all-end : n ≤ i → all p (rows f i (n - i)) ≡ true
     unfolding all
-    all-end h = ap (all p) (rows-end i h)
+    all-end h = ap (all p) (rows-end f n i h)
 
     pub all-here : i < n → p (f i) ≡ false → all p (rows f i (n - i)) ≡ false
     unfolding all
@@ -40,7 +36,7 @@ module _ {A : Type 0} (f : ℕ → A) (n : ℕ) where
   module _ (same : A → A → Bool) (i : ℕ) where
     pub distinct-end : n ≤ i → distinct same (rows f i (n - i)) ≡ true
     unfolding distinct
-    distinct-end h = ap (distinct same) (rows-end i h)
+    distinct-end h = ap (distinct same) (rows-end f n i h)
 
     -- the record at the place against those after it
     module _ (h : i < n) where

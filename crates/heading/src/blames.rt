@@ -5,7 +5,6 @@ ghost use Rattle.rules.specs.WellFormed.{blamesGood};
 ghost use Rattle.settings.specs.Made.{settingsOf};
 ghost use Rattle.store.specs.Layout.{sizeIn, storeLength};
 ghost use Rattle.store.specs.Decode.{blames};
-use allowed::clauses;
 use settings::Settings;
 
 // Whether every blame mask is of these stations.

@@ -7,7 +7,6 @@ ghost use Rattle.rules.specs.WellFormed.{clocksInOrder, lockGood};
 ghost use Rattle.settings.specs.Made.{settingsOf};
 ghost use Rattle.store.specs.Meaning.{courseOf};
 ghost use Rattle.heading.specs.Lent.{alone, phaseInOrder};
-use allowed::clauses;
 use settings::Made;
 use settings::Settings;
 use store::Phase;

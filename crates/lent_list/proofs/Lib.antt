@@ -3,6 +3,4 @@ pub mod Placed
 pub mod Made
 pub mod Standing
 pub mod Kept
-pub mod Adding
-pub mod Entering
 pub mod Rooms

@@ -1,4 +1,3 @@
 pub mod Lists
 pub mod Plain
 pub mod Meaning
-pub mod Examples

@@ -1,15 +1,13 @@
-// The list that a host lends to the plain engine: its form, a fresh one, and one input more.
+// The list that a host lends to the plain engine, as it is read: its length, its form, and the inputs that it holds.
 ghost use mathlib.Core.Path.{_≡_};
-ghost use mathlib.Core.Bool.{true, false};
-ghost use Prim.Native.Nat.{_<_, _≤_, _^_};
-ghost use lib.ListN.{length};
+ghost use mathlib.Core.Bool.{true};
+ghost use Prim.Native.Nat.{_<_};
 ghost use Rattle.settings.specs.Made.{settingsOf};
 ghost use Rattle.settings.specs.declared.Size.the-variants.{Small};
-ghost use Rattle.slots.specs.Slots.{isInput, isKept, judged};
+ghost use Rattle.slots.specs.Slots.{judged};
 ghost use Rattle.journal.specs.Journal.{slotAt, slotsOf};
-ghost use Rattle.lent_list.specs.Lists.{recordsIn, slotsIn, hasLength, settingsIn, isPlaced, arePlaced, hasForm, isFull, added};
+ghost use Rattle.lent_list.specs.Lists.{recordsIn, slotsIn, hasLength, settingsIn, isPlaced, arePlaced, hasForm};
 ghost use Rattle.lent_list.specs.Meaning.{Stands};
-ghost use Rattle.lent_list.specs.Plain.{entering, Gives, left, plainFresh};
 use settings::Made;
 use settings::Settings;
 use settings::Size;
@@ -130,70 +128,4 @@ pub fn held_at(list: &[u8], place: usize) -> Held
             Held::Input { kind, start, end }
         }
     }
-}
-
-// Adds an input: its record behind the last one, and the number of records in the head.
-pub fn add(list: &mut [u8], kind: u64, input: &[u8])
-    requires { ⌜ (hasLength (now list) ≡ true) × (isFull (now list) ≡ false) × (isInput kind (now input) ≡ true) ⌝ }
-    ensures { λ _. ⌜ now (list .exit) ≡ added kind (now (input .entry)) (now (list .entry)) ⌝ }
-{
-    let records = fields::get(list, 4, 4);
-    fields::put(list, 4, 4, records + 1);
-    let place = records as usize;
-    let at = HEAD + place * slots::LENGTH;
-    let end = at + slots::LENGTH;
-    slots::write_record(&mut list[at..end], records, kind, input);
-}
-
-// Whether a list has no slot left.
-fn is_full(list: &[u8]) -> bool
-    requires { ⌜ hasLength (now list) ≡ true ⌝ }
-    ensures { λ r. ⌜ r ≡ isFull (now (list .entry)) ⌝ }
-{
-    let slots = (list.len() - HEAD) / slots::LENGTH;
-    let records = fields::get(list, 4, 4) as usize;
-    slots <= records
-}
-
-// Enters an input that the rules answered with a number and with the first bytes of a buffer.
-pub fn enter(
-    list: &mut [u8],
-    out: &mut [u8],
-    kind: u64,
-    input: &[u8],
-    number: u64,
-    said: &[u8],
-) -> u64
-    requires { ⌜ (hasLength (now list) ≡ true) × (isKept number ≡ true → isInput kind (now input) ≡ true) ⌝ }
-    requires { ⌜ (number < 256) × (length (now said) < 2 ^ 32) × (length (now said) ≤ length (now out)) ⌝ }
-    ensures { λ r. ⌜ Gives (entering kind (now (input .entry)) number (now (said .entry)) (now (list .entry)) (now (out .entry))) r (now (list .exit)) (now (out .exit)) ⌝ }
-{
-    if slots::is_kept(number) {
-        if is_full(list) {
-            return slots::refuse(13);
-        }
-        add(list, kind, input);
-        slots::copy(out, 0, said);
-        return slots::refuse(number) + said.len() as u64;
-    }
-    slots::refuse(number)
-}
-
-// Makes a fresh list of whatever was in it.
-#[no_mangle]
-pub extern "C" fn plain_fresh(list: &mut [u8], n: u64, d: u64, own: u64) -> u64
-    ensures { λ r. ⌜ left r (now (list .exit)) ≡ plainFresh (now (list .entry)) n d own ⌝ }
-{
-    if has_length(list) {
-        let Made::Good(_) = Settings::new(n, d, own, Size::Small) else {
-            return slots::refuse(10);
-        };
-        fields::put(list, 0, 1, n);
-        fields::put(list, 1, 2, d);
-        fields::put(list, 3, 1, own);
-        let rest = list.len() - 4;
-        fields::clear(list, 4, rest);
-        return 0;
-    }
-    slots::refuse(1)
 }

@@ -265,12 +265,12 @@ fn spoken(line: &[u8], at: usize, kind: usize, bytes: &mut [u8]) -> Line
     match kinds::said(line, at, kind) {
         Heard::Wrong(flaw) => Line::Bad(flaw),
         Heard::Is(message) => {
-            if bytes.len() < outgoing::size(message) {
+            if bytes.len() < writing::size(message) {
                 return Line::Bad(Flaw::Long);
             }
             Line::Bytes {
                 what: What::Message,
-                len: outgoing::write_message(bytes, 0, message),
+                len: writing::write_message(bytes, 0, message),
             }
         }
     }

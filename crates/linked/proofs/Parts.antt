@@ -6,20 +6,21 @@ use mathlib.Core.List.{List}
 use native.Mathlib.Omega.{arith}
 use native.Mathlib.Numerals.{add-one}
 use lib.Dec.{eqb}
-use borrow.Author.Tests.{ne-eqb, eq-eqb, not-true, not-false}
+use borrow.Author.Tests.{ne-eqb, eq-eqb}
 use Rattle.rules.specs.Limits.{small}
 use Rattle.rules.specs.Lists.{any}
 use Rattle.rules.specs.Words as words
 use Rattle.rules.specs.Inputs.{isBlock}
 use Rattle.rules.specs.WellFormed.{linked}
+use Rattle.laws.proofs.Truths.{eqb-sym}
 use Rattle.fields.specs.Names.{nameOf}
 use Rattle.fields.specs.Places.{number}
 use Rattle.wire.specs.Meaning.{statementOf}
 use Rattle.wire.specs.declared.Statement.{Statement}
 use Rattle.store.specs.Layout.{sizeIn, statementTable, logTable, countOf, placeOf}
 use Rattle.store.specs.Decode.{rows, statementAt, kindAt, nameAt, nameFor, statements, names}
-use Rattle.store.proofs.Rows.{rows-from}
-use Rattle.heading.proofs.Walks.{rows-end, rows-whole}
+use Rattle.store.proofs.Rows.{rows-from, rows-end}
+use Rattle.heading.proofs.Walks.{rows-whole}
 use Rattle.linked.specs.Told.{nameBelow}
 use Rattle.linked.specs.Links.{isLink, soughtAt}
 
@@ -43,19 +44,13 @@ unfolding isBlock statementAt kindAt
 block-agrees b i h at kind height same p q r = rw (p, q, r)
 
 -- the same of what is sought for the name logged at place k
-module _ (b : List ℕ) (k j at : ℕ) (q : at ≡ placeOf logTable (sizeIn b) k) {r : Bool} (is : r ≡ isBlock (k + 1) (number b at 32) (statementAt b j)) (free : Bool) where
-  named : isBlock (k + 1) (nameAt b k) (statementAt b j) ≡ r
+module _ (b : List ℕ) (k j at : ℕ) (q : at ≡ placeOf logTable (sizeIn b) k) {r : Bool} (is : r ≡ isBlock (k + 1) (number b at 32) (statementAt b j)) where
+  pub sought-any : r ≡ soughtAt b k true j
   unfolding nameFor
-  named = rw (← q) (sym is)
+  sought-any = rw (← q) is
 
-  pub sought-not : not r ≡ true → false ≡ soughtAt b k free j
-  sought-not t = rw (named, not-true r t, and-false)
-
-  pub sought-any : not r ≡ false → free ≡ true → true ≡ soughtAt b k free j
-  sought-any t e = rw (e, named) (sym (not-false r t))
-
-  pub sought-above : not r ≡ false → free ≡ false → {s : Bool} → s ≡ eqb (statementAt b j .link) (nameBelow b k) → s ≡ soughtAt b k free j
-  sought-above t e h = rw (e, named, not-false r t, and-true) h
+  pub sought-above : {s : Bool} → s ≡ eqb (statementAt b j .link) (nameBelow b k) → (s && r) ≡ soughtAt b k false j
+  sought-above h = rw (h, sought-any)
 
 -- the name below
 module _ (b : List ℕ) (k : ℕ) where
@@ -71,10 +66,12 @@ module _ (b : List ℕ) (k : ℕ) where
     unfolding statementAt
     above-genesis e q = rw (below-genesis e) q
 
-    pub above-name : (k ≡ 0 → ⊥) → (at : ℕ) → at ≡ placeOf logTable (sizeIn b) (k - 1) → r ≡ eqb (number b (placeOf statementTable small i + 44) 32) (number b at 32)
+    pub above-name : (k ≡ 0 → ⊥) → (at : ℕ) → at ≡ placeOf logTable (sizeIn b) (k - 1) → r ≡ eqb (number b at 32) (number b (placeOf statementTable small i + 44) 32)
         → r ≡ eqb (statementAt b i .link) (nameBelow b k)
     unfolding statementAt nameFor
-    above-name d at p q = rw (below-name d, ← p) q
+    above-name d at p q =
+        let parent = number b (placeOf statementTable small i + 44) 32 in
+        rw (below-name d, ← p) (q ∙ eqb-sym (number b at 32) parent)
 
 -- whether a propose of the name logged at place i is stored, with the name below as its parent
 abbrev pub hasLink : List ℕ → ℕ → Bool

@@ -1,7 +1,7 @@
 -- The propose of a logged name, the chain of its height, and how far the lowest names are told. Assumes nothing.
 use Prim.Native.Nat.{ℕ, zero, suc, _+_, _-_, _%_, _<_, _≤_}
 use mathlib.Core.Path.{_≡_}
-use mathlib.Core.Bool.{Bool, _&&_, _||_}
+use mathlib.Core.Bool.{Bool, true, false, _&&_, _||_}
 use mathlib.Core.List.{List}
 use mathlib.Core.Option.{Option, none, some}
 use lib.Dec.{eqb}
@@ -36,6 +36,11 @@ placeLeft n (suc r) = some (n - suc r)
 pub record Foremost (p : ℕ → Bool) (n r : ℕ) : Type 0 where
   pub within : r ≤ n
   pub is : first p (places 0 n) ≡ placeLeft n r
+
+-- the first propose of a logged name above the name below; where it is told so, it is the first of the name with any parent
+pub record Foremosts (b : List ℕ) (k n r : ℕ) (isFirst : Bool) : Type 0 where
+  pub above : Foremost (soughtAt b k false) n r
+  pub any : isFirst ≡ true → Foremost (soughtAt b k true) n r
 
 -- one more than the place of the propose that settles a logged name; 0 tells nothing
 abbrev pub Settling : List ℕ → ℕ → ℕ → Type 0

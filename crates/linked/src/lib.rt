@@ -7,11 +7,11 @@ ghost use Rattle.rules.specs.Limits.{mostStatements, mostStatementsLarge};
 ghost use Rattle.rules.specs.Inputs.{isBlock};
 ghost use Rattle.fields.specs.Places.{number};
 ghost use Rattle.fields.specs.Names.{nameOf};
-ghost use Rattle.store.specs.Layout.{sizeIn, storeLength, statementTable, logTable, placeOf};
+ghost use Rattle.store.specs.Layout.{sizeIn, storeLength, statementTable, logTable};
 ghost use Rattle.store.specs.Decode.{statementAt};
 ghost use Rattle.heading.specs.Lent.{Counts};
 ghost use Rattle.chains.specs.Chains.{Bare, Chained};
-ghost use Rattle.linked.specs.Links.{isLink, soughtAt, heightChain, Foremost, Lowest, Checked};
+ghost use Rattle.linked.specs.Links.{isLink, heightChain, Foremosts, Checked};
 ghost use Rattle.linked.specs.Told.{nameBelow};
 use chains::CHAINS;
 use fields::Name;
@@ -70,77 +70,47 @@ fn is_above(store: &[u8], i: usize, k: usize) -> bool
     if k == 0 {
         return fields::all_zero(store, link, 32);
     }
-    fields::same(store, link, store, store::name_place(store, k - 1), 32)
+    fields::same(store, store::name_place(store, k - 1), store, link, 32)
 }
 
-// Whether statement i is a propose of the name logged at place k, which lies at a place; and above the name below, unless it is free to have any parent.
-fn is_sought(store: &[u8], i: usize, k: usize, at: usize, free: bool) -> bool
-    requires { ⌜ (length (now store) ≡ storeLength (sizeIn (now store))) × (i < mostStatements (sizeIn (now store))) × (k < mostStatements (sizeIn (now store))) × (at ≡ placeOf logTable (sizeIn (now store)) k) × (at + 32 ≤ length (now store)) ⌝ }
-    ensures { λ r. ⌜ r ≡ soughtAt (now (store .entry)) k free i ⌝ }
-{
-    if !is_block(store, i, k as u32 + 1, at) {
-        return false;
-    }
-    if free {
-        return true;
-    }
-    is_above(store, i, k)
+// How many statements are left from the first propose of a logged name on that is above the name below, 0 where there is none; and
+// whether it is also the first of that name.
+struct Sought {
+    rest: usize,
+    foremost: bool,
 }
 
-// How many statements are left from the first such propose on, along the chain of its height; 0 where there is none.
+// That of the name logged at place k, along the chain of its height.
 fn first_sought(
     store: &[u8],
     count: usize,
     heads: &[u16; CHAINS],
     nexts: &[u16; Settings::MOST_TALLIES_LARGE],
     k: usize,
-    free: bool,
-) -> usize
+) -> Sought
     requires { ⌜ (k < mostStatements (sizeIn (now store))) × Counts statementTable (now store) count × Chained (heightChain (now store)) 0 count (now heads) (now nexts) ⌝ }
-    ensures { λ r. ⌜ Foremost (soughtAt (now (store .entry)) k free) count r ⌝ }
+    ensures { λ r. ⌜ Foremosts (now (store .entry)) k count (r .rest) (r .foremost) ⌝ }
 {
     let at = store::name_place(store, k);
+    let mut foremost = true;
     let mut rest = heads[(k + 1) % CHAINS] as usize;
     while 0 < rest {
         let i = count - rest;
-        if is_sought(store, i, k, at, free) {
-            return rest;
+        let named = is_block(store, i, k as u32 + 1, at);
+        if is_above(store, i, k) & named {
+            return Sought { rest, foremost };
         }
+        foremost = foremost & !named;
         rest = nexts[i] as usize;
     }
-    0
-}
-
-// Tells of the lowest logged names which stored proposes settle them: of each the first, where its parent is the name below.
-// Gives back how many are told.
-fn tell(
-    store: &[u8],
-    logged: usize,
-    count: usize,
-    heads: &[u16; CHAINS],
-    nexts: &[u16; Settings::MOST_TALLIES_LARGE],
-    told: &mut [u16; Settings::MOST_STATEMENTS_LARGE],
-) -> usize
-    requires { ⌜ Counts logTable (now store) logged × Counts statementTable (now store) count × Chained (heightChain (now store)) 0 count (now heads) (now nexts) × (now told ≡ replicate mostStatementsLarge 0) ⌝ }
-    ensures { λ r. ⌜ (r ≤ logged) × Lowest (now (store .entry)) r (now (told .exit)) ⌝ }
-{
-    let mut k: usize = 0;
-    while k < logged {
-        let rest = first_sought(store, count, heads, nexts, k, true);
-        if rest == 0 {
-            return k;
-        }
-        let i = count - rest;
-        if !is_above(store, i, k) {
-            return k;
-        }
-        told[k] = i as u16 + 1;
-        k += 1;
+    Sought {
+        rest: 0,
+        foremost: false,
     }
-    k
 }
 
-// Whether each logged name, above the one before, is that of a stored propose; and what is told of the lowest.
+// Whether each logged name, above the one before, is that of a stored propose. Of the lowest names the table is told which stored
+// proposes settle them, as far up as the first of each name is above the name below.
 pub fn is_linked(
     store: &[u8],
     count: usize,
@@ -150,15 +120,27 @@ pub fn is_linked(
     requires { ⌜ Counts logTable (now store) count × Counts statementTable (now store) stored × (now told ≡ replicate mostStatementsLarge 0) ⌝ }
     ensures { λ r. ⌜ Checked (now (store .entry)) r (now (told .exit)) ⌝ }
 {
+    if count == 0 {
+        return true;
+    }
     let mut heads: [u16; CHAINS] = [0; CHAINS];
     let mut nexts: [u16; Settings::MOST_TALLIES_LARGE] = [0; Settings::MOST_TALLIES_LARGE];
     hang_all(store, stored, &mut heads, &mut nexts);
-    let mut i = tell(store, count, stored, &heads, &nexts, told);
-    while i < count {
-        if first_sought(store, stored, &heads, &nexts, i, false) == 0 {
+    let mut telling = true;
+    let mut k: usize = 0;
+    while k < count {
+        let found = first_sought(store, stored, &heads, &nexts, k);
+        let rest = found.rest;
+        if rest == 0 {
             return false;
         }
-        i += 1;
+        telling = telling & found.foremost;
+        if !telling {
+            k += 1;
+            continue;
+        }
+        told[k] = (stored - rest) as u16 + 1;
+        k += 1;
     }
     true
 }

@@ -60,11 +60,11 @@ pub fn stated(store: &mut [u8], out: &mut [u8], x: Statement) -> u64
     requires { ⌜ (Formed (now store)) × (Sendable (stateOf (now store) .settings) (said (statementOf x none))) × (200 ≤ length (now out)) ⌝ }
     ensures { λ r. ⌜ Answers (ifRoom (stateOf (now (store .entry))) (inputs.statement (statementOf x none) (stateOf (now (store .entry))))) (now (out .entry)) (now (store .exit)) (now (out .exit)) r ⌝ }
 {
-    let plan = acts::planned(store, x);
-    if !acts::fits(plan) {
+    let plan = plans::planned(store, x);
+    if !plans::fits(plan) {
         return refusals::stop(store, 6, Cause::Full);
     }
-    acts::statement(store, out, 0, x, plan) as u64
+    answers::statement(store, out, 0, x, plan) as u64
 }
 
 // A vote or a status: whoever joins the tally of a block, as it was found.

@@ -25,7 +25,7 @@ fn may_offer(store: &[u8], name: Name) -> bool
 {
     let station = Station::load(store);
     let fresh = !name.is_zero() & !search::is_used(store, name);
-    turns::leads(store) & search::is_opened(store, station.view) & fresh
+    moments::leads(store) & search::is_opened(store, station.view) & fresh
 }
 
 // The propose of a name above the top of the view, if that one is certified and below the last height.
@@ -40,7 +40,7 @@ fn extended(store: &[u8], name: Name) -> Offer
         return Offer::NotTaken;
     };
     let top = store::statement_at(store, i);
-    let mask = search::voters(store, words::own_block(top, 0));
+    let mask = certificates::voters(store, words::own_block(top, 0));
     if !settings.quorum(mask as u64) {
         return Offer::NotTaken;
     }

@@ -1,88 +1,70 @@
-// Messages and outgoing fields, written into an out buffer from a place on.
-// A caller shows that there is room, and that a new-view's certificate view fits its 4 bytes; no other byte changes.
+// Fields into an out buffer from a place on. A writer answers the place after what it wrote; a caller shows that there is room for it.
 use fields::Name;
-use wire::Message;
+ghost use mathlib.Core.List.{[], _∷_};
 ghost use mathlib.Core.Path.{_≡_};
-ghost use Prim.Native.Nat.{_+_, _≤_};
+ghost use Prim.Native.Nat.{_+_, _^_, _<_, _≤_};
 ghost use lib.ListN.{length};
 ghost use Rattle.fields.specs.Names.{nameOf};
-ghost use Rattle.rules.specs.Messages.{write, toAll, toOne, committed, effect};
-ghost use Rattle.wire.specs.Meaning.{messageOf, Writable};
-ghost use Rattle.outgoing.specs.Wrote.{Says};
+ghost use Rattle.rules.specs.Lists.{unbe};
+ghost use Rattle.rules.specs.Messages.{width as widthOf, field};
+ghost use Rattle.outgoing.specs.Wrote.{Says, SaysFields};
 
-mod writer;
-
-// How many bytes a message is written in.
-pub fn size(message: Message) -> usize
-    ensures { λ r. ⌜ r ≡ length (write (messageOf message)) ⌝ }
+// A field with a number.
+pub fn number_field(out: &mut [u8], at: usize, tag: u8, width: usize, value: u64) -> usize
+    requires { ⌜ (at + 3 + width ≤ length (now out)) × (width ≤ 8) × (value < 256 ^ width) ⌝ }
+    ensures { λ r. ⌜ (Says (now (out .entry)) at (field tag (unbe width value)) (now (out .exit)) r) × (r ≡ at + 3 + width) ⌝ }
 {
-    match message {
-        Message::Stated(x) => { if x.is_new_view { 69 } else { 97 } }
-        Message::Vote { .. } => 57,
-        Message::Blame { .. } => 15,
-        Message::BlameSet { .. } => 16,
-        Message::Status { .. } => 58,
-    }
+    let from = at + 3;
+    fields::put(out, at, 3, (tag as u64) * 65_536 + width as u64);
+    fields::put(out, from, width, value);
+    from + width
 }
 
-// Writes a message to a place; answers the place after it.
-pub fn write_message(out: &mut [u8], at: usize, message: Message) -> usize
-    requires { ⌜ (Writable message) × (at + length (write (messageOf message)) ≤ length (now out)) ⌝ }
-    ensures { λ r. ⌜ Says (now (out .entry)) at (write (messageOf message)) (now (out .exit)) r ⌝ }
+// A field with a name.
+pub fn name_field(out: &mut [u8], at: usize, tag: u8, name: Name) -> usize
+    requires { ⌜ at + 35 ≤ length (now out) ⌝ }
+    ensures { λ r. ⌜ (Says (now (out .entry)) at (field tag (unbe 32 (nameOf name))) (now (out .exit)) r) × (r ≡ at + 35) ⌝ }
 {
-    match message {
-        Message::Stated(x) => {
-            if x.is_new_view {
-                writer::new_view_out(out, at, x)
-            } else {
-                writer::propose_out(out, at, x)
-            }
-        }
-        Message::Vote {
-            view,
-            height,
-            name,
-            author,
-        } => writer::vote_out(out, at, view, height, name, author),
-        Message::Blame { view, author } => writer::blame_out(out, at, view, author),
-        Message::BlameSet { view, mask } => writer::blame_set_out(out, at, view, mask),
-        Message::Status {
-            height,
-            name,
-            cert,
-            mask,
-        } => writer::status_out(out, at, height, name, cert, mask),
-    }
+    let from = at + 3;
+    fields::put(out, at, 3, (tag as u64) * 65_536 + 32);
+    fields::put_name(out, from, name);
+    from + 32
 }
 
-// Tag 10: a message to all.
-pub fn to_all(out: &mut [u8], at: usize, message: Message) -> usize
-    requires { ⌜ (Writable message) × (at + length (effect (toAll (messageOf message))) ≤ length (now out)) ⌝ }
-    ensures { λ r. ⌜ Says (now (out .entry)) at (effect (toAll (messageOf message))) (now (out .exit)) r ⌝ }
+// The fields 1 to 4: kind, view, height, name.
+pub fn block(out: &mut [u8], at: usize, kind: u8, view: u32, height: u32, name: Name) -> usize
+    requires { ⌜ at + 53 ≤ length (now out) ⌝ }
+    ensures { λ r. ⌜ (SaysFields (now (out .entry)) at (1 ∷ 2 ∷ 3 ∷ 4 ∷ []) (kind ∷ view ∷ height ∷ nameOf name ∷ []) (now (out .exit)) r) × (r ≡ at + 53) ⌝ }
 {
-    let width = size(message);
-    fields::put(out, at, 3, 0x10_0000 + width as u64);
-    write_message(out, at + 3, message)
+    let two = number_field(out, at, 1, 1, kind as u64);
+    let three = number_field(out, two, 2, 4, view as u64);
+    let four = number_field(out, three, 3, 4, height as u64);
+    name_field(out, four, 4, name)
 }
 
-// Tag 11: a message to one station.
-pub fn to_one(out: &mut [u8], at: usize, station: u8, message: Message) -> usize
-    requires { ⌜ (Writable message) × (at + length (effect (toOne station (messageOf message))) ≤ length (now out)) ⌝ }
-    ensures { λ r. ⌜ Says (now (out .entry)) at (effect (toOne station (messageOf message))) (now (out .exit)) r ⌝ }
+// The fields 7 and 8: mask, author.
+pub fn ending(out: &mut [u8], at: usize, mask: u16, author: u8) -> usize
+    requires { ⌜ at + 9 ≤ length (now out) ⌝ }
+    ensures { λ r. ⌜ SaysFields (now (out .entry)) at (7 ∷ 8 ∷ []) (mask ∷ author ∷ []) (now (out .exit)) r ⌝ }
 {
-    let width = size(message);
-    fields::put(out, at, 3, 0x11_0001 + width as u64);
-    fields::put(out, at + 3, 1, station as u64);
-    write_message(out, at + 4, message)
+    let eight = number_field(out, at, 7, 2, mask as u64);
+    number_field(out, eight, 8, 1, author as u64)
 }
 
-// Tag 12: a committed block.
-pub fn committed(out: &mut [u8], at: usize, height: u32, name: Name) -> usize
-    requires { ⌜ at + length (effect (committed height (nameOf name))) ≤ length (now out) ⌝ }
-    ensures { λ r. ⌜ Says (now (out .entry)) at (effect (committed height (nameOf name))) (now (out .exit)) r ⌝ }
+// The fields 1, 2 and one more: kind, view, and a number.
+pub fn short(
+    out: &mut [u8],
+    at: usize,
+    kind: u8,
+    view: u32,
+    tag: u8,
+    width: usize,
+    value: u64,
+) -> usize
+    requires { ⌜ (at + 14 + width ≤ length (now out)) × (width ≤ 8) × (value < 256 ^ width) × (width ≡ widthOf tag) ⌝ }
+    ensures { λ r. ⌜ SaysFields (now (out .entry)) at (1 ∷ 2 ∷ tag ∷ []) (kind ∷ view ∷ value ∷ []) (now (out .exit)) r ⌝ }
 {
-    fields::put(out, at, 3, 0x12_0024);
-    fields::put(out, at + 3, 4, height as u64);
-    fields::put_name(out, at + 7, name);
-    at + 39
+    let two = number_field(out, at, 1, 1, kind as u64);
+    let last = number_field(out, two, 2, 4, view as u64);
+    number_field(out, last, tag, width, value)
 }

@@ -155,8 +155,8 @@ fn ballot(e: Engine, x: Statement, out: &mut [u8], at: usize) -> usize
         name,
         author: own,
     };
-    let next = outgoing::to_all(out, at, Message::Stated(x));
-    outgoing::to_all(out, next, vote)
+    let next = effects::to_all(out, at, Message::Stated(x));
+    effects::to_all(out, next, vote)
 }
 
 // "A propose is voted for; a new-view is voted for if its certificate ranks at or above the lock".
@@ -211,7 +211,7 @@ pub fn blaming(e: Engine, view: u32, mask: u16, out: &mut [u8], at: usize) -> Wo
     let full = blame_full(kept, view);
     if inside & full {
         let held = blames_of(kept, view);
-        let next = outgoing::to_all(out, at, Message::BlameSet { view, mask: held });
+        let next = effects::to_all(out, at, Message::BlameSet { view, mask: held });
         let engine = quit(kept);
         return Work { engine, at: next };
     }

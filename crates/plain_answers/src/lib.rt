@@ -62,7 +62,7 @@ pub fn answered(list: &mut [u8], out: &mut [u8], kind: u64, input: &[u8]) -> u64
         let engine = folded.engine;
         let t = plain_inputs::turn_by(engine, kind, input, &mut said);
         let count = t.count;
-        return lent_list::enter(list, out, kind, input, t.number, &said[0..count]);
+        return list_writer::enter(list, out, kind, input, t.number, &said[0..count]);
     }
     slots::refuse(2)
 }

@@ -42,7 +42,7 @@ fn arrive(e: Engine, out: &mut [u8], at: usize) -> Work
     let view = e.view;
     if plain_acts::blame_full(e, view) {
         let mask = plain_acts::blames_of(e, view);
-        let next = outgoing::to_all(out, at, Message::BlameSet { view, mask });
+        let next = effects::to_all(out, at, Message::BlameSet { view, mask });
         let engine = plain_acts::quit(e);
         return Work { engine, at: next };
     }

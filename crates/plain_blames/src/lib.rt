@@ -48,7 +48,7 @@ pub fn complain(e: Engine, out: &mut [u8], at: usize) -> Work
         view: e.view,
         author: own as u8,
     };
-    let next = outgoing::to_all(out, at, blame);
+    let next = effects::to_all(out, at, blame);
     let mask = settings::only(own) as u16;
     plain_acts::blaming(e, e.view, mask, out, next)
 }

@@ -74,7 +74,7 @@ fn report(e: Engine, lock: Certificate, out: &mut [u8], at: usize) -> usize
         cert: lock.view,
         mask: lock.mask,
     };
-    outgoing::to_one(out, at, to as u8, status)
+    effects::to_one(out, at, to as u8, status)
 }
 
 // The station in the next view, with this lock.

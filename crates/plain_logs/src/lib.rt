@@ -40,7 +40,7 @@ fn reports(log: Names, from: usize, out: &mut [u8], at: usize) -> usize
     while k < n {
         let name = log.items[k];
         k += 1;
-        next = outgoing::committed(out, next, k as u32, name);
+        next = effects::committed(out, next, k as u32, name);
     }
     next
 }

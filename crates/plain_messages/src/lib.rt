@@ -26,8 +26,8 @@ pub fn both(first: Statement, second: Statement, out: &mut [u8], at: usize) -> u
     requires { ⌜ (Linked first) × (Linked second) × (at + 200 ≤ length (now out)) ⌝ }
     ensures { λ r. ⌜ Says (now (out .entry)) at (outgoing (toAll (said (statementOf first none)) ∷ toAll (said (statementOf second none)) ∷ [])) (now (out .exit)) r ⌝ }
 {
-    let next = outgoing::to_all(out, at, Message::Stated(first));
-    outgoing::to_all(out, next, Message::Stated(second))
+    let next = effects::to_all(out, at, Message::Stated(first));
+    effects::to_all(out, next, Message::Stated(second))
 }
 
 // A statement, by whether it is stored, whether the station is in its view, and whether a stored one conflicts.

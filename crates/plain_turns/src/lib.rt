@@ -150,7 +150,7 @@ pub fn step(e: Engine, message: &[u8], out: &mut [u8]) -> Turn
     if !running(e) {
         return refused(3, e);
     }
-    let read = wire::read_message(message);
+    let read = reading::read_message(message);
     match read {
         Read::Unreadable => refused(4, e),
         Read::Readable(m) => {

@@ -94,7 +94,7 @@ fn unknown(page: &mut Page, at: usize) -> usize {
 
 // A message in words, or its bytes where it is none.
 fn message(page: &mut Page, at: usize, message: &[u8]) -> usize {
-    let Read::Readable(said) = wire::read_message(message) else {
+    let Read::Readable(said) = reading::read_message(message) else {
         let start = page::say(page, at, b"message ");
         return page::bytes(page, start, message);
     };

@@ -29,7 +29,7 @@ pub fn fresh(
     own: u64,
 ) -> u64 {
     if is_plain {
-        return lent_list::plain_fresh(list, n, delay, own);
+        return fresh_list::plain_fresh(list, n, delay, own);
     }
     station::station_fresh(store, n, delay, own)
 }

@@ -1,4 +1,4 @@
--- The step of the search for two statements of a view that conflict, and a block's voters by what was found. Assumes nothing.
+-- The step of the search for two statements of a view that conflict. Assumes nothing.
 use Prim.Native.Nat.{ℕ, _+_, _-_, _<_, _≤_}
 use mathlib.Core.Path.{_≡_, refl, sym, ap, _∙_, subst}
 use mathlib.Core.Bool.{Bool, false}
@@ -8,7 +8,7 @@ use native.Mathlib.Omega.{arith}
 use lib.Dec.{eqb}
 use borrow.Author.Tests.{eq-eqb, ne-eqb, eqb-true, eqb-false}
 use Rattle.rules.specs.Lists.{first, keep}
-use Rattle.rules.specs.Words.{Statement, conflict, Certificate, Tally, ofBlock, voters}
+use Rattle.rules.specs.Words.{Statement, conflict}
 use Rattle.rules.specs.Inputs.{pair}
 use Rattle.laws.proofs.Tests.{by-bool}
 use Rattle.words.proofs.Statements.{other-view}
@@ -16,10 +16,10 @@ use Rattle.store.specs.Decode.{rows}
 use Rattle.store.specs.Searches.{firstFrom}
 use Rattle.store.specs.declared.Found.{Found}
 use Rattle.store.specs.declared.Found.the-variants.{At, Nothing}
-use Rattle.store.proofs.Rows.{rows-from}
+use Rattle.store.proofs.Rows.{rows-from, rows-end}
 use Rattle.search.specs.Lookups.{ofView, rivalIn}
 use Rattle.search.specs.Finds.{foundIn, Inside, Finds}
-use Rattle.search.proofs.Searches.{rows-end, found-first}
+use Rattle.search.proofs.Searches.{found-first}
 
 -- ---- what was found, taken apart
 
@@ -110,14 +110,3 @@ module _ (f : ℕ → Statement) (v n : ℕ) where
       let z : i + 1 + (n - (i + 1)) ≡ n = omega arith in
       subst (λ (o : Option Statement). Finds f n o r) (ap (λ (t : Statement → Bool). first t (rest i)) q ∙ sym (rival-view v (f i) (rest i) e))
       (subst (λ (m : ℕ). Finds f m (first p (rest i)) r) z (subst (Finds f (i + 1 + (n - (i + 1))) (first p (rest i))) (sym k) (found-first f p (i + 1) (n - (i + 1)))))
-
--- ---- voters
-
-abbrev pub maskOf : Option Tally → ℕ
-maskOf none = 0
-maskOf (some t) = t .mask
-
-pub voters-first : (t : Certificate) (us : List Tally) → voters t us ≡ maskOf (first (ofBlock t) us)
-unfolding voters first
-voters-first t [] = refl
-voters-first t (u ∷ us) = by-bool (ofBlock t u) (λ q. rw (q, voters, first)) (λ q. rw (q, voters, first) (voters-first t us))

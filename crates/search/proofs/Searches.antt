@@ -1,5 +1,5 @@
 -- A search of a table, row by row, and what its answer says of the list: each law once for every table and test. Assumes nothing.
-use Prim.Native.Nat.{ℕ, zero, suc, _+_, _-_, _<_, _≤_}
+use Prim.Native.Nat.{ℕ, zero, suc, _+_, _-_}
 use mathlib.Core.Path.{_≡_, refl, ap, _∙_, subst}
 use mathlib.Core.Bool.{Bool, true, false}
 use mathlib.Core.List.{List, [], _∷_}
@@ -10,27 +10,9 @@ use Rattle.laws.proofs.Tests.{by-bool}
 use Rattle.store.specs.Decode.{rows}
 use Rattle.store.specs.declared.Found.{Found}
 use Rattle.store.specs.declared.Found.the-variants.{At, Nothing}
-use Rattle.store.proofs.Rows.{rows-from}
+use Rattle.store.proofs.Rows.{rows-whole}
 use Rattle.store.specs.Searches.{firstFrom}
 use Rattle.search.specs.Finds.{Finds}
-
-module _ {A : Type 0} (f : ℕ → A) (n : ℕ) where
-  -- the rows from a place on: none past the end, all from the first
-  pub rows-end : (i : ℕ) → n ≤ i → rows f i (n - i) ≡ []
-  unfolding rows
-  rows-end i h = let e : n - i ≡ 0 = omega arith in rw e
-
-  pub rows-whole : (i : ℕ) → i ≤ 0 → rows f i (n - i) ≡ rows f 0 n
-  rows-whole i h =
-      let e : i ≡ 0 = omega arith in
-      let z : n - i ≡ n = omega arith in
-      ap (rows f i) z ∙ ap (λ (k : ℕ). rows f k n) e
-
-  -- as a loop downward meets them: the record before, then the rest
-  pub rows-back : (i : ℕ) → 0 < i → i ≤ n → rows f (i - 1) (n - (i - 1)) ≡ f (i - 1) ∷ rows f i (n - i)
-  rows-back i h l =
-      let e : i - 1 + 1 ≡ i = omega arith in
-      rows-from f (i - 1) n (omega arith) ∙ ap (λ (k : ℕ). f (i - 1) ∷ rows f k (n - k)) e
 
 -- whether a search found one
 abbrev pub isAt : Found → Bool

@@ -1,27 +1,18 @@
 -- What is read of a stored statement, and rules' names of what is looked up. Assumes nothing.
-use Prim.Native.Nat.{ℕ, suc, _+_, _<_}
+use Prim.Native.Nat.{ℕ}
 use mathlib.Core.Path.{_≡_, refl, sym, ap, _∙_}
-use mathlib.Core.Bool.{Bool, true, false, not, _&&_, _||_}
-use mathlib.Core.Option.{none, some}
-use mathlib.Core.List.{List}
-use native.Mathlib.Omega.{arith}
-use native.Mathlib.Numerals.{add-one}
-use lib.Dec.{leb, eqb}
-use Rattle.rules.specs.Lists.{any, all}
-use Rattle.rules.specs.Messages.{allowed}
-use Rattle.rules.specs.Words.{Statement, message, conflict, State}
-use Rattle.rules.specs.Inputs.{isUsed, isOpened, current}
-use Rattle.rules.specs.WellFormed.{isName, statementGood}
-use Rattle.laws.proofs.Tests.{and-left}
+use mathlib.Core.Bool.{not, _&&_, _||_}
+use mathlib.Core.Option.{none}
+use lib.Dec.{eqb}
+use Rattle.rules.specs.Lists.{any}
+use Rattle.rules.specs.Words.{Statement, conflict, State}
+use Rattle.rules.specs.Inputs.{isUsed, current}
 use Rattle.fields.specs.Names.{nameOf}
 use Rattle.wire.specs.Meaning.{statementOf}
 use Rattle.wire.specs.declared.Statement as code
-use Rattle.words.specs.Meaning.{Certifies}
-use Rattle.words.proofs.Statements.{conflict-unvoted, certifies-allowed}
-use Rattle.store.specs.Layout.{statementTable, countOf}
-use Rattle.store.specs.Decode.{statementAt, statements, stateOf}
-use Rattle.store.proofs.Rows.{rows-all}
-use Rattle.search.specs.Lookups.{uses, opens, turn, ofView}
+use Rattle.words.proofs.Statements.{conflict-unvoted}
+use Rattle.store.specs.Decode.{statements}
+use Rattle.search.specs.Lookups.{uses, ofView}
 
 -- what holds of a stored statement holds of it as it was read
 module _ (x : code.Statement) (y : Statement) (e : statementOf x (y .voted) ≡ y) where
@@ -35,14 +26,6 @@ module _ (x : code.Statement) (y : Statement) (e : statementOf x (y .voted) ≡ 
   pub read-conflicts : conflict (statementOf x none) ≡ conflict y
   unfolding conflict statementOf
   read-conflicts = ap conflict e
-
-  pub read-turn-first : x .«is_new_view» ≡ true → 0 ≡ turn y
-  unfolding statementOf
-  read-turn-first p = let q : turn (statementOf x (y .voted)) ≡ 0 = rw p in sym q ∙ ap turn e
-
-  pub read-turn-later : x .«is_new_view» ≡ false → x .height + 1 ≡ turn y
-  unfolding statementOf
-  read-turn-later p = let q : turn (statementOf x (y .voted)) ≡ suc (x .height) = rw p in add-one (x .height) ∙ sym q ∙ ap turn e
 
   pub read-uses : (b : ℕ) → (eqb b (nameOf (x .name)) || not (x .«is_new_view») && eqb b (nameOf (x .link))) ≡ uses b y
   unfolding statementOf

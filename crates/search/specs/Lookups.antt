@@ -1,22 +1,15 @@
--- What is looked up, said of the rules' words, with the view or the lock as a number of its own. Assumes nothing.
-use Prim.Native.Nat.{ℕ, suc, _^_, _<_}
-use mathlib.Core.Path.{_≡_}
+-- What is looked up, said of the rules' words, with the view as a number of its own. Assumes nothing.
+use Prim.Native.Nat.{ℕ}
 use mathlib.Core.Bool.{Bool, true, false, not, _&&_, _||_}
 use mathlib.Core.List.{List}
 use mathlib.Core.Option.{Option, none}
-use lib.Dec.{ltb, eqb}
+use lib.Dec.{eqb}
 use Rattle.rules.specs.Lists.{first, keep}
-use Rattle.rules.specs.Sizes.{Settings, quorum}
-use Rattle.rules.specs.Words.{Statement, conflict, Certificate, Tally, certificateOf, certificate, certified, below, higher}
+use Rattle.rules.specs.Words.{Statement, conflict}
 use Rattle.fields.specs.Names.{nameOf}
 use Rattle.wire.specs.Meaning.{statementOf}
 use Rattle.search.specs.declared.Ask.{Ask}
 use Rattle.search.specs.declared.Ask.the-variants.{Conflict, Opens, Uses}
-
--- one step of rules' `highest`
-unfoldable pub chosen : Settings → ℕ → Certificate → Certificate → Certificate
-unfolding quorum higher
-chosen g v t best = elim (ltb (t .view) v && quorum g (t .mask) && higher t best) [ true ↦ t | false ↦ best ]
 
 -- rules' `isOpened`, of a view
 abbrev pub opens : ℕ → Statement → Bool
@@ -36,10 +29,6 @@ asked (Uses b) = uses (nameOf b)
 unfoldable pub rivalIn : ℕ → List Statement → Statement → Option Statement
 unfolding first conflict
 rivalIn v xs x = elim (eqb (x .view) v) [ true ↦ first (conflict x) xs | false ↦ none ]
-
--- "new-view first, then by height"
-abbrev pub turn : Statement → ℕ
-turn x = elim (x .isNewView) [ true ↦ 0 | false ↦ suc (x .height) ]
 
 -- rules' `current`, of a view
 unfoldable pub ofView : ℕ → List Statement → List Statement

@@ -16,7 +16,8 @@ use Rattle.rules.specs.Words.{Statement, message}
 use Rattle.laws.proofs.Bytes.{length-unbe, be-unbe}
 use Rattle.laws.proofs.Tests.{no-bool, and-left, and-right}
 use Rattle.laws.proofs.Lengths.{length-field}
-use Rattle.slip.specs.Slips.{isEntry, isChain, isSlip, entryBytes, entriesBytes, slipBytes, entryAt}
+use Rattle.slip_entries.specs.Entries.{entryBytes, entryAt}
+use Rattle.slip.specs.Slips.{isEntry, isChain, isSlip, entriesBytes, slipBytes}
 use Rattle.shown.proofs.Passing.{Named, bare, message-is, length-entry, entries-cons, slip-cons, entry-parts, entry-back, fits, chain-entry, chain-next}
 
 -- each is an entry

@@ -24,8 +24,10 @@ use Rattle.kept.proofs.Sendable.{sendable}
 use Rattle.wire.specs.Fields.{head, isField}
 use Rattle.wire.proofs.Reading.{field-test, be-number}
 use Rattle.laws.proofs.Lengths.{length-write, length-field}
-use Rattle.slip.specs.Slips.{isEntry, certifies, follows, isChain, isSlip, entryBytes, entriesBytes, slipBytes, proposeOf, proposeIn, nameEnd, entryPlace, entryAt, parentIn, Verdict, accepted, judgeFrom, topHeight, judged}
-use Rattle.slip.proofs.Judging.{parent-here, top-here}
+use Rattle.slip_entries.specs.Entries.{entryBytes, proposeOf, proposeIn, entryAt, parentIn}
+use Rattle.slip.specs.Slips.{isEntry, certifies, follows, isChain, isSlip, entriesBytes, slipBytes, nameEnd, entryPlace, Verdict, accepted, judgeFrom, topHeight, judged}
+use Rattle.slip_entries.proofs.Parents.{parent-here}
+use Rattle.slip.proofs.Judging.{top-here}
 
 -- the names of entries are of 32 bytes
 abbrev pub Named : List Statement → Type 0

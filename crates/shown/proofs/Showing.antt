@@ -24,9 +24,11 @@ use Rattle.laws.proofs.Tests.{by-bool, by-option, no-bool, and-left, and-right,
 use Rattle.wire.specs.Fields.{head, isField}
 use Rattle.wire.proofs.Reading.{field-room}
 use Rattle.laws.proofs.Lengths.{length-field}
-use Rattle.slip.specs.Slips.{isEntry, certifies, follows, isChain, isSlip, entryBytes, entriesBytes, slipBytes, nameEnd, entryPlace, entryAt, parentIn, Verdict, accepted, refused, judgeFrom, topHeight, judged}
-use Rattle.slip.proofs.Reading.{bytes-all, piece, propose-read, entry-framed, entry-room}
-use Rattle.slip.proofs.Judging.{countOf, Leads, leads, top-here, top-unread}
+use Rattle.slip_entries.specs.Entries.{entryBytes, entryAt, parentIn}
+use Rattle.slip.specs.Slips.{isEntry, certifies, follows, isChain, isSlip, entriesBytes, slipBytes, nameEnd, entryPlace, Verdict, accepted, refused, judgeFrom, topHeight, judged}
+use Rattle.slip_entries.proofs.Reading.{bytes-all, piece, propose-read, entry-framed, entry-room}
+use Rattle.slip_entries.proofs.Parents.{Leads, leads}
+use Rattle.slip.proofs.Judging.{countOf, top-here, top-unread}
 use Rattle.shown.proofs.Passing.{Named, bare, message-is, shape, length-entry, entries-cons, slip-cons, entry-parts, entry-back, fits, chain-entry, chain-last, chain-next}
 
 isAccepted : Verdict → Bool

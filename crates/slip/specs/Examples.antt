@@ -10,7 +10,8 @@ use Rattle.rules.specs.Limits.{lastViewSmall}
 use Rattle.rules.specs.Messages.{newView, propose, vote, write, committed}
 use Rattle.rules.specs.Words.{Statement}
 use Rattle.rules.specs.Script.{Line, failing, sameList, group, station, _⇒_, idle, holds, ticks, hears, isOffered, bytes, says}
-use Rattle.slip.specs.Slips.{isSlip, slipBytes, entryBytes, checked}
+use Rattle.slip_entries.specs.Entries.{entryBytes}
+use Rattle.slip.specs.Slips.{isSlip, slipBytes, checked}
 
 -- an entry of view v: its height, its name, its parent, voted for by stations 0 and 1
 of : ℕ → ℕ → ℕ → ℕ → Statement

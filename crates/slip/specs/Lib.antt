@@ -1,4 +1,3 @@
 pub mod Slips
-pub mod Heads
 pub mod Meaning
 pub mod Examples

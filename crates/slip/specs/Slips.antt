@@ -2,16 +2,17 @@
 use Prim.Native.Nat.{ℕ, zero, suc, _+_, _*_, _^_}
 use mathlib.Core.Bool.{Bool, true, false, not, _&&_}
 use mathlib.Core.List.{List, [], _∷_, _++_}
-use mathlib.Core.Option.{Option, none, some}
-use lib.ListN.{length, take, drop}
+use mathlib.Core.Option.{none, some}
+use lib.ListN.{length}
 use lib.Dec.{eqb}
 use Rattle.fields.specs.Places.{number}
-use Rattle.rules.specs.Lists.{unbe, all}
-use Rattle.rules.specs.Messages.{Message, newView, propose, vote, blame, blameSet, status, field, write, read, allowed}
+use Rattle.rules.specs.Lists.{unbe}
+use Rattle.rules.specs.Messages.{field, allowed}
 use Rattle.rules.specs.Sizes.{Settings, quorum}
-use Rattle.rules.specs.Words.{Statement, message, Certificate, certificate, sameBlock}
+use Rattle.rules.specs.Words.{Statement, message, certificate, sameBlock}
 use Rattle.wire.specs.Fields.{isField}
 use Rattle.groups.specs.Groups.{group}
+use Rattle.slip_entries.specs.Entries.{entryBytes, entryAt, parentIn}
 
 -- ---- "a block name and a list of proposes, from that block down to height 1"
 
@@ -44,10 +45,6 @@ isSlip g b (x ∷ xs) = eqb b (x .name) && isChain g x xs
 
 -- ---- "tag 40 with the name, then each propose in a tag 41"
 
-unfoldable pub entryBytes : Statement → List ℕ
-unfolding field write message
-entryBytes x = field 0x41 (write (message x))
-
 unfoldable pub entriesBytes : List Statement → List ℕ
 unfolding entryBytes
 entriesBytes [] = []
@@ -59,19 +56,6 @@ slipBytes b xs = field 0x40 (unbe 32 b) ++ entriesBytes xs
 
 -- ---- the checker: "whoever put the slip together"
 
--- the propose of a message; another kind is none
-unfoldable pub proposeOf : Message → Option Statement
-proposeOf (newView v h b c m a) = none
-proposeOf (propose v h b p m a) = some (record { isNewView = false; view = v; height = h; name = b; link = p; mask = m; author = a; voted = none })
-proposeOf (vote v h b a) = none
-proposeOf (blame v a) = none
-proposeOf (blameSet v m) = none
-proposeOf (status h b c m) = none
-
-unfoldable pub proposeIn : List ℕ → Option Statement
-unfolding proposeOf
-proposeIn bs = elim (read bs) [ none ↦ none | some m ↦ proposeOf m ]
-
 -- where the name ends, and where the entry of a place stands
 abbrev pub nameEnd : ℕ
 nameEnd = 35
@@ -81,17 +65,6 @@ entryLength = 100
 
 abbrev pub entryPlace : ℕ → ℕ
 entryPlace k = nameEnd + entryLength * k
-
--- the entry at some byte; "missing" or "unreadable" it is none
-unfoldable pub entryAt : List ℕ → ℕ → Option Statement
-unfolding isField proposeIn
-entryAt s at = elim (isField s at 0x41 97) [ true ↦ proposeIn (take 97 (drop (at + 3) s)) | false ↦ none ]
-
--- the parent of an entry that is the block asked for, and is allowed; else none
-unfoldable pub parentIn : Settings → ℕ → ℕ → Option Statement → Option ℕ
-unfolding allowed message
-parentIn g h b none = none
-parentIn g h b (some x) = elim (eqb b (x .name) && eqb h (x .height) && allowed g (message x)) [ true ↦ some (x .link) | false ↦ none ]
 
 -- accepted, with the number of entries; or refused, with "the first bad place, counted from the top"
 pub data Verdict : Type 0 where

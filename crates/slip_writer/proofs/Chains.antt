@@ -32,7 +32,8 @@ use Rattle.store.specs.declared.Found.the-variants.{At, Nothing}
 use Rattle.store.proofs.Rows.{rows-at, rows-length}
 use Rattle.store.proofs.Searches.{found-within, found-matches, found-first, missing-first}
 use Rattle.linked.specs.Links.{isLink}
-use Rattle.slip.specs.Slips.{entryBytes, entriesBytes, slipBytes}
+use Rattle.slip_entries.specs.Entries.{entryBytes}
+use Rattle.slip.specs.Slips.{entriesBytes, slipBytes}
 use Rattle.slip_writer.specs.Writer.{loggedAt, heightFrom, logChain}
 
 -- ---- the names of the log

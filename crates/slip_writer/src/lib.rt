@@ -12,7 +12,8 @@ ghost use Rattle.store.specs.Decode.{statementAt, statements, names, Form};
 ghost use Rattle.store.specs.Searches.{firstFrom};
 ghost use Rattle.linked.specs.Links.{isLink};
 ghost use Rattle.calls.specs.Calls.{Gives};
-ghost use Rattle.slip.specs.Slips.{entryBytes, entriesBytes, slipBytes};
+ghost use Rattle.slip_entries.specs.Entries.{entryBytes};
+ghost use Rattle.slip.specs.Slips.{entriesBytes, slipBytes};
 ghost use Rattle.slip_writer.specs.Writer.{loggedAt, logChain};
 ghost use Rattle.slip_writer.specs.Called.{writeCalled};
 use fields::Name;
@@ -72,7 +73,7 @@ fn write_entry(store: &[u8], i: usize, out: &mut [u8], at: usize) -> usize
 {
     let propose = store::statement_at(store, i);
     fields::put(out, at, 3, 0x41_0061);
-    outgoing::write_message(out, at + 3, Message::Stated(propose))
+    writing::write_message(out, at + 3, Message::Stated(propose))
 }
 
 // The chain of the log from a height down to height 1.

@@ -32,7 +32,7 @@ pub enum Slot {
 pub fn is_readable(input: &[u8]) -> bool
     ensures { λ r. ⌜ r ≡ isReadable (now (input .entry)) ⌝ }
 {
-    let Read::Readable(_) = wire::read_message(input) else {
+    let Read::Readable(_) = reading::read_message(input) else {
         return false;
     };
     true

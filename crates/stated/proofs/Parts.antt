@@ -1,4 +1,4 @@
--- A statement as the code tests it, and its tallies. Assumes nothing.
+-- A statement as the code tests it. Assumes nothing.
 use Prim.Native.Nat.{ℕ, zero, suc, _+_, _-_, _<_, _≤_}
 use mathlib.Core.Path.{_≡_, refl, sym, ap, _∙_}
 use mathlib.Core.Bool.{Bool, true, false, _&&_, and-true, and-false}
@@ -8,12 +8,12 @@ use native.Mathlib.Nat.{add-zero}
 use lib.Dec.{leb, ltb, eqb}
 use borrow.Author.Tests.{eqb-true, lt-ltb, le-ltb, le-leb, lt-leb, eq-eqb, ne-eqb}
 use Rattle.rules.specs.Limits.{small, lastHeight}
-use Rattle.rules.specs.Lists.{iff, any}
+use Rattle.rules.specs.Lists.{iff}
 use Rattle.rules.specs.Sizes.{Settings, leader}
 use Rattle.rules.specs.Messages.{allowed, viewAllowed, blockAllowed, maskAllowed, certificateAllowed}
 use Rattle.rules.specs.Words as words
-use Rattle.rules.specs.Words.{message, ownBlock, certificate, ofBlock}
-use Rattle.rules.specs.WellFormed.{isName, statementGood, talliesThere}
+use Rattle.rules.specs.Words.{message}
+use Rattle.rules.specs.WellFormed.{isName, statementGood}
 use Rattle.laws.proofs.Tests.{by-bool, no-bool, and-left}
 use Rattle.fields.specs.Places.{Bytes, number}
 use Rattle.fields.proofs.Laws.{number-lt, number-split}
@@ -28,8 +28,6 @@ use Rattle.store.specs.declared.Station.{Station}
 use Rattle.heading.specs.Lent.{alone}
 use Rattle.tallied.proofs.Parts.{lost, kept}
 use Rattle.stated.specs.Stated.{voteInOrder, newViewSaid, proposeSaid}
-
--- ---- a statement
 
 pub vote-none : (clock v : ℕ) → v ≡ 0 → true ≡ voteInOrder clock (voteOf v)
 unfolding voteInOrder
@@ -159,23 +157,3 @@ unfolding statementGood message
 good-certifies s x e =
     let said = allowed (s .settings) (message x) in
     certifies-allowed (s .settings) x (and-left said (isName (x .name)) (and-left (said && isName (x .name)) (isName (x .link)) (and-left (said && isName (x .name) && isName (x .link)) _ e)))
-
--- ---- its tallies
-
-pub there-own : (ts : List words.Tally) (x : words.Statement) → talliesThere ts x ≡ true → any (ofBlock (ownBlock x 0)) ts ≡ true
-unfolding talliesThere
-there-own ts x e = and-left (any (ofBlock (ownBlock x 0)) ts) _ e
-
-module _ (ts : List words.Tally) (x : words.Statement) (u : words.Certificate) (r : u ≡ ownBlock x 0) where
-  pub there-missing : any (ofBlock u) ts ≡ false → talliesThere ts x ≡ false
-  unfolding talliesThere
-  there-missing e = rw (← r, e)
-
-  module _ (t : words.Certificate) (q : t ≡ certificate x) (e : any (ofBlock u) ts ≡ true) where
-    pub there-genesis : t .view ≡ 0 → talliesThere ts x ≡ true
-    unfolding talliesThere
-    there-genesis z = rw (← r, e, ← q, z)
-
-    pub there-both : (t .view ≡ 0 → ⊥) → talliesThere ts x ≡ any (ofBlock t) ts
-    unfolding talliesThere
-    there-both d = rw (← r, e, ← q, ne-eqb _ _ d)

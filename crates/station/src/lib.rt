@@ -24,7 +24,7 @@ pub extern "C" fn station_step(store: &mut [u8], message: &[u8], out: &mut [u8])
     if number != 0 {
         return refusals::refuse(number);
     }
-    let Read::Readable(m) = wire::read_message(message) else {
+    let Read::Readable(m) = reading::read_message(message) else {
         return refusals::refuse(4);
     };
     let station = Station::load(store);

@@ -4,4 +4,5 @@ pub mod Rows
 pub mod Kept
 pub mod Tables
 pub mod Forms
+pub mod Counts
 pub mod Searches

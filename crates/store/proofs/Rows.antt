@@ -63,6 +63,24 @@ module _ {A : Type 0} where
   rows-shift f i zero = refl
   rows-shift f i (suc n) = ap (f (suc i) ∷_) (rows-shift f (suc i) n)
 
+module _ {A : Type 0} (f : ℕ → A) (n : ℕ) where
+  -- the rows from a place on: none past the end, all from the first
+  pub rows-end : (i : ℕ) → n ≤ i → rows f i (n - i) ≡ []
+  unfolding rows
+  rows-end i h = let e : n - i ≡ 0 = omega arith in rw e
+
+  pub rows-whole : (i : ℕ) → i ≤ 0 → rows f i (n - i) ≡ rows f 0 n
+  rows-whole i h =
+      let e : i ≡ 0 = omega arith in
+      let z : n - i ≡ n = omega arith in
+      ap (rows f i) z ∙ ap (λ (k : ℕ). rows f k n) e
+
+  -- as a loop downward meets them: the record before, then the rest
+  pub rows-back : (i : ℕ) → 0 < i → i ≤ n → rows f (i - 1) (n - (i - 1)) ≡ f (i - 1) ∷ rows f i (n - i)
+  rows-back i h l =
+      let e : i - 1 + 1 ≡ i = omega arith in
+      rows-from f (i - 1) n (omega arith) ∙ ap (λ (k : ℕ). f (i - 1) ∷ rows f k (n - k)) e
+
 -- what holds of all rows holds of each
 pub rows-all : {A : Type 0} (p : A → Bool) (f : ℕ → A) (i n : ℕ) → all p (rows f i n) ≡ true → (k : ℕ) → i ≤ k → k < i + n → p (f k) ≡ true
 unfolding rows all

@@ -8,7 +8,7 @@ use native.Mathlib.Omega.{arith}
 use native.Mathlib.Numerals.{add-one}
 use native.Mathlib.Nat.{add-zero}
 use lib.Dec.{eqb}
-use borrow.Author.Tests.{not-true, not-false}
+use borrow.Author.Tests.{ne-eqb, not-true, not-false}
 use Rattle.rules.specs.Lists.{iff, first, any}
 use Rattle.rules.specs.Words.{Statement, sameStatement, Certificate, sameBlock, ofBlock}
 use Rattle.fields.specs.Places.{number, Bytes}
@@ -148,6 +148,11 @@ statement-tests b k x i l =
     let e = key-splits b k (placeOf statementTable small i) (x .view) (x .height) l in
     regroup (iff (x .isNewView) (y .isNewView)) (eqb (x .view) (y .view)) (eqb (x .height) (y .height)) (eqb (x .name) (y .name)) (eqb (x .link) (y .link)) (eqb (x .author) (y .author))
     ∙ ap (λ (e : Bool). e && eqb (x .name) (y .name) && (iff (x .isNewView) (y .isNewView) && (eqb (x .author) (y .author) && eqb (x .link) (y .link)))) (sym e)
+
+-- where view and height differ, the rest isn't looked at
+pub other-key : (b : List ℕ) → Bytes b → (x : Statement) (i : ℕ) → x .height < 256 ^ 4 → (key read : ℕ) → key ≡ x .view * 256 ^ 4 + x .height → read ≡ number b (placeOf statementTable small i) 8 → (read ≡ key → ⊥)
+    → sameStatement x (statementAt b i) ≡ false
+other-key b k x i l key read e q d = statement-tests b k x i l ∙ rw (← e, ← q, ne-eqb key read (λ s. d (sym s)))
 
 -- x held against statement i by the answer r of the block's test
 module _ (b : List ℕ) (k : Bytes b) (x : Statement) (i key : ℕ) (l : x .height < 256 ^ 4) (e : key ≡ x .view * 256 ^ 4 + x .height) (r : Bool)

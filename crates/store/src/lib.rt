@@ -436,16 +436,21 @@ pub fn is_statement(store: &[u8], i: usize, statement: Statement) -> bool
     (statement.is_new_view == other.is_new_view) & written
 }
 
-// The place of the first statement that is the same.
+// The place of the first statement that is the same. Of one of another view or height no more than these is looked at.
 pub fn find_statement(store: &[u8], statement: Statement) -> Found
     requires { ⌜ Form (now store) ⌝ }
     ensures { λ r. ⌜ r ≡ firstFrom (sameStatement (statementOf statement none)) 0 (statements (now (store .entry))) ⌝ }
 {
     let count = get_count(store, STATEMENT_COUNT);
+    let key = key_of(statement.view, statement.height);
     let mut i: usize = 0;
     loop {
         if count <= i {
             break Found::Nothing;
+        }
+        if fields::get(store, STATEMENTS + STATEMENT_SIZE * i, 8) != key {
+            i += 1;
+            continue;
         }
         if is_statement(store, i, statement) {
             break Found::At(i);

@@ -63,7 +63,7 @@ pub fn used_up(store: &[u8], place: Found, author: u64) -> bool
 {
     match place {
         Found::At(_) => false,
-        Found::Nothing => Settings::MOST_OPENED <= search::opened_by(store, author),
+        Found::Nothing => Settings::MOST_OPENED <= certificates::opened_by(store, author),
     }
 }
 

@@ -11,7 +11,6 @@ ghost use Rattle.tallies.specs.Values.{openerOf, reachedFrom};
 ghost use Rattle.store.specs.Decode.{tallyAt, tallies};
 ghost use Rattle.heading.specs.Lent.{Counts};
 use super::block;
-use allowed::clauses;
 use settings::Settings;
 use store::HEIGHT;
 use store::NAME;

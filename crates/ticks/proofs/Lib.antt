@@ -1,3 +1,2 @@
-pub mod Clocks
 pub mod Turns
 pub mod Quiet

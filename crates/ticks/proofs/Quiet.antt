@@ -1,7 +1,7 @@
 -- A tick that does no more than move the clock on and commit. Assumes nothing.
 use Prim.Native.Nat.{ℕ, suc, _+_, _≤_}
 use mathlib.Core.Path.{_≡_, refl, sym, ap, _∙_, subst}
-use mathlib.Core.Bool.{Bool, true, false, not, _&&_}
+use mathlib.Core.Bool.{Bool, true, false}
 use mathlib.Core.List.{List, [], _++_, append-nil}
 use mathlib.Core.Option.{some, Option·some-injective}
 use native.Mathlib.Omega.{arith}
@@ -16,21 +16,22 @@ use Rattle.store.specs.Decode.{names, stateFrom, stateOf, Left}
 use Rattle.store.specs.Meaning.{Loads}
 use Rattle.store.specs.declared.Station.{Station}
 use Rattle.store.proofs.Forms.{form-log}
-use Rattle.store.proofs.Loaded.{loaded-clock}
 use Rattle.linked.specs.Told.{Told}
 use Rattle.commit.specs.Outcome.{tickLog, Gained}
-use Rattle.commit.specs.Looks.{Seen}
-use Rattle.commit.specs.declared.Glance.{Glance}
+use Rattle.glance.specs.Looks.{Seen}
+use Rattle.glance.specs.declared.Glance.{Glance}
 use Rattle.commit.proofs.Ticks.{gained-none, told-log}
 use Rattle.acts.specs.Works.{Formed, Works}
 use Rattle.acts.proofs.Works.{works-is, works-none}
-use Rattle.turns.specs.Gains.{grownLog}
+use Rattle.reports.specs.Gains.{grownLog}
 use Rattle.turns.proofs.Parts.{complain-calm}
 use Rattle.turns.proofs.Leading.{lead-never}
 use Rattle.turns.proofs.Arriving.{enter-not}
 use Rattle.refusals.specs.Answers.{Answers}
-use Rattle.ticks.specs.Turns.{later, growing, turning, Calm, Calmly}
-use Rattle.ticks.proofs.Turns.{never-next, done-tick}
+use Rattle.moves.specs.Turns.{later, growing, turning, Calm, Calmly}
+use Rattle.moves.proofs.Turns.{never-next}
+use Rattle.moves.proofs.Calming.{next-state}
+use Rattle.ticks.proofs.Turns.{done-tick}
 
 -- ---- what is left of a tick then
 
@@ -65,20 +66,6 @@ module _ {b : List ℕ} (k : Formed b) (s : Station) (e : Loads s b) where
   abbrev S : State
   S = stateOf b
 
-  next-state : withClock (s .clock + 1) S ≡ later S
-  unfolding later
-  next-state = ap (λ (c : ℕ). withClock (c + 1) S) (loaded-clock s b e)
-
-  pub calm-by : (o l n : Bool) → o ≡ overdue (withClock (s .clock + 1) S) → o ≡ false → l ≡ leadsNow (withClock (s .clock + 1) S) → n ≡ entersNow (withClock (s .clock + 1) S)
-      → Calmly b (not l && not n)
-  calm-by o true n p f q r = tt
-  calm-by o false true p f q r = tt
-  calm-by o false false p f q r = record {
-    blameless = ap overdue (sym next-state) ∙ sym p ∙ f;
-    led = ap leadsNow (sym next-state) ∙ sym q;
-    stays = ap entersNow (sym next-state) ∙ sym r;
-  }
-
   module _ (y : running S ≡ true) (n : s .clock ≡ lastClock → ⊥) {m : Bool} (calmly : Calmly b m) (is : m ≡ true) where
     calm : Calm b
     calm = subst (Calmly b) is calmly
@@ -99,5 +86,5 @@ module _ {b : List ℕ} (k : Formed b) (s : Station) (e : Loads s b) where
         let log : tickLog b ≡ some (names b) = told-log b told s e tells (λ j u v. seen .below j u (omega arith)) in
         let g = gained-none b [] (countOf logTable b) refl (form-log b (k .form) .1) log in
         let same : names b ≡ grownLog b [] (countOf logTable b) = Option·some-injective (names b) (grownLog b [] (countOf logTable b)) (sym log ∙ g .is) in
-        let now : Left b′ (later S) = subst (Left b′) next-state l in
+        let now : Left b′ (later S) = subst (Left b′) (next-state k s e) l in
         grown-tick g (works-is (grows-none S ∙ ap (λ (m : List ℕ). growing m S) same) (works-none o 0 now))

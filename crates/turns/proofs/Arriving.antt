@@ -21,8 +21,8 @@ use Rattle.store.specs.declared.Station.{Station}
 use Rattle.store.proofs.Loaded.{loaded-view}
 use Rattle.store.proofs.Rows.{rows-length}
 use Rattle.search.specs.Finds.{pairIn, InsideBoth, FindsBoth}
-use Rattle.search.specs.Lookups.{turn, ofView}
-use Rattle.search.specs.Orders.{standing, InOrder}
+use Rattle.search.specs.Lookups.{ofView}
+use Rattle.orders.specs.Orders.{turn, standing, InOrder}
 use Rattle.search.specs.declared.Pair.{Pair}
 use Rattle.search.specs.declared.Pair.the-variants.{At, Nothing}
 use Rattle.search.proofs.Statements.{current-is}
@@ -33,7 +33,7 @@ use Rattle.acts.specs.Answers.{Stands}
 use Rattle.acts.specs.Works.{Formed, Works}
 use Rattle.acts.proofs.Places.{place-sendable, place-message, sendable-linked}
 use Rattle.acts.proofs.Works.{formed-parts, left-formed, works-is}
-use Rattle.turns.proofs.Parts.{left-size}
+use Rattle.moments.proofs.Sizes.{left-size}
 
 -- ---- by the rules' names
 

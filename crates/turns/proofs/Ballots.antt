@@ -19,7 +19,7 @@ use Rattle.outgoing.proofs.Writing.{says-length}
 use Rattle.store.specs.Layout.{statementTable, sizeIn, countOf}
 use Rattle.store.specs.Decode.{rows, statementAt, statements, stateFrom, stateOf}
 use Rattle.store.proofs.Rows.{rows-length, rows-at, rows-from}
-use Rattle.search.specs.Orders.{standing, placeAt}
+use Rattle.orders.specs.Orders.{standing, placeAt}
 use Rattle.kept.proofs.Keeps.{voting-keeps}
 use Rattle.laws.proofs.Lengths.{bytes-none}
 use Rattle.acts.specs.Answers.{Stands}
@@ -27,7 +27,8 @@ use Rattle.acts.specs.Works.{Formed, Works}
 use Rattle.acts.proofs.Places.{place-sendable}
 use Rattle.acts.proofs.Votes.{voting-below, voting-cast}
 use Rattle.acts.proofs.Works.{formed-parts, left-formed, ballot-bytes, works-none, works-is}
-use Rattle.turns.proofs.Parts.{left-size, works-then, left-same}
+use Rattle.moments.proofs.Sizes.{left-size}
+use Rattle.turns.proofs.Parts.{works-then, left-same}
 
 -- ---- statements without their votes
 

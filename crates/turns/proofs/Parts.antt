@@ -1,6 +1,6 @@
 -- The parts of a tick by their cases, and one act after another. Assumes nothing.
 use Prim.Native.Nat.{ℕ}
-use mathlib.Core.Path.{_≡_, refl, sym, ap, _∙_, subst}
+use mathlib.Core.Path.{_≡_, refl, ap, _∙_, subst}
 use mathlib.Core.Bool.{true, false}
 use mathlib.Core.List.{List, [], _∷_}
 use lib.ListN.{length}
@@ -10,9 +10,7 @@ use Rattle.rules.specs.Words.{State}
 use Rattle.rules.specs.Inputs.{Work, saying, _▸_, blaming, overdue, complain}
 use Rattle.outgoing.proofs.Writing.{says-outgoing, says-one}
 use Rattle.outgoing.specs.Wrote.{Says}
-use Rattle.store.specs.Layout.{storeLength, sizeIn}
-use Rattle.store.specs.Decode.{stateFrom, stateOf, Form, Left}
-use Rattle.store.proofs.Forms.{form-long}
+use Rattle.store.specs.Decode.{stateOf, Form, Left}
 use Rattle.laws.proofs.Lengths.{weight, length-effect}
 use Rattle.acts.specs.Works.{Works}
 use Rattle.acts.proofs.Works.{works-is, works-none, works-saying}
@@ -25,14 +23,6 @@ unfolding _▸_
 works-then {o} {o₁} {o₂} {b₁} {b₂} {at} {r₁} {r₂} {w} f p q =
     let k : Works (f (w .now)) o₁ r₁ b₂ o₂ r₂ = subst (λ (s : State). Works (f s) o₁ r₁ b₂ o₂ r₂) (p .left .is) q in
     record { left = k .left; says = says-outgoing o at (w .out) (f (w .now) .out) o₁ o₂ r₁ r₂ (p .says) (k .says) }
-
--- the limits of what was left are the state's, and its length goes by them
-pub left-size : {b′ : List ℕ} {s : State} → Left b′ s → sizeIn b′ ≡ s .settings .size
-unfolding stateOf stateFrom
-left-size l = ap (λ (x : State). x .settings .size) (l .is)
-
-pub same-long : {b b′ : List ℕ} → Form b → Form b′ → sizeIn b′ ≡ sizeIn b → length b′ ≡ length b
-same-long {b} {b′} f g e = form-long b′ g ∙ ap storeLength e ∙ sym (form-long b f)
 
 -- a store that is as it was
 pub left-same : {b : List ℕ} → Form b → Left b (stateOf b)

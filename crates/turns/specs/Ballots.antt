@@ -4,7 +4,7 @@ use mathlib.Core.List.{List}
 use lib.ListN.{length}
 use Rattle.rules.specs.Limits.{mostStatementsLarge}
 use Rattle.store.specs.Layout.{statementTable, countOf}
-use Rattle.search.specs.Orders.{placeAt}
+use Rattle.orders.specs.Orders.{placeAt}
 use Rattle.acts.specs.Works.{Formed}
 
 -- the first places of the order are those of stored statements, and the out buffer has room from a place on

@@ -2,8 +2,7 @@
 ghost use mathlib.Core.Path.{_≡_};
 ghost use mathlib.Core.Bool.{true};
 ghost use mathlib.Core.Option.{none};
-ghost use Prim.Native.Nat.{_+_, _*_, _^_, _≤_, _<_};
-ghost use lib.Dec.{eqb};
+ghost use Prim.Native.Nat.{_+_, _*_, _≤_};
 ghost use lib.ListN.{length};
 ghost use Rattle.rules.specs.Limits.{mostStatements, mostStatementsLarge};
 ghost use Rattle.rules.specs.Words.{message as said};
@@ -11,49 +10,17 @@ ghost use Rattle.rules.specs.Inputs as inputs;
 ghost use Rattle.rules.specs.Refusals.{hasRoom};
 ghost use Rattle.wire.specs.Meaning.{statementOf};
 ghost use Rattle.store.specs.Layout.{sizeIn};
-ghost use Rattle.store.specs.Decode.{rows, stateOf, Form};
-ghost use Rattle.store.specs.Meaning.{Loads};
-ghost use Rattle.search.specs.Orders.{standing};
+ghost use Rattle.store.specs.Decode.{rows, stateOf};
+ghost use Rattle.orders.specs.Orders.{standing};
 ghost use Rattle.kept.specs.Said.{Sendable};
 ghost use Rattle.acts.specs.Works.{Formed, Works};
-ghost use Rattle.turns.specs.Gains.{grownLog, Enough};
 ghost use Rattle.turns.specs.Ballots.{Listed};
 use fields::Name;
 use search::Pair;
 use settings::Settings;
-use store::Phase;
 use store::Station;
 use wire::Message;
 use wire::Statement;
-
-// Whether the station is in a view.
-fn is_in_view(store: &[u8], station: Station) -> bool
-    requires { ⌜ (Form (now store)) × (Loads station (now store)) ⌝ }
-    ensures { λ r. ⌜ r ≡ inputs.isIn (station .view) (stateOf (now (store .entry))) ⌝ }
-{
-    let phase = station.phase;
-    match phase {
-        Phase::InView => true,
-        _ => false,
-    }
-}
-
-// Whether the station's own blame is due at a clock, by how many proposes of its view it voted for.
-pub fn overdue_at(store: &[u8], station: Station, clock: u32, votes: usize) -> bool
-    requires { ⌜ (Formed (now store)) × (Loads station (now store)) × (station .entry ≤ clock) × (votes ≡ inputs.votes (stateOf (now store))) ⌝ }
-    ensures { λ r. ⌜ r ≡ inputs.overdue (inputs.withClock clock (stateOf (now (store .entry)))) ⌝ }
-{
-    if !is_in_view(store, station) {
-        return false;
-    }
-    let settings = station.settings;
-    let wait = (2 * votes as u64 + 6) * settings.delay + 2;
-    if ((clock - station.entry) as u64) < wait {
-        return false;
-    }
-    let blames = store::blame_at(store, station.view as usize - 1);
-    !settings::holds(blames as u64, settings.own)
-}
 
 // Where it is due, the station blames its view: to all, and into the mask, which may be full then.
 pub fn complain(store: &mut [u8], out: &mut [u8], at: usize, votes: usize) -> usize
@@ -61,7 +28,7 @@ pub fn complain(store: &mut [u8], out: &mut [u8], at: usize, votes: usize) -> us
     ensures { λ r. ⌜ Works (inputs.complain (stateOf (now (store .entry)))) (now (out .entry)) at (now (store .exit)) (now (out .exit)) r ⌝ }
 {
     let station = Station::load(store);
-    if !overdue_at(store, station, station.clock, votes) {
+    if !moments::overdue_at(store, station, station.clock, votes) {
         return at;
     }
     let settings = station.settings;
@@ -70,73 +37,8 @@ pub fn complain(store: &mut [u8], out: &mut [u8], at: usize, votes: usize) -> us
         view: station.view,
         author: own as u8,
     };
-    let next = outgoing::to_all(out, at, blame);
+    let next = effects::to_all(out, at, blame);
     acts::blaming(store, out, next, station.view, settings::only(own) as u16)
-}
-
-// Whether the station is in a view and leads it.
-fn leads_in(store: &[u8], station: Station) -> bool
-    requires { ⌜ (Formed (now store)) × (Loads station (now store)) ⌝ }
-    ensures { λ r. ⌜ r ≡ inputs.leads (stateOf (now (store .entry))) ⌝ }
-{
-    if !is_in_view(store, station) {
-        return false;
-    }
-    let settings = station.settings;
-    settings.leader(station.view as u64) == settings.own
-}
-
-pub fn leads(store: &[u8]) -> bool
-    requires { ⌜ Formed (now store) ⌝ }
-    ensures { λ r. ⌜ r ≡ inputs.leads (stateOf (now (store .entry))) ⌝ }
-{
-    let station = Station::load(store);
-    leads_in(store, station)
-}
-
-// Whether the clock is one tick past a wait, so that what was due at its end has come.
-fn is_past(clock: u32, start: u32, wait: u64) -> bool
-    requires { ⌜ wait < 2 ^ 32 ⌝ }
-    ensures { λ r. ⌜ r ≡ eqb clock (start + wait + 1) ⌝ }
-{
-    clock as u64 == start as u64 + wait + 1
-}
-
-// Whether a clock is the leader's moment to make a new-view.
-pub fn leads_at(store: &[u8], station: Station, clock: u32) -> bool
-    requires { ⌜ (Formed (now store)) × (Loads station (now store)) ⌝ }
-    ensures { λ r. ⌜ r ≡ inputs.leadsNow (inputs.withClock clock (stateOf (now (store .entry)))) ⌝ }
-{
-    let settings = station.settings;
-    if !is_past(clock, station.entry, 2 * settings.delay) {
-        return false;
-    }
-    leads_in(store, station)
-}
-
-// Whether a waiting station's wait is over at a clock.
-pub fn enters_at(store: &[u8], station: Station, clock: u32) -> bool
-    requires { ⌜ (Formed (now store)) × (Loads station (now store)) ⌝ }
-    ensures { λ r. ⌜ r ≡ inputs.entersNow (inputs.withClock clock (stateOf (now (store .entry)))) ⌝ }
-{
-    let settings = station.settings;
-    let phase = station.phase;
-    match phase {
-        Phase::Waiting(quit) => {
-            let is_over = is_past(clock, quit, settings.delay);
-            ((station.view as u64) < store::last_view_in(store)) & is_over
-        }
-        _ => false,
-    }
-}
-
-// Whether it is over.
-fn enters_now(store: &[u8]) -> bool
-    requires { ⌜ Formed (now store) ⌝ }
-    ensures { λ r. ⌜ r ≡ inputs.entersNow (stateOf (now (store .entry))) ⌝ }
-{
-    let station = Station::load(store);
-    enters_at(store, station, station.clock)
 }
 
 // The new-view that the leader makes from the highest certificate of an earlier view.
@@ -146,7 +48,7 @@ pub fn own_new_view(store: &[u8]) -> Statement
 {
     let station = Station::load(store);
     let settings = station.settings;
-    let best = search::highest(store, station.view);
+    let best = certificates::highest(store, station.view);
     let name = best.name;
     let link = Name {
         first: 0,
@@ -171,12 +73,12 @@ pub fn lead(store: &mut [u8], out: &mut [u8], at: usize) -> usize
     ensures { λ r. ⌜ Works (inputs.lead (stateOf (now (store .entry)))) (now (out .entry)) at (now (store .exit)) (now (out .exit)) r ⌝ }
 {
     let station = Station::load(store);
-    if !leads_at(store, station, station.clock) {
+    if !moments::leads_at(store, station, station.clock) {
         return at;
     }
     let x = own_new_view(store);
-    let plan = acts::planned(store, x);
-    acts::statement(store, out, at, x, plan)
+    let plan = plans::planned(store, x);
+    answers::statement(store, out, at, x, plan)
 }
 
 // The next view is entered, with the highest certificate as its lock, which goes to the new leader.
@@ -187,7 +89,7 @@ fn entered(store: &mut [u8], out: &mut [u8], at: usize) -> usize
     let station = Station::load(store);
     let settings = station.settings;
     let view = station.view + 1;
-    let lock = search::highest(store, view);
+    let lock = certificates::highest(store, view);
     records::enter(store, view, lock);
     let to = settings.leader(view as u64);
     if to == settings.own {
@@ -200,24 +102,7 @@ fn entered(store: &mut [u8], out: &mut [u8], at: usize) -> usize
         cert: lock.view,
         mask: lock.mask,
     };
-    outgoing::to_one(out, at, to as u8, status)
-}
-
-// The log grows by the names of the statements whose places stand in a table, each reported.
-pub fn logging(store: &mut [u8], out: &mut [u8], at: usize, gained: &[u16], len: usize) -> usize
-    requires { ⌜ Enough (now store) (now gained) len at (length (now out)) ⌝ }
-    ensures { λ r. ⌜ Works (inputs.logging (grownLog (now (store .entry)) (now (gained .entry)) len) (stateOf (now (store .entry)))) (now (out .entry)) at (now (store .exit)) (now (out .exit)) r ⌝ }
-{
-    let mut k = store::get_count(store, store::LOG_COUNT);
-    let mut next = at;
-    while k < len {
-        let x = store::statement_at(store, gained[k] as usize);
-        let name = x.name;
-        records::append_name(store, name);
-        next = outgoing::committed(out, next, (k + 1) as u32, name);
-        k += 1;
-    }
-    next
+    effects::to_one(out, at, to as u8, status)
 }
 
 // Votes on the statements whose places stand in a table, in its order.
@@ -231,7 +116,7 @@ fn vote_in_order(store: &mut [u8], out: &mut [u8], at: usize, order: &[u16], cou
         let place = order[j] as usize;
         let x = store::statement_at(store, place);
         let tally = store::find_tally(store, words::own_block(x, 0));
-        next = acts::voting(store, out, next, place, x, tally);
+        next = ballots::voting(store, out, next, place, x, tally);
         j += 1;
     }
     next
@@ -254,7 +139,7 @@ fn arrive(store: &mut [u8], out: &mut [u8], at: usize, order: &mut [u16]) -> usi
             acts::quit_with_pair(store, out, at, earlier, later)
         }
         Pair::Nothing => {
-            let count = search::in_order(store, view, order);
+            let count = orders::in_order(store, view, order);
             vote_in_order(store, out, at, order, count)
         }
     }
@@ -265,7 +150,7 @@ pub fn enter(store: &mut [u8], out: &mut [u8], at: usize) -> usize
     requires { ⌜ (Formed (now store)) × (at + 62 + 160 * mostStatements (sizeIn (now store)) ≤ length (now out)) ⌝ }
     ensures { λ r. ⌜ Works (inputs.enter (stateOf (now (store .entry)))) (now (out .entry)) at (now (store .exit)) (now (out .exit)) r ⌝ }
 {
-    if !enters_now(store) {
+    if !moments::enters_now(store) {
         return at;
     }
     let next = entered(store, out, at);

@@ -8,11 +8,9 @@ use Rattle.rules.specs.Messages as messages
 use Rattle.rules.specs.Messages.{vote, blame, blameSet, status}
 use Rattle.rules.specs.Words as words
 use Rattle.rules.specs.Words.{message}
-use Rattle.wire.specs.Fields.{Place}
 use Rattle.wire.specs.declared.Statement.{Statement}
 use Rattle.wire.specs.declared.Message.{Message}
 use Rattle.wire.specs.declared.Message.the-variants.{Stated, Vote, Blame, BlameSet, Status}
-use Rattle.wire.specs.declared.reader.Cursor.{Cursor}
 use Rattle.wire.specs.declared.Read.{Read}
 use Rattle.wire.specs.declared.Read.the-variants.{Readable, Unreadable}
 
@@ -51,10 +49,6 @@ Writable (Vote v h b a) = Unit
 Writable (Blame v a) = Unit
 Writable (BlameSet v m) = Unit
 Writable (Status h b c m) = Unit
-
--- a cursor: its place, and its kind
-unfoldable pub placeOf : Cursor → Place
-placeOf c = record { at = c .at; kind = c .kind }
 
 -- the number that the paper gives to each case, 0 where there is a message, and the message: "4 unreadable message"
 pub record Answer : Type 0 where

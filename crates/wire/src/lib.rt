@@ -1,11 +1,5 @@
-// A message, and reading one from any bytes.
+// A message, and what reading one answers.
 use fields::Name;
-ghost use mathlib.Core.Path.{_≡_};
-ghost use Rattle.rules.specs.Messages.{read};
-ghost use Rattle.wire.specs.Meaning.{readOf};
-
-mod kinds;
-mod reader;
 
 // A new-view or a propose. The link of a propose is its parent's name; of a new-view it is the certificate view, as a name's number.
 pub struct Statement {
@@ -47,12 +41,4 @@ pub enum Message {
 pub enum Read {
     Readable(Message),
     Unreadable,
-}
-
-// Reads a message: any bytes, any length.
-pub fn read_message(message: &[u8]) -> Read
-    ensures { λ r. ⌜ readOf r ≡ read (now (message .entry)) ⌝ }
-{
-    let cursor = reader::walk(message);
-    kinds::message_at(message, cursor)
 }

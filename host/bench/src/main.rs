@@ -28,8 +28,9 @@ each, every statement handed on and voted for by every other station, {others} s
 processor in particular, and none together with what measures it; in Rust loops begin at multiples of 64, without which
 the linker's order moves the second program's times by a third.
 
-- `proved` is the proved station. Every call of it first looks at its whole store; that check is measured by a call
-  which is refused right after it: a message of no bytes, or for a tick a tick of the same station, stopped.
+- `proved` is the proved station. Every call of it first looks at its whole store; that check is measured by a message of
+  no bytes, which is refused right after it. Of a tick, which adds little to its check, what it adds is measured instead:
+  the same store at the same place is ticked, and as that of a stopped station refused right after the check, in turn.
 - `lent` is a station over the same lent store in plain Rust (host/lent). It holds nothing between calls, checks the
   store as fully on each call, by the same method, and does what the rules say on its bytes. **With the check** is the
   ratio of proved to lent.

@@ -2,7 +2,7 @@
 
 use bench::script::{Input, Kind};
 use programs::{Lent, Program, Proved, Second};
-use station::Size;
+use station::{Size, ffi};
 use std::hint::black_box;
 use std::time::Instant;
 
@@ -63,27 +63,53 @@ fn least(script: &[Input], settings: Settings, runs: usize) -> Vec<Times> {
     let mut least = vec![[f64::MAX; COLUMNS]; script.len()];
     for _ in 0..runs {
         let mut checks = Vec::with_capacity(script.len());
-        let proved = each(script, settings, |program, input| checks.push(check(program, input)));
+        let proved = each(script, settings, |program, _| checks.push(check(program)));
         let lent = each(script, settings, |_: &mut Lent, _| ());
         let second = each(script, settings, |_: &mut Second, _| ());
         for (place, least) in least.iter_mut().enumerate() {
             lessen(least, [proved[place], checks[place], lent[place], second[place]]);
         }
     }
+    for (times, added) in least.iter_mut().zip(added(script, settings, TURNS * runs)) {
+        times[CHECK] = added.map_or(times[CHECK], |added| times[PROVED] - added);
+    }
     let nothing = (0..1000).map(|_| timed(|| ())).fold(f64::MAX, f64::min);
     least.into_iter().map(|times| times.map(|time| time - nothing)).collect()
 }
 
-/// The time of the check alone: of a call that is refused right after it, a message of no bytes, or for a tick a tick of the
-/// same station, stopped. Another such call comes before.
-fn check(program: &mut Proved, input: &Input) -> f64 {
-    if input.kind == Kind::Tick {
-        let mut stopped = program.stopped();
-        black_box(stopped.tick().number);
-        return timed(|| stopped.tick().number);
-    }
+/// The time of the check alone: of a message of no bytes, which is refused right after it. Another such call comes before.
+fn check(program: &mut Proved) -> f64 {
     black_box(program.step(&[]).number);
     timed(|| program.step(&[]).number)
+}
+
+/// How often a tick is made in a run where what it adds is measured.
+const TURNS: usize = 4;
+
+/// What each tick adds to the check of its store: the same store is ticked, and as that of a stopped station refused right after
+/// the check. Both lie at one place, since the check's time hangs on where a store lies by more than a tick adds.
+fn added(script: &[Input], settings: Settings, turns: usize) -> Vec<Option<f64>> {
+    let mut program = fresh::<Proved>(settings);
+    let mut place = vec![0; SIZE.store_length()];
+    let mut out = vec![0; SIZE.out_length()];
+    let mut added = Vec::with_capacity(script.len());
+    for input in script {
+        added.push((input.kind == Kind::Tick).then(|| {
+            let stopped = program.stopped();
+            let mut least = [f64::MAX; 2];
+            for _ in 0..turns {
+                let times = [&program, &stopped].map(|program| {
+                    place.copy_from_slice(program.station().store());
+                    black_box(ffi::step(&mut place, &[], &mut out));
+                    timed(|| ffi::tick(&mut place, &mut out))
+                });
+                lessen(&mut least, times);
+            }
+            least[0] - least[1]
+        }));
+        black_box(input.call.give(&mut program).number);
+    }
+    added
 }
 
 /// The times per input of some of the inputs.

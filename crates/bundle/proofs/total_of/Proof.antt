@@ -4,7 +4,7 @@ use mathlib.Core.Path.{_≡_, refl}
 use native.Mathlib.Omega.{arith}
 use lib.ListN.{length}
 use borrow.Author.Tests.{not-true, not-false}
-use Rattle.envelope.specs.Reading.{mostBytes}
+use Rattle.items.specs.Reading.{mostBytes}
 use Rattle.bundle.specs.Writing.{placesFrom, gathered, bundled}
 use Rattle.bundle.specs.Meaning.{totalOf}
 use Rattle.bundle.proofs.Totals.{weighed, total-starts, total-ends, total-not, total-next, total-over}

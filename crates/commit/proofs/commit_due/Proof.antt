@@ -8,7 +8,7 @@ use borrow.Author.Tests.{not-true, not-false}
 use borrow.Author.Needs.{needs}
 use Rattle.store.specs.Decode.{statementAt}
 use Rattle.store.proofs.Forms.{form-long, form-statements}
-use Rattle.commit.specs.Chains.{isRipe}
+use Rattle.glance.specs.Votes.{isRipe}
 use Rattle.commit.proofs.Course.{Course, Turn, ripe-propose, course-start, course-end, course-not, course-told, course-high, course-settled, turn-broken, turn-whole, turn-grown, turn-differs}
 use Rattle.commit.proofs.commit_due.Statement.{statement}
 use Rattle.commit.proofs.commit_due.Tie as tie

@@ -1,5 +1,6 @@
 -- `commit::commits` meets its contract. Assumes nothing.
-use Rattle.commit.proofs.Ticks.{tick-in, tick-out, gained-none, gained, begun, delay-is, delay-short}
+use Rattle.glance.proofs.Seeing.{begun, delay-is, delay-short}
+use Rattle.commit.proofs.Ticks.{tick-in, tick-out, gained-none, gained}
 use Rattle.store.proofs.Loaded.{loaded-phase, loaded-view, loaded-clock, loaded-logged}
 use Rattle.store.proofs.Forms.{form-log}
 use Rattle.store.specs.Meaning.{courseOf}

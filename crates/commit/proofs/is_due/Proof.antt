@@ -1,5 +1,5 @@
 -- `commit::is_due` meets its contract. Assumes nothing.
-use Rattle.commit.proofs.Voting.{ripe-not, ripe-by}
+use Rattle.glance.proofs.Voting.{ripe-not, ripe-by}
 use mathlib.Core.Path.{_∙_, sym}
 use borrow.Author.Needs.{needs}
 use Rattle.commit.proofs.is_due.Statement.{statement}

@@ -2,7 +2,7 @@
 use native.Mathlib.Omega.{arith}
 use Rattle.store.proofs.Forms.{form-long, form-statements}
 use Rattle.store.proofs.Loaded.{loaded-logged}
-use Rattle.commit.proofs.Ticks.{delay-short}
+use Rattle.glance.proofs.Seeing.{delay-short}
 use Rattle.display.proofs.Bytes.{one-unvoted, one-logged, one-shown}
 use borrow.Author.Needs.{needs}
 use Rattle.display.proofs.show_one.Statement.{statement}

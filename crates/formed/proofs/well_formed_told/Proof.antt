@@ -9,7 +9,7 @@ use Rattle.chains.proofs.salt.Reads as salt-reads
 use Rattle.formed.proofs.tables_good.Reads as tables-good-reads
 use Rattle.heading.proofs.form.has_form.Reads as has-form-reads
 use Rattle.heading.proofs.header.header_good.Reads as header-good-reads
-use Rattle.stated.proofs.statements.all_good.Reads as all-good-reads
+use Rattle.stated.proofs.all_good.Reads as all-good-reads
 use Rattle.store.proofs.Station.load.Reads as load-reads
 
 -- src/lib.rt:60:9

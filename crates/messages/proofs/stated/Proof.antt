@@ -5,7 +5,7 @@ use borrow.Author.Tests.{not-true, not-false}
 use Rattle.rules.specs.Inputs as inputs
 use Rattle.wire.specs.Meaning.{statementOf}
 use Rattle.store.specs.Decode.{stateOf}
-use Rattle.acts.proofs.Plans.{plan-room}
+use Rattle.plans.proofs.Plans.{plan-room}
 use Rattle.acts.proofs.Works.{formed-parts}
 use Rattle.refusals.proofs.Stops.{room-answers, full-answers}
 use borrow.Author.Needs.{needs}

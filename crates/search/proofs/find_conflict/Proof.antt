@@ -8,7 +8,7 @@ use Rattle.wire.specs.Meaning.{statementOf}
 use Rattle.store.specs.Layout.{statementTable, countOf}
 use Rattle.store.specs.Decode.{statementAt, statements}
 use Rattle.store.specs.Searches.{firstFrom}
-use Rattle.search.proofs.Searches.{rows-whole}
+use Rattle.store.proofs.Rows.{rows-whole}
 use Rattle.search.proofs.find_conflict.Statement.{statement}
 use Rattle.search.proofs.find_conflict.Tie as tie
 

@@ -10,7 +10,7 @@ use Rattle.rules.specs.Inputs.{pair}
 use Rattle.store.specs.Layout.{statementTable, countOf}
 use Rattle.store.specs.Decode.{rows, statementAt, statements}
 use Rattle.search.specs.Lookups.{ofView}
-use Rattle.search.proofs.Searches.{rows-whole}
+use Rattle.store.proofs.Rows.{rows-whole}
 use Rattle.search.proofs.Pairs.{finds-nothing, finds-at, finds-inside, pair-end, pair-step}
 use Rattle.search.proofs.find_pair.Statement.{statement}
 use Rattle.search.proofs.find_pair.Tie as tie

@@ -7,7 +7,7 @@ use Rattle.store.proofs.Searches.{find-none, find-here, find-next}
 use Rattle.store.specs.Decode.{rows, statementAt}
 use Rattle.store.specs.Searches.{firstFrom}
 use Rattle.search.specs.Lookups.{asked}
-use Rattle.search.proofs.Counts.{long}
+use Rattle.store.proofs.Counts.{long}
 use Rattle.search.proofs.first_from.Statement.{statement}
 use Rattle.search.proofs.first_from.Tie as tie
 

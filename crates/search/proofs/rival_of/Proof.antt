@@ -7,7 +7,7 @@ use Rattle.rules.specs.Words.{conflict}
 use Rattle.wire.specs.Meaning.{statementOf}
 use Rattle.store.specs.Layout.{statementTable, countOf}
 use Rattle.store.specs.Decode.{statementAt}
-use Rattle.search.proofs.Counts.{long, few-statements}
+use Rattle.store.proofs.Counts.{long, few-statements}
 use Rattle.search.proofs.Statements.{read-conflicts}
 use Rattle.search.proofs.Pairs.{rival-other, rival-found}
 use Rattle.search.proofs.rival_of.Statement.{statement}

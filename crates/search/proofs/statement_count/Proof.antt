@@ -1,7 +1,7 @@
 -- `search::statement_count` meets its contract. Assumes nothing.
 use native.Mathlib.Omega.{arith}
 use Rattle.store.proofs.Loaded.{loaded-statements}
-use Rattle.search.proofs.Counts.{long, few-statements}
+use Rattle.store.proofs.Counts.{long, few-statements}
 use Rattle.search.proofs.statement_count.Statement.{statement}
 use Rattle.search.proofs.statement_count.Tie as tie
 

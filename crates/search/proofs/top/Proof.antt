@@ -4,7 +4,7 @@ use mathlib.Core.Path.{sym, _∙_}
 use native.Mathlib.Omega.{arith}
 use Rattle.store.specs.Layout.{statementTable, countOf}
 use Rattle.store.specs.Decode.{statementAt, statements}
-use Rattle.search.proofs.Counts.{long}
+use Rattle.store.proofs.Counts.{long}
 use Rattle.search.proofs.Statements.{read-height}
 use Rattle.search.proofs.Tops.{Topmost, topmost-none, topmost-other, topmost-lower, topmost-here, topmost-all}
 use Rattle.search.proofs.top.Statement.{statement}

@@ -6,8 +6,9 @@ use lib.ListN.{length}
 use Rattle.fields.specs.Names.{nameOf}
 use Rattle.settings.specs.Made.{settingsOf}
 use Rattle.slip.specs.Slips.{entryPlace, judgeFrom, judged}
-use Rattle.slip.specs.Meaning.{linkOf}
-use Rattle.slip.proofs.Judging.{name-short, name-other, judge-starts, judge-ends, judge-extra, judge-broken, judge-next, parent-room}
+use Rattle.slip_entries.specs.Meaning.{linkOf}
+use Rattle.slip_entries.proofs.Parents.{parent-room}
+use Rattle.slip.proofs.Judging.{name-short, name-other, judge-starts, judge-ends, judge-extra, judge-broken, judge-next}
 use borrow.Author.Needs.{needs}
 use Rattle.slip.proofs.judge.Statement.{statement}
 use Rattle.slip.proofs.judge.Tie as tie

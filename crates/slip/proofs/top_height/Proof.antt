@@ -1,7 +1,7 @@
 -- `slip::top_height` meets its contract: the top is there or it isn't. Assumes nothing.
 use mathlib.Core.Path.{sym, ap, _∙_}
 use Rattle.wire.specs.Meaning.{statementOf}
-use Rattle.slip.specs.Meaning.{entryOf}
+use Rattle.slip_entries.specs.Meaning.{entryOf}
 use Rattle.slip.proofs.Judging.{top-here, top-unread}
 use borrow.Author.Needs.{needs}
 use Rattle.slip.proofs.top_height.Statement.{statement}

@@ -1,7 +1,7 @@
 -- `ticks::busy` meets its contract, test by test in 01's order. Assumes nothing.
 use Rattle.ticks.proofs.Quiet.{calm-room, grown-tick}
 use Rattle.ticks.proofs.Turns.{gained-by, clock-left, splits-tick, clears, full-tick, done-tick}
-use Rattle.commit.proofs.Ticks.{seen-votes}
+use Rattle.glance.proofs.Seeing.{seen-votes}
 use Rattle.store.proofs.Loaded.{loaded-clock}
 use native.Mathlib.Omega.{arith}
 use borrow.Author.Tests.{not-false}

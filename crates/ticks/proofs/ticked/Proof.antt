@@ -1,7 +1,8 @@
 -- `ticks::ticked` meets its contract: a station that stopped, the last clock, a quiet tick, or one that may do more. Assumes nothing.
 use Rattle.ticks.proofs.Quiet.{quiet-tick}
-use Rattle.ticks.proofs.Turns.{clock-small, stops-tick, ends-tick}
-use Rattle.commit.proofs.Ticks.{seen-votes}
+use Rattle.moves.proofs.Turns.{clock-small}
+use Rattle.ticks.proofs.Turns.{stops-tick, ends-tick}
+use Rattle.glance.proofs.Seeing.{seen-votes}
 use Rattle.store.proofs.Forms.{form-long}
 use Rattle.laws.proofs.Truths.{and-2}
 use borrow.Author.Tests.{not-true, not-false, leb-true}

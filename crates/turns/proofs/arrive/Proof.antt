@@ -1,6 +1,6 @@
 -- `turns::arrive` meets its contract: the set, the pair, or the votes. Assumes nothing.
 use Rattle.turns.proofs.Arriving.{read-linked, arrives-full, pair-inside, arrives-pair, arrives-votes, order-few}
-use Rattle.turns.proofs.Moments.{view-of-loaded}
+use Rattle.moments.proofs.Moments.{view-of-loaded}
 use Rattle.store.proofs.Forms.{form-long, form-statements}
 use native.Mathlib.Omega.{arith}
 use Rattle.laws.proofs.Bounds.{statements-most, statements-some}

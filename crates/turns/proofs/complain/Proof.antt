@@ -2,7 +2,7 @@
 use Rattle.laws.proofs.Allowed.{only-lt}
 use Rattle.wire.specs.Meaning.{messageOf}
 use Rattle.turns.proofs.Parts.{works-still, complain-calm, blame-bytes, complained}
-use Rattle.turns.proofs.Moments.{view-of-loaded, entered-before, overdue-now}
+use Rattle.moments.proofs.Moments.{view-of-loaded, entered-before, overdue-now}
 use Rattle.store.proofs.Forms.{form-long}
 use borrow.Author.Tests.{not-true, not-false}
 use native.Mathlib.Omega.{arith}

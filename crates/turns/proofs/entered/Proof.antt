@@ -1,6 +1,6 @@
 -- `turns::entered` meets its contract: the header is left, and the status is said unless the station leads. Assumes nothing.
 use Rattle.turns.proofs.Entering.{status-bytes, leader-small, goes-as-leader, goes-with-status}
-use Rattle.turns.proofs.Moments.{view-limits, some-stations}
+use Rattle.moments.proofs.Moments.{view-limits, some-stations}
 use Rattle.store.proofs.Forms.{form-long}
 use native.Mathlib.Omega.{arith}
 use Rattle.wire.specs.Meaning.{messageOf}

@@ -1,6 +1,6 @@
 -- `turns::lead` meets its contract: the new-view is handled as a statement. Assumes nothing.
 use Rattle.turns.proofs.Leading.{now-leads, lead-never, lead-now, now-fits}
-use Rattle.turns.proofs.Moments.{loaded-now}
+use Rattle.moments.proofs.Moments.{loaded-now}
 use Rattle.turns.proofs.Parts.{works-still}
 use Rattle.store.proofs.Forms.{form-long}
 use native.Mathlib.Omega.{arith}

@@ -5,7 +5,7 @@ use native.Mathlib.Omega.{arith}
 use Prim.Native.Nat.{_-_}
 use mathlib.Core.Path.{ap}
 use Rattle.rules.specs.Limits.{mostStatements}
-use Rattle.turns.proofs.Parts.{same-long}
+use Rattle.moments.proofs.Sizes.{same-long}
 use borrow.Author.Needs.{needs}
 use Rattle.turns.proofs.vote_in_order.Statement.{statement}
 use Rattle.turns.proofs.vote_in_order.Tie as tie

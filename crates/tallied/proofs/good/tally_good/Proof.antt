@@ -16,7 +16,7 @@ use Rattle.tallied.proofs.good.tally_good.Statement.{statement}
 use Rattle.tallied.proofs.good.tally_good.Tie as tie
 use Rattle.tallied.proofs.good.tally_good.Reads as reads
 use Rattle.tallied.proofs.good.tally_good.Lts as lts
-use Rattle.allowed.proofs.clauses.view_allowed.Reads as view-allowed-reads
+use Rattle.clauses.proofs.view_allowed.Reads as view-allowed-reads
 use Rattle.fields.proofs.get.Reads as get-reads
 use Rattle.settings.proofs.only.Reads as only-reads
 use Rattle.store.proofs.opener_at.Reads as opener-at-reads

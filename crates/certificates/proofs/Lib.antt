@@ -1,0 +1,3 @@
+mod Openings
+mod Ranks
+mod Masks

@@ -1,0 +1,3 @@
+pub mod Votes
+pub mod Looks
+pub mod Tables

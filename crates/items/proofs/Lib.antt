@@ -1,0 +1,3 @@
+mod Reading
+pub mod Grammar
+mod Openings

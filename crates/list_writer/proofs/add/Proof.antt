@@ -1,0 +1,64 @@
+-- `list_writer::add` meets its contract. Assumes nothing.
+use Prim.Native.Nat.{_+_, _*_}
+use mathlib.Core.Path.{_∙_}
+use native.Mathlib.Omega.{arith}
+use borrow.Rule.Slice.PartMut.{mid-len}
+use Rattle.slots.proofs.Inputs.{input-fits}
+use Rattle.lent_list.proofs.Lengths.{lengths}
+use Rattle.list_writer.proofs.Adding.{within, is-added}
+use borrow.Author.Needs.{needs}
+use Rattle.list_writer.proofs.add.Statement.{statement}
+use Rattle.list_writer.proofs.add.Tie as tie
+
+get-requires : tie.Need-get-requires
+get-requires c κs = omega (arith, lengths (c .before .before .before .args .list .now) (c .before .before .before .pre .0) .0)
+
+add-put : tie.Need-add-put
+add-put c = search needs
+
+put-requires : tie.Need-put-requires
+put-requires c κs = omega (arith, lengths (c .before .before .before .before .before .args .list .now) (c .before .before .before .before .before .pre .0) .0)
+
+mul-at : tie.Need-mul-at
+mul-at c = search needs
+
+add-at : tie.Need-add-at
+add-at c = search needs
+
+add-end : tie.Need-add-end
+add-end c = search needs
+
+sub-write-record : tie.Need-sub-write-record
+sub-write-record c = search needs
+
+part-write-record-start : tie.Need-part-write-record-start
+part-write-record-start c = search needs
+
+part-write-record-end : tie.Need-part-write-record-end
+part-write-record-end c = omega (arith, (within (c .before .before .before .before .before .before .before .before .args .list .now) (c .before .before .before .before .before .before .before .before .pre .0) (c .before .before .before .before .before .before .before .before .pre .1) (c .before .before .before .before .get .ensures .0)) .1, c .before .before .put .kept .0)
+
+write-record-requires : tie.Need-write-record-requires
+write-record-requires c κs = let w = within (c .before .before .before .before .before .before .before .before .before .args .list .now) (c .before .before .before .before .before .before .before .before .before .pre .0) (c .before .before .before .before .before .before .before .before .before .pre .1) (c .before .before .before .before .before .get .ensures .0) in let f = input-fits (c .before .before .before .before .before .before .before .before .before .args .kind) (c .before .before .before .before .before .before .before .before .before .args .input .now) (c .before .before .before .before .before .before .before .before .before .pre .2) in (mid-len (16 + c .before .before .before .before .before .get .result * 128) (16 + c .before .before .before .before .before .get .result * 128 + 128) (c .before .before .before .put .last .0) (omega (arith, w .1, c .before .before .before .put .kept .0)) ∙ omega arith, omega (arith, w .0), f .0, f .1)
+
+same-length : tie.Need-same-length
+same-length c = search needs
+
+returns : tie.Need-returns
+returns c = is-added (c .before .before .before .before .before .before .before .before .before .before .before .before .args .list .now) (c .before .before .before .before .before .before .before .before .before .before .before .before .pre .0) (c .before .before .before .before .before .before .before .before .before .before .before .before .pre .1) (c .before .before .before .before .before .before .before .before .get .ensures .0) (c .before .before .before .before .before .before .before .before .before .before .before .before .args .kind) (c .before .before .before .before .before .before .before .before .before .before .before .before .args .input .now) (c .before .before .before .before .before .before .put .ensures) (c .before .before .write-record .ensures)
+
+pub add-spec : {M : Type 1} → statement M
+add-spec =
+    tie.close
+    (tie.spec
+    get-requires
+    add-put
+    put-requires
+    mul-at
+    add-at
+    add-end
+    sub-write-record
+    part-write-record-start
+    part-write-record-end
+    write-record-requires
+    same-length
+    returns)

@@ -1,0 +1,4 @@
+pub mod Clocks
+pub mod Gaining
+pub mod Turns
+pub mod Calming
