@@ -86,8 +86,8 @@ fn check(program: &mut Proved) -> f64 {
 /// How often a tick is made in a run where what it adds is measured.
 const TURNS: usize = 4;
 
-/// What each tick adds to the check of its store: the same store is ticked, and as that of a stopped station refused right after
-/// the check. Both lie at one place, since the check's time hangs on where a store lies by more than a tick adds.
+/// What each tick adds to the check of its store: the same store is ticked, and as that of a stopped station refused right
+/// after the check. Both lie at one place, so that no other place in memory makes a difference.
 fn added(script: &[Input], settings: Settings, turns: usize) -> Vec<Option<f64>> {
     let mut program = fresh::<Proved>(settings);
     let mut place = vec![0; SIZE.store_length()];
