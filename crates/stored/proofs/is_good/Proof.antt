@@ -1,9 +1,9 @@
--- `script::stored::is_good` is safe: the store is of its exact length. Assumes nothing.
+-- `stored::is_good` is safe: the store is of its exact length. Assumes nothing.
 use native.Mathlib.Omega.{arith}
 use borrow.Author.Needs.{needs}
-use Rattle.script.proofs.Exact.{exact-long}
-use Rattle.script.proofs.stored.is_good.Statement.{statement}
-use Rattle.script.proofs.stored.is_good.Tie as tie
+use Rattle.stored.proofs.Exact.{exact-long}
+use Rattle.stored.proofs.is_good.Statement.{statement}
+use Rattle.stored.proofs.is_good.Tie as tie
 
 well-formed-requires : tie.Need-well-formed-requires
 well-formed-requires c κs = exact-long _ (omega arith)

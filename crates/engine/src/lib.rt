@@ -1,10 +1,9 @@
 // The station of a script: the working one, whose state is the store; or the plain engine, whose state is a list of all inputs.
 ghost use Prim.Native.Nat.{_≤_};
 ghost use lib.ListN.{length};
-use crate::stored;
-use crate::stored::Store;
 use said::show;
 use said::show::Out;
+use stored::Store;
 
 // How many inputs the list has room for, and the bytes of the report of its replay.
 const ROOM: usize = 4000;
@@ -60,10 +59,17 @@ pub fn take(
 // Prints the log.
 pub fn log(store: &Store, list: &List, is_plain: bool, number: u64) {
     if is_plain {
-        stored::plain_log(number, list);
+        plain_log(number, list);
         return;
     }
     stored::log(number, store);
+}
+
+// The log, as the plain engine tells it.
+fn plain_log(line: u64, list: &List) {
+    let mut out = show::out_buffer();
+    let answer = plain::plain_log(list, &mut out);
+    stored::names(line, show::refusal(answer), answer as usize / stored::NAME, &out);
 }
 
 // The store of the plain engine, for lines that look at one: its inputs, which are records as a journal has them, are

@@ -1,7 +1,7 @@
--- `script::stored::entry` is safe: the name lies in the bytes. Assumes nothing.
+-- `stored::entry` is safe: the name lies in the bytes. Assumes nothing.
 use borrow.Author.Needs.{needs}
-use Rattle.script.proofs.stored.entry.Statement.{statement}
-use Rattle.script.proofs.stored.entry.Tie as tie
+use Rattle.stored.proofs.entry.Statement.{statement}
+use Rattle.stored.proofs.entry.Tie as tie
 
 slice-aggregate-say : tie.Need-slice-aggregate-say
 slice-aggregate-say c = search needs

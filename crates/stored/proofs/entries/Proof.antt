@@ -1,8 +1,8 @@
--- `script::stored::entries` is safe and ends. Assumes nothing.
+-- `stored::entries` is safe and ends. Assumes nothing.
 use Prim.Native.Nat.{_-_}
 use borrow.Author.Needs.{needs}
-use Rattle.script.proofs.stored.entries.Statement.{statement}
-use Rattle.script.proofs.stored.entries.Tie as tie
+use Rattle.stored.proofs.entries.Statement.{statement}
+use Rattle.stored.proofs.entries.Tie as tie
 
 abbrev Inv-loop : tie.InvT-loop
 Inv-loop page₀ at names count end₀ i₀ page end i = Unit {0}

@@ -3,7 +3,6 @@ ghost use mathlib.Core.Path.{_≡_};
 ghost use lib.ListN.{length};
 ghost use Prim.Native.Nat.{_/_, _<_};
 ghost use Rattle.store.specs.Layout.{smallLength};
-use crate::engine::List;
 use page::Page;
 use said::show;
 use said::spell;
@@ -41,7 +40,7 @@ pub fn stations(store: &Store) -> u64 {
 }
 
 // The bytes of a name, and where the log's names begin in a store.
-const NAME: usize = 32;
+pub const NAME: usize = 32;
 
 const LOG: usize = store::LENGTH - NAME * Settings::MOST_STATEMENTS;
 
@@ -56,15 +55,8 @@ pub fn log(line: u64, store: &Store) {
     names(line, 0, station.logged, &bytes[LOG..]);
 }
 
-// The log, as the plain engine tells it.
-pub fn plain_log(line: u64, list: &List) {
-    let mut out = show::out_buffer();
-    let answer = plain::plain_log(list, &mut out);
-    names(line, show::refusal(answer), answer as usize / NAME, &out);
-}
-
 // A refusal, or so many names that stand one behind another, lowest height first.
-fn names(line: u64, refusal: u64, count: usize, names: &[u8]) {
+pub fn names(line: u64, refusal: u64, count: usize, names: &[u8]) {
     let mut page = io::buffer();
     let started = show::start(&mut page, 0, line, b"log");
     let end = logged(&mut page, started, refusal, count, names);

@@ -1,10 +1,10 @@
--- `script::play::chosen` is safe: the first message is a part of the bytes. Assumes nothing.
+-- `asked::chosen` is safe: the first message is a part of the bytes. Assumes nothing.
 use mathlib.Core.Path.{sym}
 use native.Mathlib.Omega.{arith}
 use lib.Seq.{length-take-le}
 use borrow.Author.Needs.{needs}
-use Rattle.script.proofs.play.chosen.Statement.{statement}
-use Rattle.script.proofs.play.chosen.Tie as tie
+use Rattle.asked.proofs.chosen.Statement.{statement}
+use Rattle.asked.proofs.chosen.Tie as tie
 
 returns : tie.Need-returns
 returns c = search needs
