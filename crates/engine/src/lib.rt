@@ -69,7 +69,12 @@ pub fn log(store: &Store, list: &List, is_plain: bool, number: u64) {
 fn plain_log(line: u64, list: &List) {
     let mut out = show::out_buffer();
     let answer = plain::plain_log(list, &mut out);
-    stored::names(line, show::refusal(answer), answer as usize / stored::NAME, &out);
+    stored::names(
+        line,
+        show::refusal(answer),
+        answer as usize / stored::NAME,
+        &out,
+    );
 }
 
 // The store of the plain engine, for lines that look at one: its inputs, which are records as a journal has them, are
