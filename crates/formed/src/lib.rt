@@ -15,8 +15,6 @@ use heading::form;
 use heading::header;
 use settings::Settings;
 use store::Station;
-use tallied::apart;
-use tallied::openers;
 
 // Whether tallies, blame masks and log are well formed, where the statements are; and what the log tells.
 fn tables_good(

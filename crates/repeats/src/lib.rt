@@ -12,7 +12,7 @@ ghost use Rattle.store.specs.Layout.{sizeIn, storeLength, statementTable, tally
 ghost use Rattle.store.specs.Decode.{statementAt, statements, tallies};
 ghost use Rattle.heading.specs.Lent.{Counts};
 ghost use Rattle.chains.specs.Chains.{chains, behind, Walk, Chained};
-ghost use Rattle.tallied.specs.Tallies.{tallyChain};
+ghost use Rattle.apart.specs.Tallies.{tallyChain};
 ghost use Rattle.repeats.specs.Repeats.{AllCertify, statementChain, isSame, Met};
 use backed::Certified;
 use chains::CHAINS;

@@ -20,7 +20,7 @@ use Rattle.chains.specs.Chains.{chains, blockChain, recordChain, Chained, behin
 use Rattle.chains.proofs.Mixes.{block-alike, record-block}
 use Rattle.chains.proofs.Walks.{chained-more, walk-start, walk-whole}
 use Rattle.chains.proofs.Apart.{any-same}
-use Rattle.tallied.specs.Tallies.{tallyChain, Has}
+use Rattle.apart.specs.Tallies.{tallyChain, Has}
 
 -- view and height are the first eight bytes
 pub key-is : (b : List ℕ) (to : ℕ) → number b to 8 ≡ number b (to + 0) 4 * 256 ^ 4 + number b (to + 4) 4

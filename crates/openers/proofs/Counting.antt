@@ -22,7 +22,7 @@ use Rattle.fields.specs.Places.{Bytes}
 use Rattle.fields.proofs.Laws.{number-lt}
 use Rattle.store.proofs.Rows.{rows-from, rows-length}
 use Rattle.store.proofs.Values.{opener-is}
-use Rattle.tallied.specs.Tallies.{times, Counted}
+use Rattle.openers.specs.Counted.{times, Counted}
 
 pub opener-small : (b : List ℕ) → Bytes b → (i : ℕ) → openerAt b i < 256
 unfolding openerFor

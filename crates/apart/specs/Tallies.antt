@@ -1,27 +1,16 @@
--- Which chain a tally hangs on, and how many tallies have which opener. Assumes nothing.
+-- Which chain a tally hangs on, and what is found there. Assumes nothing.
 use Prim.Native.Nat.{ℕ, _+_, _-_, _*_, _^_, _<_}
 use mathlib.Core.Path.{_≡_}
 use mathlib.Core.Bool.{Bool, true, false, _&&_}
 use mathlib.Core.List.{List}
-use lib.ListN.{length}
-use lib.Dec.{eqb}
-use Rattle.rules.specs.Lists.{all, any, distinct, keep}
+use Rattle.rules.specs.Lists.{all, any, distinct}
 use Rattle.rules.specs.Sizes.{Settings}
 use Rattle.rules.specs.Words.{Certificate, ofBlock}
 use Rattle.rules.specs.WellFormed.{tallyGood, sameTally}
 use Rattle.fields.specs.Places.{number}
 use Rattle.store.specs.Layout.{sizeIn, tallyTable}
-use Rattle.store.specs.Decode.{nth, rows, openerAt, tallyAt, tallies}
+use Rattle.store.specs.Decode.{rows, tallyAt, tallies}
 use Rattle.chains.specs.Chains.{stir, stirWords, recordChain, Chained}
-
--- how often a number is among some
-unfoldable pub times : ℕ → List ℕ → ℕ
-unfolding keep
-times k ms = length (keep (eqb k) ms)
-
--- of n tallies from tally i on, how many have which author's number
-abbrev pub Counted : List ℕ → ℕ → ℕ → List ℕ → Type 0
-Counted b i n counts = (k : ℕ) → 0 < k → k < 256 → nth counts k ≡ times k (rows (openerAt b) i n)
 
 -- tallies hang by their block
 abbrev pub tallyChain : List ℕ → ℕ → ℕ → ℕ

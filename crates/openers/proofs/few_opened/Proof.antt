@@ -1,13 +1,13 @@
--- `tallied::openers::few_opened` meets its contract. Assumes nothing.
+-- `openers::few_opened` meets its contract. Assumes nothing.
 use Prim.Native.Nat.{_-_, _≤_}
 use mathlib.Core.Path.{_≡_, refl, ap, _∙_}
 use native.Mathlib.Omega.{arith}
 use borrow.Author.Needs.{needs}
 use Rattle.rules.specs.WellFormed.{fewOpened}
 use Rattle.store.specs.Decode.{tallies}
-use Rattle.tallied.proofs.Counting.{counted-author, few-next}
-use Rattle.tallied.proofs.openers.few_opened.Statement.{statement}
-use Rattle.tallied.proofs.openers.few_opened.Tie as tie
+use Rattle.openers.proofs.Counting.{counted-author, few-next}
+use Rattle.openers.proofs.few_opened.Statement.{statement}
+use Rattle.openers.proofs.few_opened.Tie as tie
 
 abbrev Inv-loop : tie.InvT-loop
 Inv-loop store count counts n few₀ author₀ few author =

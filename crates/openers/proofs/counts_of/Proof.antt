@@ -1,4 +1,4 @@
--- `tallied::openers::counts_of` meets its contract. Assumes nothing.
+-- `openers::counts_of` meets its contract. Assumes nothing.
 use Prim.Native.Nat.{_-_, _≤_}
 use mathlib.Core.Path.{_≡_, refl}
 use native.Mathlib.Omega.{arith}
@@ -6,10 +6,10 @@ use lib.ListN.{length, length-set}
 use borrow.Author.Needs.{needs}
 use Rattle.laws.proofs.Bounds.{tallies-most}
 use Rattle.store.specs.Layout.{sizeIn}
-use Rattle.tallied.specs.Tallies.{Counted}
-use Rattle.tallied.proofs.Counting.{counted-start, counted-more, counted-same, counted-most, counted-whole, opener-small}
-use Rattle.tallied.proofs.openers.counts_of.Statement.{statement}
-use Rattle.tallied.proofs.openers.counts_of.Tie as tie
+use Rattle.openers.specs.Counted.{Counted}
+use Rattle.openers.proofs.Counting.{counted-start, counted-more, counted-same, counted-most, counted-whole, opener-small}
+use Rattle.openers.proofs.counts_of.Statement.{statement}
+use Rattle.openers.proofs.counts_of.Tie as tie
 
 abbrev Inv-loop : tie.InvT-loop
 Inv-loop store count counts₀ i₀ counts i =

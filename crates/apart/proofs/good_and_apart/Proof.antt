@@ -1,4 +1,4 @@
--- `tallied::apart::good_and_apart` meets its contract. Assumes nothing.
+-- `apart::good_and_apart` meets its contract. Assumes nothing.
 use Prim.Native.Nat.{_-_, _+_, _≤_}
 use mathlib.Core.Path.{_≡_, sym, ap, ap₂, _∙_}
 use mathlib.Core.Bool.{true, _&&_, and-false}
@@ -13,10 +13,10 @@ use Rattle.heading.proofs.Walks.{distinct-end, distinct-next}
 use Rattle.chains.specs.Chains.{Chained}
 use Rattle.chains.proofs.Walks.{chained-none}
 use Rattle.chains.proofs.Apart.{distinct-not, distinct-whole}
-use Rattle.tallied.specs.Tallies.{tallyChain}
+use Rattle.apart.specs.Tallies.{tallyChain}
 use borrow.Author.Needs.{needs}
-use Rattle.tallied.proofs.apart.good_and_apart.Statement.{statement}
-use Rattle.tallied.proofs.apart.good_and_apart.Tie as tie
+use Rattle.apart.proofs.good_and_apart.Statement.{statement}
+use Rattle.apart.proofs.good_and_apart.Tie as tie
 
 abbrev Inv-loop : tie.InvT-loop
 Inv-loop store clock salt count heads₀ nexts₀ i₀ heads nexts i =

@@ -6,7 +6,7 @@ ghost use Rattle.rules.specs.WellFormed.{fewOpened};
 ghost use Rattle.store.specs.Layout.{tallyTable};
 ghost use Rattle.store.specs.Decode.{tallies};
 ghost use Rattle.heading.specs.Lent.{Counts};
-ghost use Rattle.tallied.specs.Tallies.{Counted};
+ghost use Rattle.openers.specs.Counted.{Counted};
 use settings::Settings;
 
 // How many tallies have which opener's number, all counted in one pass. Tallies that no author opened, as most are, aren't counted:

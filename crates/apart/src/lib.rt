@@ -6,12 +6,12 @@ ghost use Rattle.settings.specs.Made.{settingsOf};
 ghost use Rattle.store.specs.Layout.{tallyTable};
 ghost use Rattle.heading.specs.Lent.{Counts};
 ghost use Rattle.chains.specs.Chains.{Bare, Chained};
-ghost use Rattle.tallied.specs.Tallies.{tallyChain, Met, Apart, Sought, Has};
-use super::good;
+ghost use Rattle.apart.specs.Tallies.{tallyChain, Met, Apart, Sought, Has};
 use chains::CHAINS;
 use settings::Settings;
 use store::NAME;
 use store::TALLY_SIZE;
+use tallied::good;
 
 // Whether a later tally is of the block of tally i; if none is, tally i hangs on its chain.
 fn repeated(

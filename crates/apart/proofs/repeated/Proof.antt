@@ -1,14 +1,14 @@
--- `tallied::apart::repeated` meets its contract. Assumes nothing.
+-- `apart::repeated` meets its contract. Assumes nothing.
 use mathlib.Core.Path.{sym, ap, _∙_}
 use native.Mathlib.Omega.{arith}
 use lib.Dec.{lit≤}
 use Rattle.laws.proofs.Tests.{no-bool}
 use Rattle.heading.proofs.Forms.{few-tallies}
 use Rattle.chains.specs.Chains.{chainOf}
-use Rattle.tallied.proofs.Hanging.{met-start, met-is, met-hangs}
+use Rattle.apart.proofs.Hanging.{met-start, met-is, met-hangs}
 use borrow.Author.Needs.{needs}
-use Rattle.tallied.proofs.apart.repeated.Statement.{statement}
-use Rattle.tallied.proofs.apart.repeated.Tie as tie
+use Rattle.apart.proofs.repeated.Statement.{statement}
+use Rattle.apart.proofs.repeated.Tie as tie
 
 tallies-in-requires : tie.Need-tallies-in-requires
 tallies-in-requires c κs = search needs

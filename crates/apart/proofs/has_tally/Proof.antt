@@ -1,14 +1,14 @@
-use Rattle.tallied.proofs.Hanging.{has-start, has-is}
+use Rattle.apart.proofs.Hanging.{has-start, has-is}
 use Rattle.chains.specs.Chains.{chainOf}
 use Rattle.heading.proofs.Forms.{few-tallies}
 use lib.Dec.{lit≤}
 use native.Mathlib.Omega.{arith}
 use mathlib.Core.Path.{ap, _∙_}
 use borrow.Author.Needs.{needs}
-use Rattle.tallied.proofs.apart.has_tally.Statement.{statement}
-use Rattle.tallied.proofs.apart.has_tally.Tie as tie
-use Rattle.tallied.proofs.apart.has_tally.Reads as reads
-use Rattle.tallied.proofs.apart.has_tally.Lts as lts
+use Rattle.apart.proofs.has_tally.Statement.{statement}
+use Rattle.apart.proofs.has_tally.Tie as tie
+use Rattle.apart.proofs.has_tally.Reads as reads
+use Rattle.apart.proofs.has_tally.Lts as lts
 use Rattle.chains.proofs.chain_of.Reads as chain-of-reads
 use Rattle.chains.proofs.walked.Reads as walked-reads
 use Rattle.store.proofs.tallies_in.Reads as tallies-in-reads
