@@ -4,7 +4,7 @@ ghost use lib.ListN.{length};
 ghost use Rattle.rules.specs.Limits.{mostStations};
 ghost use Rattle.settings.specs.Made.{settingsOf};
 ghost use Rattle.store.specs.Layout.{tallyTable};
-ghost use Rattle.heading.specs.Lent.{Counts};
+ghost use Rattle.form.specs.Lent.{Counts};
 ghost use Rattle.chains.specs.Chains.{Bare, Chained};
 ghost use Rattle.apart.specs.Tallies.{tallyChain, Met, Apart, Sought, Has};
 use chains::CHAINS;

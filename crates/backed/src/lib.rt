@@ -11,7 +11,7 @@ ghost use Rattle.fields.specs.Places.{number};
 ghost use Rattle.words.specs.Meaning.{Certifies};
 ghost use Rattle.store.specs.Layout.{sizeIn, storeLength, statementTable, tallyTable, placeOf};
 ghost use Rattle.store.specs.Decode.{statementAt, tallies};
-ghost use Rattle.heading.specs.Lent.{Counts};
+ghost use Rattle.form.specs.Lent.{Counts};
 ghost use Rattle.chains.specs.Chains.{Chained};
 ghost use Rattle.apart.specs.Tallies.{tallyChain};
 ghost use Rattle.backed.specs.Backed.{Stirs, Found, Owns};

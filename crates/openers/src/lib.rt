@@ -5,7 +5,7 @@ ghost use Rattle.rules.specs.Limits.{mostStations};
 ghost use Rattle.rules.specs.WellFormed.{fewOpened};
 ghost use Rattle.store.specs.Layout.{tallyTable};
 ghost use Rattle.store.specs.Decode.{tallies};
-ghost use Rattle.heading.specs.Lent.{Counts};
+ghost use Rattle.form.specs.Lent.{Counts};
 ghost use Rattle.openers.specs.Counted.{Counted};
 use settings::Settings;
 

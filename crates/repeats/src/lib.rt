@@ -10,7 +10,7 @@ ghost use Rattle.rules.specs.Words.{sameStatement};
 ghost use Rattle.rules.specs.WellFormed.{talliesThere};
 ghost use Rattle.store.specs.Layout.{sizeIn, storeLength, statementTable, tallyTable};
 ghost use Rattle.store.specs.Decode.{statementAt, statements, tallies};
-ghost use Rattle.heading.specs.Lent.{Counts};
+ghost use Rattle.form.specs.Lent.{Counts};
 ghost use Rattle.chains.specs.Chains.{chains, behind, Walk, Chained};
 ghost use Rattle.apart.specs.Tallies.{tallyChain};
 ghost use Rattle.repeats.specs.Repeats.{AllCertify, statementChain, isSame, Met};

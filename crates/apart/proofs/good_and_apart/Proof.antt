@@ -9,7 +9,7 @@ use Rattle.rules.specs.WellFormed.{tallyGood, sameTally}
 use Rattle.laws.proofs.Tests.{no-bool}
 use Rattle.settings.specs.Made.{settingsOf}
 use Rattle.store.specs.Decode.{rows, tallyAt, tallies}
-use Rattle.heading.proofs.Walks.{distinct-end, distinct-next}
+use Rattle.form.proofs.Walks.{distinct-end, distinct-next}
 use Rattle.chains.specs.Chains.{Chained}
 use Rattle.chains.proofs.Walks.{chained-none}
 use Rattle.chains.proofs.Apart.{distinct-not, distinct-whole}

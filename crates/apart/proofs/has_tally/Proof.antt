@@ -1,6 +1,6 @@
 use Rattle.apart.proofs.Hanging.{has-start, has-is}
 use Rattle.chains.specs.Chains.{chainOf}
-use Rattle.heading.proofs.Forms.{few-tallies}
+use Rattle.form.proofs.Forms.{few-tallies}
 use lib.Dec.{lit≤}
 use native.Mathlib.Omega.{arith}
 use mathlib.Core.Path.{ap, _∙_}

@@ -3,7 +3,7 @@ use mathlib.Core.Path.{sym, ap, _∙_}
 use native.Mathlib.Omega.{arith}
 use lib.Dec.{lit≤}
 use Rattle.laws.proofs.Tests.{no-bool}
-use Rattle.heading.proofs.Forms.{few-tallies}
+use Rattle.form.proofs.Forms.{few-tallies}
 use Rattle.chains.specs.Chains.{chainOf}
 use Rattle.apart.proofs.Hanging.{met-start, met-is, met-hangs}
 use borrow.Author.Needs.{needs}
