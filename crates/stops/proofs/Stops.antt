@@ -14,8 +14,8 @@ use Rattle.store.specs.declared.Cause.{Cause}
 use Rattle.store.specs.declared.Cause.the-variants.{Full, Split, Clock}
 use Rattle.store.specs.declared.Phase.the-variants.{Stopped}
 use Rattle.acts.specs.Works.{Works}
-use Rattle.refusals.specs.Answers.{Answers, Mutely}
-use Rattle.refusals.proofs.Answers.{refused-mutely}
+use Rattle.stops.specs.Answers.{Answers, Mutely}
+use Rattle.stops.proofs.Answers.{refused-mutely}
 
 -- ---- a station stops
 

@@ -1,4 +1,4 @@
--- From an outcome as it stands in the buffers to what a call gives. Assumes nothing.
+-- Outcomes as they stand in the buffers. Assumes nothing.
 use Prim.Native.Nat.{ℕ, _*_, _^_, _≤_}
 use mathlib.Core.Path.{_≡_, refl, sym, _∙_, subst}
 use mathlib.Core.List.{List}
@@ -9,19 +9,12 @@ use Rattle.rules.specs.Messages.{outgoing}
 use Rattle.rules.specs.Words.{State}
 use Rattle.rules.specs.Refusals.{Outcome, refused, result}
 use Rattle.outgoing.specs.Wrote.{wrote}
-use Rattle.outgoing.proofs.Writing.{wrote-prefix}
 use Rattle.store.specs.Decode.{stateOf, Form, Left}
-use Rattle.oneform.proofs.Held.{left-bytes}
-use Rattle.calls.specs.Calls.{answered, Gives}
-use Rattle.refusals.specs.Answers.{Answers, Mutely}
+use Rattle.stops.specs.Answers.{Answers, Mutely}
 
 module _ {x : Outcome} {o b′ o′ : List ℕ} {r : ℕ} where
   pub answers-is : {y : Outcome} → x ≡ y → Answers x o b′ o′ r → Answers y o b′ o′ r
   answers-is e a = subst (λ (z : Outcome). Answers z o b′ o′ r) e a
-
-  pub answers-gives : length (outgoing (x .out)) ≤ length o → Answers x o b′ o′ r → Gives (answered x o) r b′ o′
-  unfolding answered
-  answers-gives l a = record { result = a .told; store = left-bytes (a .left); out = a .out ∙ wrote-prefix o (outgoing (x .out)) l }
 
 -- a refusal that leaves any state says nothing
 pub refused-mutely : (k : ℕ) {s : State} {b′ : List ℕ} {r : ℕ} → Left b′ s → r ≡ k * 2 ^ 32 → Mutely (refused k s) b′ r

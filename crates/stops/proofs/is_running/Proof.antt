@@ -1,13 +1,13 @@
--- `refusals::is_running` meets its contract: by the phase of the header. Assumes nothing.
-use Rattle.refusals.proofs.Opening.{not-running, is-running}
+-- `stops::is_running` meets its contract: by the phase of the header. Assumes nothing.
+use Rattle.stops.proofs.Running.{not-running, is-running}
 use Rattle.store.proofs.Phase.{the-type}
 use denote.Enum.Declared.{tagOf}
 use native.Mathlib.Omega.{arith}
 use mathlib.Core.Logic.{⊎-elim}
 use mathlib.Core.Path.{ap}
 use borrow.Author.Needs.{needs}
-use Rattle.refusals.proofs.is_running.Statement.{statement}
-use Rattle.refusals.proofs.is_running.Tie as tie
+use Rattle.stops.proofs.is_running.Statement.{statement}
+use Rattle.stops.proofs.is_running.Tie as tie
 
 enum-told : tie.Need-enum-told
 enum-told c = search needs

@@ -1,10 +1,10 @@
--- `refusals::stop` meets its contract. Assumes nothing.
+-- `stops::stop` meets its contract. Assumes nothing.
 use Rattle.store.specs.Decode.{stateOf}
 use Rattle.store.specs.Meaning.{causeOf}
-use Rattle.refusals.proofs.Stops.{cause-small, stopped-answers}
+use Rattle.stops.proofs.Stops.{cause-small, stopped-answers}
 use borrow.Author.Needs.{needs}
-use Rattle.refusals.proofs.stop.Statement.{statement}
-use Rattle.refusals.proofs.stop.Tie as tie
+use Rattle.stops.proofs.stop.Statement.{statement}
+use Rattle.stops.proofs.stop.Tie as tie
 
 set-phase-requires : tie.Need-set-phase-requires
 set-phase-requires c κs =
