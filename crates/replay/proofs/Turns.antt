@@ -18,9 +18,9 @@ use Rattle.outgoing.specs.Wrote.{wrote}
 use Rattle.outgoing.proofs.Writing.{wrote-append, put-wrote}
 use Rattle.slots.specs.Slots as slots
 use Rattle.slots.specs.Slots.{slotLength, mostInput, judged, torn, whole}
-use Rattle.slots.specs.Meaning.{inputPlace, slotOf, Within}
-use Rattle.slots.specs.declared.Slot.{Slot}
-use Rattle.slots.specs.declared.Slot.the-variants.{Blank, Torn, Bad, Whole}
+use Rattle.slot_reader.specs.Meaning.{inputPlace, slotOf, Within}
+use Rattle.slot_reader.specs.declared.Slot.{Slot}
+use Rattle.slot_reader.specs.declared.Slot.the-variants.{Blank, Torn, Bad, Whole}
 use Rattle.journal.specs.Journal.{slotCount, slotAt, slotsFrom, slotsOf}
 use Rattle.journal.proofs.Rooms.{slots-step, slots-end, slot-count}
 use Rattle.replay.specs.Replay.{handed, isTaken, Replay, ends, skipping, replayFrom, placesBytes}

@@ -6,7 +6,7 @@ ghost use Rattle.fields.specs.Places.{put};
 ghost use Rattle.journal.specs.Journal.{slotCount};
 ghost use Rattle.replay.specs.Replay.{isTaken, reportLength, hasLengths, replaying, replayed};
 ghost use Rattle.replay.specs.Meaning.{Hands, Replays};
-use slots::Slot;
+use slot_reader::Slot;
 
 // Where a replay ended: whether it was stopped, the records handed over, the place, and how many torn slots are before it.
 struct Ending {

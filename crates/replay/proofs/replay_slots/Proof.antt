@@ -4,7 +4,7 @@ use mathlib.Core.Path.{_≡_, refl}
 use native.Mathlib.Omega.{arith}
 use lib.ListN.{length, take, drop}
 use Rattle.slots.specs.Slots.{slotLength, judged}
-use Rattle.slots.specs.Meaning.{inputPlace, slotOf}
+use Rattle.slot_reader.specs.Meaning.{inputPlace, slotOf}
 use Rattle.journal.specs.Journal.{slotAt, slotsFrom, slotsOf}
 use Rattle.journal.proofs.Rooms.{slot-count}
 use Rattle.replay.proofs.Turns.{at-start, at-end, at-blank, at-torn, at-bad, at-other, at-untaken, at-taken, input-part, whole-within}

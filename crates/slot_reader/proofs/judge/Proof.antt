@@ -1,8 +1,8 @@
--- `slots::judge` meets its contract: blank, torn, or what a slot ending in 5A holds. Assumes nothing.
-use Rattle.slots.proofs.Judging.{is-blank, is-torn, is-ended}
+-- `slot_reader::judge` meets its contract: blank, torn, or what a slot ending in 5A holds. Assumes nothing.
+use Rattle.slot_reader.proofs.Judging.{is-blank, is-torn, is-ended}
 use borrow.Author.Needs.{needs}
-use Rattle.slots.proofs.judge.Statement.{statement}
-use Rattle.slots.proofs.judge.Tie as tie
+use Rattle.slot_reader.proofs.judge.Statement.{statement}
+use Rattle.slot_reader.proofs.judge.Tie as tie
 
 all-zero-requires : tie.Need-all-zero-requires
 all-zero-requires c κs = search needs

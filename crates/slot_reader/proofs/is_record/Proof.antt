@@ -1,12 +1,12 @@
--- `slots::is_record` meets its contract: the record is written apart, and compared. Assumes nothing.
+-- `slot_reader::is_record` meets its contract: the record is written apart, and compared. Assumes nothing.
 use mathlib.Core.Path.{_∙_, ap}
 use mathlib.Core.List.{List}
 use Prim.Native.Nat.{ℕ}
 use lib.Dec.{eqb}
 use Rattle.fields.specs.Places.{number}
 use borrow.Author.Needs.{needs}
-use Rattle.slots.proofs.is_record.Statement.{statement}
-use Rattle.slots.proofs.is_record.Tie as tie
+use Rattle.slot_reader.proofs.is_record.Statement.{statement}
+use Rattle.slot_reader.proofs.is_record.Tie as tie
 
 slice-aggregate-write-record : tie.Need-slice-aggregate-write-record
 slice-aggregate-write-record c = search needs

@@ -18,10 +18,10 @@ use Rattle.fields.proofs.Lists.{number-tail, number-append-left, number-append-
 use Rattle.wire.proofs.Reading.{be-number}
 use Rattle.outgoing.specs.Wrote.{wrote}
 use Rattle.laws.proofs.Lengths.{length-field}
 use Rattle.slots.specs.Slots.{slotLength, mostInput, isInput, recordBytes, isBlank, isEnded, sequenceIn, valueIn, kindIn, inputIn, isRecord, recordIn, judged, blank, torn, bad, whole}
 use Rattle.slots.proofs.Inputs.{input-fits}
 use Rattle.slots.proofs.Records.{length-record, record-wrote}
-use Rattle.slots.proofs.Judging.{chosen, sorted}
+use Rattle.slot_reader.proofs.Judging.{chosen, sorted}
 
 pub judged-blank : (s : List ℕ) → isBlank s ≡ true → judged s ≡ blank
 unfolding judged

@@ -1,8 +1,8 @@
--- `slots::may_put` meets its contract, test by test. Assumes nothing.
-use Rattle.slots.proofs.Putting.{not-blank, too-large, may-be}
+-- `slot_writer::may_put` meets its contract, test by test. Assumes nothing.
+use Rattle.slot_writer.proofs.Putting.{not-blank, too-large, may-be}
 use borrow.Author.Needs.{needs}
-use Rattle.slots.proofs.may_put.Statement.{statement}
-use Rattle.slots.proofs.may_put.Tie as tie
+use Rattle.slot_writer.proofs.may_put.Statement.{statement}
+use Rattle.slot_writer.proofs.may_put.Tie as tie
 
 all-zero-requires : tie.Need-all-zero-requires
 all-zero-requires c κs = search needs

@@ -9,12 +9,12 @@ use lib.Seq.{drop-cons}
 use lib.Dec.{eqb}
 use borrow.Author.Tests.{eq-eqb, ne-eqb}
 use Rattle.fields.specs.Places.{number}
 use Rattle.slots.specs.Slots as slots
 use Rattle.slots.specs.Slots.{slotLength, mostInput, isInput, recordBytes, isBlank, isEnded, sequenceIn, valueIn, kindIn, inputIn, isRecord, recordIn, judged, blank, torn, bad, whole}
-use Rattle.slots.specs.Meaning.{inputPlace, slotOf, Judged}
-use Rattle.slots.specs.declared.Slot.{Slot}
-use Rattle.slots.specs.declared.Slot.the-variants.{Blank, Torn, Bad, Whole}
+use Rattle.slot_reader.specs.Meaning.{inputPlace, slotOf, Judged}
+use Rattle.slot_reader.specs.declared.Slot.{Slot}
+use Rattle.slot_reader.specs.declared.Slot.the-variants.{Blank, Torn, Bad, Whole}
 use Rattle.slots.proofs.Inputs.{too-long, other-input}
 
 -- a slot ending in 5A, by its test; a slot, by its two tests
 abbrev pub chosen : List ℕ → Bool → slots.Slot

@@ -3,10 +3,10 @@ use Prim.Native.Nat.{ℕ, _^_, _<_, _≤_}
 use mathlib.Core.List.{List}
 use mathlib.Core.Path.{_≡_}
 use lib.ListN.{take, drop}
 use Rattle.slots.specs.Slots as slots
 use Rattle.slots.specs.Slots.{mostInput}
-use Rattle.slots.specs.declared.Slot.{Slot}
-use Rattle.slots.specs.declared.Slot.the-variants.{Blank, Torn, Bad, Whole}
+use Rattle.slot_reader.specs.declared.Slot.{Slot}
+use Rattle.slot_reader.specs.declared.Slot.the-variants.{Blank, Torn, Bad, Whole}
 
 -- the input of a record begins behind two tags, two lengths, its number and its kind
 abbrev pub inputPlace : ℕ

@@ -1,10 +1,10 @@
--- `slots::read_record` meets its contract, test by test. Assumes nothing.
+-- `slot_reader::read_record` meets its contract, test by test. Assumes nothing.
 use Prim.Native.Nat.{_+_, _-_}
 use native.Mathlib.Omega.{arith}
-use Rattle.slots.proofs.Judging.{no-kind, no-room, no-input, not-same, is-whole}
+use Rattle.slot_reader.proofs.Judging.{no-kind, no-room, no-input, not-same, is-whole}
 use borrow.Author.Needs.{needs}
-use Rattle.slots.proofs.read_record.Statement.{statement}
-use Rattle.slots.proofs.read_record.Tie as tie
+use Rattle.slot_reader.proofs.read_record.Statement.{statement}
+use Rattle.slot_reader.proofs.read_record.Tie as tie
 
 get-requires : tie.Need-get-requires
 get-requires c κs = search needs

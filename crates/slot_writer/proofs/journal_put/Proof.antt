@@ -1,8 +1,8 @@
 -- `journal_put` meets its contract, test by test. Assumes nothing.
-use Rattle.slots.proofs.Putting.{may-fits, not-slot, not-put, is-put}
+use Rattle.slot_writer.proofs.Putting.{may-fits, not-slot, not-put, is-put}
 use borrow.Author.Needs.{needs}
-use Rattle.slots.proofs.journal_put.Statement.{statement}
-use Rattle.slots.proofs.journal_put.Tie as tie
+use Rattle.slot_writer.proofs.journal_put.Statement.{statement}
+use Rattle.slot_writer.proofs.journal_put.Tie as tie
 
 refuse-requires : tie.Need-refuse-requires
 refuse-requires c κs = search needs
