@@ -1,4 +1,4 @@
--- `replay::replay_slots` meets its contract: what a replay from a slot on will have come to is what one from the first on will. Assumes nothing.
+-- `slot_replay::replay_slots` meets its contract: what a replay from a slot on will have come to is what one from the first on will. Assumes nothing.
 use Prim.Native.Nat.{_+_, _-_, _*_, _/_, _≤_}
 use mathlib.Core.Path.{_≡_, refl}
 use native.Mathlib.Omega.{arith}
@@ -7,12 +7,12 @@ use Rattle.slots.specs.Slots.{slotLength, judged}
 use Rattle.slot_reader.specs.Meaning.{inputPlace, slotOf}
 use Rattle.journal.specs.Journal.{slotAt, slotsFrom, slotsOf}
 use Rattle.journal.proofs.Rooms.{slot-count}
-use Rattle.replay.proofs.Turns.{at-start, at-end, at-blank, at-torn, at-bad, at-other, at-untaken, at-taken, input-part, whole-within}
-use Rattle.replay.specs.Replay.{replayFrom}
-use Rattle.replay.specs.Meaning.{endOf}
+use Rattle.slot_replay.proofs.Turns.{at-start, at-end, at-blank, at-torn, at-bad, at-other, at-untaken, at-taken, input-part, whole-within}
+use Rattle.slot_replay.specs.Fold.{replayFrom}
+use Rattle.slot_replay.specs.Meaning.{endOf}
 use borrow.Author.Needs.{needs}
-use Rattle.replay.proofs.replay_slots.Statement.{statement}
-use Rattle.replay.proofs.replay_slots.Tie as tie
+use Rattle.slot_replay.proofs.replay_slots.Statement.{statement}
+use Rattle.slot_replay.proofs.replay_slots.Tie as tie
 
 abbrev Inv-loop : tie.InvT-loop
 Inv-loop journal store₀ out₀ report₀ count records₀ place₀ torn₀ store out report records place torn =

@@ -25,8 +25,9 @@ use Rattle.store.specs.Decode.{decode, encode}
 use Rattle.oneform.proofs.OneForm.{decoded}
 use Rattle.calls.specs.Calls.{Called, refusal, answered, called, stepCalled, tickCalled, offerCalled, Gives}
 use Rattle.slots.specs.Slots.{isKept}
-use Rattle.replay.specs.Replay.{handed, isTaken}
-use Rattle.replay.specs.Meaning.{Hands}
+use Rattle.keeping.specs.Taken.{isTaken}
+use Rattle.slot_replay.specs.Handed.{handed}
+use Rattle.slot_replay.specs.Meaning.{Hands}
 
 -- ---- an answer, by its number
 

@@ -7,8 +7,10 @@ use lib.ListN.{length}
 use Rattle.outgoing.specs.Wrote.{wrote}
 use Rattle.calls.specs.Calls.{Gives}
 use Rattle.journal.specs.Journal.{slotCount, slotsOf}
-use Rattle.replay.specs.Replay.{handed, isTaken, Replay, replayFrom, placesBytes}
-use Rattle.replay.specs.declared.Ending.{Ending}
+use Rattle.keeping.specs.Taken.{isTaken}
+use Rattle.slot_replay.specs.Handed.{handed}
+use Rattle.slot_replay.specs.Fold.{Replay, replayFrom, placesBytes}
+use Rattle.slot_replay.specs.declared.Ending.{Ending}
 
 -- an input that isn't taken changes nothing
 pub record Hands (k : ℕ) (bs b o : List ℕ) (r : ℕ) (b′ o′ : List ℕ) : Type 0 where

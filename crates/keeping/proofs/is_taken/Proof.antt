@@ -1,8 +1,8 @@
--- `replay::is_taken` meets its contract. Assumes nothing.
-use Rattle.replay.specs.Replay.{isTaken}
+-- `keeping::is_taken` meets its contract. Assumes nothing.
+use Rattle.keeping.specs.Taken.{isTaken}
 use borrow.Author.Needs.{needs}
-use Rattle.replay.proofs.is_taken.Statement.{statement}
-use Rattle.replay.proofs.is_taken.Tie as tie
+use Rattle.keeping.proofs.is_taken.Statement.{statement}
+use Rattle.keeping.proofs.is_taken.Tie as tie
 
 is-kept-requires : tie.Need-is-kept-requires
 is-kept-requires c κs = search needs

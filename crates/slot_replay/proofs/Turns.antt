@@ -23,9 +23,11 @@ use Rattle.slot_reader.specs.declared.Slot.{Slot}
 use Rattle.slot_reader.specs.declared.Slot.the-variants.{Blank, Torn, Bad, Whole}
 use Rattle.journal.specs.Journal.{slotCount, slotAt, slotsFrom, slotsOf}
 use Rattle.journal.proofs.Rooms.{slots-step, slots-end, slot-count}
-use Rattle.replay.specs.Replay.{handed, isTaken, Replay, ends, skipping, replayFrom, placesBytes}
-use Rattle.replay.specs.Meaning.{Hands, Ended, ended, endOf}
-use Rattle.replay.specs.declared.Ending.{Ending}
+use Rattle.keeping.specs.Taken.{isTaken}
+use Rattle.slot_replay.specs.Handed.{handed}
+use Rattle.slot_replay.specs.Fold.{Replay, ends, skipping, replayFrom, placesBytes}
+use Rattle.slot_replay.specs.Meaning.{Hands, Ended, ended, endOf}
+use Rattle.slot_replay.specs.declared.Ending.{Ending}
 
 abbrev ending : Bool → ℕ → ℕ → ℕ → Ending
 ending stop c p n = record { stopped = stop; records = c; place = p; torn = n }

@@ -1,8 +1,8 @@
--- `replay::hand` meets its contract: one of the station's calls. Assumes nothing.
-use Rattle.replay.proofs.Untaken.{hands-tick, hands-offer, hands-step}
+-- `slot_replay::hand` meets its contract: one of the station's calls. Assumes nothing.
+use Rattle.slot_replay.proofs.Untaken.{hands-tick, hands-offer, hands-step}
 use borrow.Author.Needs.{needs}
-use Rattle.replay.proofs.hand.Statement.{statement}
-use Rattle.replay.proofs.hand.Tie as tie
+use Rattle.slot_replay.proofs.hand.Statement.{statement}
+use Rattle.slot_replay.proofs.hand.Tie as tie
 
 station-tick-requires : tie.Need-station-tick-requires
 station-tick-requires c κs = search needs
