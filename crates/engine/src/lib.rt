@@ -1,14 +1,10 @@
 // The station of a script: the working one, whose state is the store; or the plain engine, whose state is a list of all inputs.
-ghost use Prim.Native.Nat.{_≤_};
-ghost use lib.ListN.{length};
 use said::show;
 use said::show::Out;
 use stored::Store;
 
-// How many inputs the list has room for, and the bytes of the report of its replay.
-const ROOM: usize = 4000;
-
-const REPORT: usize = 12 + 4 * ROOM;
+// How many inputs the list has room for.
+pub const ROOM: usize = 4000;
 
 // A list for the plain engine.
 pub type List = [u8; lent_list::HEAD + slots::LENGTH * ROOM];
@@ -75,24 +71,4 @@ fn plain_log(line: u64, list: &List) {
         answer as usize / stored::NAME,
         &out,
     );
-}
-
-// The store of the plain engine, for lines that look at one: its inputs, which are records as a journal has them, are
-// replayed from fresh.
-pub fn look(store: &mut Store, list: &List, is_plain: bool) {
-    if is_plain {
-        replayed(store, list);
-    }
-}
-
-fn replayed(store: &mut Store, list: &[u8])
-    requires { ⌜ 16 ≤ length (now list) ⌝ }
-{
-    let n = fields::get(list, 0, 1);
-    let delay = fields::get(list, 1, 2);
-    let own = fields::get(list, 3, 1);
-    station::station_fresh(store, n, delay, own);
-    let mut out = show::out_buffer();
-    let mut report = [0u8; REPORT];
-    replay::journal_replay(&list[lent_list::HEAD..], store, &mut out, &mut report);
 }
