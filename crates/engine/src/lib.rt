@@ -4,7 +4,7 @@ use said::show::Out;
 use stored::Store;
 
 // How many inputs the list has room for.
-pub const ROOM: usize = 4000;
+const ROOM: usize = 4000;
 
 // A list for the plain engine.
 pub type List = [u8; lent_list::HEAD + slots::LENGTH * ROOM];
@@ -14,7 +14,7 @@ pub fn no_list() -> List {
     [0; lent_list::HEAD + slots::LENGTH * ROOM]
 }
 
-// A fresh store, or a fresh list.
+// A fresh store, or a fresh list; beside a list the store is kept of the same inputs, for lines that look at one.
 pub fn fresh(
     store: &mut Store,
     list: &mut List,
@@ -24,12 +24,34 @@ pub fn fresh(
     own: u64,
 ) -> u64 {
     if is_plain {
-        return fresh_list::plain_fresh(list, n, delay, own);
+        let answer = fresh_list::plain_fresh(list, n, delay, own);
+        if answer == 0 {
+            station::station_fresh(store, n, delay, own);
+        }
+        return answer;
     }
     station::station_fresh(store, n, delay, own)
 }
 
-// An input, by the number of its kind in a journal: 1 a tick, 2 an offered name, 3 a message.
+// An input of the working station, by the number of its kind in a journal: 1 a tick, 2 an offered name, 3 a message.
+fn step(store: &mut Store, kind: u64, bytes: &[u8], out: &mut Out) -> u64 {
+    match kind {
+        1 => station::station_tick(store, out),
+        2 => station::station_offer(store, bytes, out),
+        _ => station::station_step(store, bytes, out),
+    }
+}
+
+// The same of the plain engine.
+fn plain_step(list: &mut List, kind: u64, bytes: &[u8], out: &mut Out) -> u64 {
+    match kind {
+        1 => plain::plain_tick(list, out),
+        2 => plain::plain_offer(list, bytes, out),
+        _ => plain::plain_step(list, bytes, out),
+    }
+}
+
+// An input. What the plain engine keeps in its list the store beside it takes too, and nobody sees what it says.
 pub fn take(
     store: &mut Store,
     list: &mut List,
@@ -39,17 +61,14 @@ pub fn take(
     out: &mut Out,
 ) -> u64 {
     if is_plain {
-        return match kind {
-            1 => plain::plain_tick(list, out),
-            2 => plain::plain_offer(list, bytes, out),
-            _ => plain::plain_step(list, bytes, out),
-        };
+        let answer = plain_step(list, kind, bytes, out);
+        if keeping::is_taken(answer) {
+            let mut unseen = show::out_buffer();
+            step(store, kind, bytes, &mut unseen);
+        }
+        return answer;
     }
-    match kind {
-        1 => station::station_tick(store, out),
-        2 => station::station_offer(store, bytes, out),
-        _ => station::station_step(store, bytes, out),
-    }
+    step(store, kind, bytes, out)
 }
 
 // Prints the log.

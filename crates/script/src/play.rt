@@ -11,7 +11,6 @@ use stored::Store;
 
 // Plays a line, and says whether it was one. The bytes of any line of 4,096 have room.
 pub fn line(store: &mut Store, list: &mut List, is_plain: bool, line: &[u8], number: u64) -> bool {
-    plain_store::look(store, list, is_plain);
     let mut bytes = io::buffer();
     match lines::read_line(line, &mut bytes) {
         Line::Blank => true,
