@@ -16,8 +16,8 @@ use Rattle.words.specs.Meaning.{Certifies}
 use Rattle.store.specs.Layout.{statementTable, placeOf}
 use Rattle.rules.specs.WellFormed.{talliesThere}
 use Rattle.store.specs.Decode.{statementAt, kindAt, tallies}
-use Rattle.tallied.specs.Tallies.{Keyed}
-use Rattle.tallied.proofs.Hanging.{key-is}
+use Rattle.apart.specs.Tallies.{Keyed}
+use Rattle.apart.proofs.Hanging.{key-is}
 use Rattle.backed.specs.Backed.{Stirs, Found}
 use Rattle.backed.proofs.Parts.{there-own, there-both}
 

@@ -10,7 +10,7 @@ use Rattle.rules.specs.Words.{Certificate, ownBlock, certificate, ofBlock}
 use Rattle.store.specs.Layout.{statementTable, placeOf}
 use Rattle.store.specs.Decode.{statementAt, tallies}
 use Rattle.chains.specs.Chains.{stir, stirWords}
-use Rattle.tallied.specs.Tallies.{Keyed}
+use Rattle.apart.specs.Tallies.{Keyed}
 
 -- the block that statement i certifies: its key, the place of its name, and what the salt is when it is stirred with them
 pub record Stirs (b : List ℕ) (salt i key at mixed : ℕ) : Type 0 where

@@ -11,9 +11,9 @@ ghost use Rattle.fields.specs.Places.{number};
 ghost use Rattle.words.specs.Meaning.{Certifies};
 ghost use Rattle.store.specs.Layout.{sizeIn, storeLength, statementTable, tallyTable, placeOf};
 ghost use Rattle.store.specs.Decode.{statementAt, tallies};
-ghost use Rattle.heading.specs.Lent.{Counts};
+ghost use Rattle.form.specs.Lent.{Counts};
 ghost use Rattle.chains.specs.Chains.{Chained};
-ghost use Rattle.tallied.specs.Tallies.{tallyChain};
+ghost use Rattle.apart.specs.Tallies.{tallyChain};
 ghost use Rattle.backed.specs.Backed.{Stirs, Found, Owns};
 use chains::CHAINS;
 use settings::Settings;
@@ -22,7 +22,6 @@ use store::LINK;
 use store::NAME;
 use store::STATEMENT_SIZE;
 use store::STATEMENTS;
-use tallied::apart;
 
 // The block that a statement certifies: view and height, the place of its name, and the salt stirred with all of it.
 pub struct Certified {

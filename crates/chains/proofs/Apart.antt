@@ -9,7 +9,7 @@ use Rattle.rules.specs.Lists.{any, all, distinct}
 use Rattle.laws.proofs.Tests.{by-bool, no-bool}
 use Rattle.store.specs.Decode.{rows}
 use Rattle.store.proofs.Rows.{rows-from, rows-all}
-use Rattle.heading.proofs.Walks.{distinct-here}
+use Rattle.form.proofs.Walks.{distinct-here}
 use Rattle.chains.specs.Chains.{places}
 
 -- the same of the records as of their places

@@ -15,7 +15,7 @@ use borrow.Author.Tests.{eqb-true, eq-eqb, ne-eqb}
 use Rattle.rules.specs.Lists.{any}
 use Rattle.lookup.specs.Search.{pick}
 use Rattle.store.specs.Decode.{rows, nth}
-use Rattle.heading.proofs.Walks.{any-here}
+use Rattle.form.proofs.Walks.{any-here}
 use Rattle.chains.proofs.Firsts.{Skips, whole-of, next-of}
 use Rattle.chains.specs.Chains.{chains, firstOf, Following, Chained, Bare, places, behind, Walk}
 

@@ -17,7 +17,8 @@ use Rattle.slots.specs.Slots.{slotLength, isInput, recordBytes, Written, writte
 use Rattle.slots.proofs.Inputs.{input-fits}
 use Rattle.slots.proofs.Records.{length-record}
 use Rattle.journal.specs.Journal.{slotCount, slotAt, slotsFrom, slotsOf, withSlot, Room, free, nowhere, roomFrom, roomIn, isShort, placing, writing}
-use Rattle.replay.specs.Replay.{replayed, reported, replayFrom, hasLengths, replaying}
+use Rattle.slot_replay.specs.Fold.{replayFrom}
+use Rattle.replay.specs.Replay.{replayed, reported, hasLengths, replaying}
 use Rattle.cuts.specs.Disk.{Try, Proper, tryIn, trying, tryAll, Zeroed}
 use Rattle.cuts.specs.After.{isUntouched, isComplete, completed, AllTaken, replayOf, Filled}
 use Rattle.cuts.proofs.Places.{length-slot}

@@ -9,7 +9,9 @@ use lib.ListN.{length, take, replicate}
 use lib.Dec.{eqb}
 use Rattle.laws.proofs.Tests.{by-bool, no-bool, eqb-self}
 use Rattle.slots.specs.Slots.{Slot, blank, torn, bad, whole}
-use Rattle.replay.specs.Replay.{handed, isTaken, Replay, ends, skipping, replayFrom}
+use Rattle.keeping.specs.Taken.{isTaken}
+use Rattle.slot_replay.specs.Handed.{handed}
+use Rattle.slot_replay.specs.Fold.{Replay, ends, skipping, replayFrom}
 use Rattle.cuts.specs.Disk.{Try}
 use Rattle.cuts.specs.After.{isUntouched, isComplete, laid, completed, tornPlaces, used, storeAfter, outAfter, AllTaken, replayOf, calm}
 use Rattle.cuts.proofs.Tries.{lays}

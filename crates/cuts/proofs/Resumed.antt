@@ -20,8 +20,10 @@ use Rattle.calls.specs.Calls.{Called, tickCalled, offerCalled, stepCalled, answ
 use Rattle.promises.specs.Run.{untouched, calls, storeAt}
 use Rattle.promises.proofs.Carried.{store-carried, bytes-at, call-with, out-kept}
 use Rattle.journal.specs.Journal.{slotCount}
-use Rattle.replay.specs.Replay.{handed, isTaken, hasLengths, replaying, reported, replayed}
-use Rattle.replay.proofs.Untaken.{hands-tick, hands-offer, hands-step}
+use Rattle.keeping.specs.Taken.{isTaken}
+use Rattle.slot_replay.specs.Handed.{handed}
+use Rattle.replay.specs.Replay.{hasLengths, replaying, reported, replayed}
+use Rattle.slot_replay.proofs.Untaken.{hands-tick, hands-offer, hands-step}
 use Rattle.cuts.specs.Disk.{Try, Proper, tryAll, Zeroed}
 use Rattle.cuts.specs.After.{completed, storeAfter, outAfter, AllTaken, replayOf}
 use Rattle.cuts.specs.Resumed.{inputOf, kept}

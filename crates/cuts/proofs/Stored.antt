@@ -15,7 +15,7 @@ use Rattle.slots.specs.Slots.{slotLength, mostInput, isInput, recordBytes, isBl
 use Rattle.slots.proofs.Inputs.{input-fits}
 use Rattle.slots.proofs.Records.{length-record}
 use Rattle.cuts.specs.Disk.{storing}
-use Rattle.slots.proofs.OneForm.{judged-torn, blank-only, zero-byte, not-blank, first-byte, reads-back}
+use Rattle.slot_reader.proofs.OneForm.{judged-torn, blank-only, zero-byte, not-blank, first-byte, reads-back}
 
 pub length-storing : (n : ℕ) (r s : List ℕ) → length (storing n r s) ≡ length s
 unfolding storing

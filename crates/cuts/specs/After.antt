@@ -6,7 +6,9 @@ use mathlib.Core.List.{List, [], _∷_}
 use lib.ListN.{length, replicate}
 use lib.Dec.{eqb}
 use Rattle.slots.specs.Slots.{slotLength, Slot, blank, torn, bad, whole}
-use Rattle.replay.specs.Replay.{handed, isTaken, Replay}
+use Rattle.keeping.specs.Taken.{isTaken}
+use Rattle.slot_replay.specs.Handed.{handed}
+use Rattle.slot_replay.specs.Fold.{Replay}
 use Rattle.cuts.specs.Disk.{Try}
 
 -- before the first byte, and after the last one

@@ -7,7 +7,7 @@ use Rattle.rules.specs.Limits.{Size}
 use Rattle.rules.specs.Lists.{unbe}
 use Rattle.agreement.specs.Schedule.{Event, idle, commonTick, tickOf, given, offeredTo}
 use Rattle.promises.specs.Run.{calls, storeAt}
-use Rattle.replay.specs.Replay.{isTaken}
+use Rattle.keeping.specs.Taken.{isTaken}
 
 -- what an event hands to station i, as a journal has it: "1 tick, 2 offer, 3 message"
 unfoldable pub inputOf : ℕ → Event → List (ℕ × List ℕ)

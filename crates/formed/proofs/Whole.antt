@@ -22,10 +22,11 @@ use Rattle.store.specs.Decode.{statementAt, tallyAt, statements, tallies, blame
 use Rattle.store.specs.Meaning.{Loads, headerOf}
 use Rattle.store.specs.declared.Station.{Station}
 use Rattle.store.proofs.Rows.{rows-length, rows-all}
-use Rattle.heading.specs.Lent.{Lent, Counts, alone}
+use Rattle.form.specs.Lent.{Lent, Counts}
+use Rattle.heading.specs.Alone.{alone}
 use Rattle.repeats.specs.Repeats.{AllCertify}
 use Rattle.formed.specs.Ready.{Ready, tablesGood, Telling}
-use Rattle.heading.proofs.Forms.{form-tables, counts-statements, counts-tallies, counts-log}
+use Rattle.form.proofs.Forms.{form-tables, counts-statements, counts-tallies, counts-log}
 use Rattle.stated.proofs.Parts.{good-certifies}
 
 abbrev pub headerGood : Station → Bool

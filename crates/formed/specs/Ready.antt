@@ -12,7 +12,7 @@ use Rattle.settings.specs.Made.{sizeFrom}
 use Rattle.store.specs.Layout.{sizeIn, statementTable, tallyTable, logTable}
 use Rattle.store.specs.Decode.{statements, tallies, blames, names}
 use Rattle.store.specs.declared.Station.{Station}
-use Rattle.heading.specs.Lent.{Counts}
+use Rattle.form.specs.Lent.{Counts}
 use Rattle.repeats.specs.Repeats.{AllCertify}
 use Rattle.linked.specs.Told.{Told}
 

@@ -10,13 +10,8 @@ ghost use Rattle.store.specs.Layout.{sizeIn, storeLength};
 ghost use Rattle.store.specs.Decode.{stateOf, hasForm};
 ghost use Rattle.formed.specs.Ready.{Ready, tablesGood, Telling};
 use chains::CHAINS;
-use heading::blames;
-use heading::form;
-use heading::header;
 use settings::Settings;
 use store::Station;
-use tallied::apart;
-use tallied::openers;
 
 // Whether tallies, blame masks and log are well formed, where the statements are; and what the log tells.
 fn tables_good(
@@ -60,7 +55,7 @@ pub fn well_formed_told(store: &[u8], told: &mut [u16; Settings::MOST_STATEMENTS
         return false;
     }
     let salt = chains::salt(station.clock);
-    let good = header::header_good(station) & stated::all_good(store, station, station.statements);
+    let good = heading::header_good(station) & stated::all_good(store, station, station.statements);
     if !good {
         return false;
     }

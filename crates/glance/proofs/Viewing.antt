@@ -1,6 +1,6 @@
 -- Statements of other views, which a tick passes over. Assumes nothing.
-use Prim.Native.Nat.{ℕ, _+_, _-_, _*_, _%_, _<_, _≤_}
-use mathlib.Core.Path.{_≡_, refl, sym, _∙_, subst}
+use Prim.Native.Nat.{ℕ, _+_, _-_, _*_, _/_, _%_, _<_, _≤_}
+use mathlib.Core.Path.{_≡_, refl, sym, ap, _∙_, subst}
 use mathlib.Core.Bool.{Bool, true, false, not}
 use mathlib.Core.List.{List}
 use native.Mathlib.Omega.{arith}
@@ -9,13 +9,30 @@ use lib.Dec.{eqb}
 use borrow.Author.Tests.{eqb-true, eq-eqb, ne-eqb, not-true, not-false}
 use Rattle.laws.proofs.Tests.{by-bool, no-bool}
 use Rattle.store.specs.Decode.{statementAt}
-use Rattle.glance.specs.Looks.{IsView, OthersFrom, FourOthers}
+use Rattle.glance.specs.Looks.{IsView, turned, OthersFrom, FourOthers}
 
--- views differ where their lower halves do
-pub lower-half : (v w : ℕ) (high low : ℕ) → v ≡ high * 65_536 + low → low < 65_536 → IsView v → IsView w → eqb low (w % 65_536) ≡ eqb v w
-lower-half v w high low e l p q =
-    by-bool (eqb v w) (λ t. eq-eqb low (w % 65_536) (let z = eqb-true v w t in omega arith) ∙ sym t)
-    (λ t. ne-eqb low (w % 65_536) (λ z. no-bool (sym (eq-eqb v w (omega arith)) ∙ t)) ∙ sym t)
+-- the bytes of a view, turned
+turned-bytes : (w x y : ℕ) → w ≡ x * 256 + y → x < 256 → y < 256 → x + 256 * y ≡ turned w
+turned-bytes w x y e l m =
+    let high : w / 256 ≡ x = omega arith in
+    let first : w / 256 % 256 ≡ x = omega arith in
+    let second : w % 256 ≡ y = omega arith in
+    omega arith
+
+-- only they come to that
+bytes-turned : (w x y : ℕ) → w < 65_536 → x < 256 → x + 256 * y ≡ turned w → w ≡ x * 256 + y
+bytes-turned w x y u l e =
+    let high : w / 256 % 256 ≡ w / 256 = omega arith in
+    let mine : (x + 256 * y) % 256 ≡ x = omega arith in
+    let its : turned w % 256 ≡ w / 256 = omega (arith, high) in
+    let first : x ≡ w / 256 = sym mine ∙ ap (_% 256) e ∙ its in
+    omega (arith, first, high)
+
+-- views differ where their lower halves do, with their bytes turned
+pub lower-half : (v w : ℕ) (high x y : ℕ) → v ≡ high * 65_536 + (x * 256 + y) → x < 256 → y < 256 → IsView v → IsView w → eqb (x + 256 * y) (turned w) ≡ eqb v w
+lower-half v w high x y e l m p q =
+    by-bool (eqb v w) (λ t. eq-eqb (x + 256 * y) (turned w) (let z = eqb-true v w t in turned-bytes w x y (omega arith) l m) ∙ sym t)
+    (λ t. ne-eqb (x + 256 * y) (turned w) (λ z. no-bool (sym (eq-eqb v w (let back = bytes-turned w x y (omega arith) l z in omega arith)) ∙ t)) ∙ sym t)
 
 pub not-this : {v w : ℕ} {r : Bool} → r ≡ eqb v w → r ≡ false → v ≡ w → ⊥
 not-this {v} {w} e f z = no-bool (sym (eq-eqb v w z) ∙ sym e ∙ f)

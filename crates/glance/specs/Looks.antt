@@ -1,5 +1,5 @@
 -- What is seen of the statements before any chain is walked. Assumes nothing.
-use Prim.Native.Nat.{ℕ, suc, _+_, _-_, _*_, _^_, _<_, _≤_}
+use Prim.Native.Nat.{ℕ, suc, _+_, _-_, _*_, _/_, _%_, _^_, _<_, _≤_}
 use mathlib.Core.Path.{_≡_}
 use mathlib.Core.Bool.{Bool, true, false}
 use mathlib.Core.List.{List}
@@ -29,6 +29,10 @@ pub record Begun (b told : List ℕ) (count wait : ℕ) : Type 0 where
 -- a view that is allowed in some column
 abbrev pub IsView : ℕ → Type 0
 IsView v = (1 ≤ v) × (v ≤ lastViewLarge)
+
+-- the lower half of a view, its bytes turned
+abbrev pub turned : ℕ → ℕ
+turned v = v / 256 % 256 + 256 * (v % 256)
 
 -- a store of which every statement has such a view, and one more
 pub record Views (b : List ℕ) (view : ℕ) : Type 0 where

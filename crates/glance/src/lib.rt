@@ -12,7 +12,7 @@ ghost use Rattle.store.specs.Decode.{statementAt, stateOf, Form};
 ghost use Rattle.store.specs.Meaning.{Loads};
 ghost use Rattle.linked.specs.Told.{Told};
 ghost use Rattle.glance.specs.Votes.{voteIn};
-ghost use Rattle.glance.specs.Looks.{Tells, Begun, IsView, Views, OthersFrom, FourOthers, Looked, Seen};
+ghost use Rattle.glance.specs.Looks.{Tells, Begun, IsView, turned, Views, OthersFrom, FourOthers, Looked, Seen};
 use settings::Settings;
 use store::STATEMENT_SIZE;
 use store::STATEMENTS;
@@ -62,13 +62,25 @@ pub fn vote_in(store: &[u8], i: usize, view: u32) -> u32
     store::voted_at(store, i)
 }
 
-// Whether statement i is of a view: none is above 65,535, so the lower half tells.
+// A view's lower half with its bytes turned: what its two bytes in a store come to where the first counts least.
+fn turned(view: u32) -> u64
+    ensures { λ r. ⌜ r ≡ turned view ⌝ }
+{
+    let high = view / 256 % 256;
+    let low = view % 256;
+    (high + 256 * low) as u64
+}
+
+// Whether statement i is of a view: none is above 65,535, so the lower half tells. It is read with its bytes turned, as the
+// processor loads them, and the view is turned once.
 fn is_of_view(store: &[u8], i: usize, view: u32) -> bool
     requires { ⌜ (length (now store) ≡ storeLength (sizeIn (now store))) × (i < mostStatements (sizeIn (now store))) × IsView (statementAt (now store) i .view) × IsView view ⌝ }
     ensures { λ r. ⌜ r ≡ eqb (statementAt (now (store .entry)) i .view) view ⌝ }
 {
     let low = STATEMENTS + STATEMENT_SIZE * i + VIEW + 2;
-    fields::get(store, low, 2) == (view % 65_536) as u64
+    let first = fields::get(store, low, 1);
+    let second = fields::get(store, low + 1, 1);
+    first + 256 * second == turned(view)
 }
 
 // Whether the four statements from place i on are of other views.

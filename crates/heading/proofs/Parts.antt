@@ -1,18 +1,14 @@
--- The parts of the definition that look at the header, and the blame masks, as the code tests them. Assumes nothing.
-use Prim.Native.Nat.{ℕ, _-_}
+-- The parts of the definition that look at the header, as the code tests them. Assumes nothing.
+use Prim.Native.Nat.{ℕ}
 use mathlib.Core.Path.{_≡_, sym, ap, _∙_}
 use mathlib.Core.Bool.{true, false, _&&_, and-true}
-use mathlib.Core.List.{List, _∷_}
 use native.Mathlib.Omega.{arith}
-use lib.ListN.{length}
 use lib.Dec.{leb, ltb}
-use borrow.Author.Tests.{lt-ltb, eq-eqb}
-use Rattle.rules.specs.Limits.{lastClock, lastView}
-use Rattle.rules.specs.Lists.{all}
-use Rattle.rules.specs.Sizes as sizes
+use borrow.Author.Tests.{lt-ltb}
+use Rattle.rules.specs.Limits.{lastClock}
 use Rattle.rules.specs.Sizes.{goodSettings}
 use Rattle.rules.specs.Messages.{blockAllowed, certificateAllowed}
-use Rattle.rules.specs.WellFormed.{isName, isMask, clocksInOrder, lockGood, blamesGood}
+use Rattle.rules.specs.WellFormed.{isName, clocksInOrder, lockGood}
 use Rattle.laws.proofs.Tests.{by-bool}
 use Rattle.fields.specs.declared.Name.{Name}
 use Rattle.fields.specs.Names.{nameOf}
@@ -21,14 +17,12 @@ use Rattle.settings.specs.Made.{settingsOf, made}
 use Rattle.settings.specs.declared.Settings.{Settings}
 use Rattle.settings.specs.declared.Made.{Made}
 use Rattle.settings.specs.declared.Made.the-variants.{Good, Bad}
-use Rattle.store.specs.Layout.{sizeIn}
-use Rattle.store.specs.Decode.{rows, blameAt, blamesFor, blames, stateFrom}
+use Rattle.store.specs.Decode.{stateFrom}
 use Rattle.store.specs.Meaning.{courseOf, headerOf}
 use Rattle.store.specs.declared.Phase.{Phase}
 use Rattle.store.specs.declared.Station.{Station}
 use Rattle.store.proofs.Values.{number-phase}
-use Rattle.store.proofs.Rows.{rows-length}
-use Rattle.heading.specs.Lent.{alone, phaseInOrder}
+use Rattle.heading.specs.Alone.{alone, phaseInOrder}
 
 -- four words are a name
 pub words-name : (n : Name) → Words n → isName (nameOf n) ≡ true
@@ -62,15 +56,3 @@ pub lock-is : (s : Station) → Words (s .lock .name)
     ≡ lockGood (alone s)
 unfolding lockGood stateFrom headerOf
 lock-is s w = rw (words-name (s .lock .name) w, and-true)
-
--- ---- blame masks
-
-masks-are : (g : sizes.Settings) (ms : List ℕ) → length ms ≡ lastView (g .size) → blamesGood g (0 ∷ ms) ≡ all (isMask g) ms
-unfolding blamesGood
-masks-are g ms e = rw (eq-eqb _ _ e)
-
-pub blames-are : (g : sizes.Settings) (b : List ℕ) → g .size ≡ sizeIn b → blamesGood g (blames b) ≡ all (isMask g) (rows (blameAt b) 0 (lastView (sizeIn b)))
-unfolding blamesFor
-blames-are g b e =
-    let last = lastView (sizeIn b) in
-    masks-are g (rows (blameAt b) 0 last) (rows-length (blameAt b) 0 last ∙ ap lastView (sym e))

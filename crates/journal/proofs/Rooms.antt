@@ -10,9 +10,9 @@ use lib.Dec.{eqb}
 use borrow.Author.Tests.{eq-eqb, ne-eqb}
 use Rattle.slots.specs.Slots as slots
 use Rattle.slots.specs.Slots.{slotLength, judged, whole}
-use Rattle.slots.specs.Meaning.{slotOf, Judged}
-use Rattle.slots.specs.declared.Slot.{Slot}
-use Rattle.slots.specs.declared.Slot.the-variants.{Blank, Torn, Bad, Whole}
+use Rattle.slot_reader.specs.Meaning.{slotOf, Judged}
+use Rattle.slot_reader.specs.declared.Slot.{Slot}
+use Rattle.slot_reader.specs.declared.Slot.the-variants.{Blank, Torn, Bad, Whole}
 use Rattle.journal.specs.Journal as journal
 use Rattle.journal.specs.Journal.{slotCount, slotAt, slotsFrom, slotsOf, roomFrom, roomIn, nowhere}
 use Rattle.journal.specs.Meaning.{roomOf, Found}

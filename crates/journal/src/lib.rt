@@ -2,10 +2,10 @@
 ghost use mathlib.Core.Path.{_≡_};
 ghost use Prim.Native.Nat.{_<_};
 ghost use Rattle.slots.specs.Slots.{judged, written};
-ghost use Rattle.slots.specs.Meaning.{Judged};
+ghost use Rattle.slot_reader.specs.Meaning.{Judged};
 ghost use Rattle.journal.specs.Journal.{slotCount, slotAt, writing};
 ghost use Rattle.journal.specs.Meaning.{Found};
-use slots::Slot;
+use slot_reader::Slot;
 
 // The place for the next record, and its number.
 enum Room {
@@ -20,7 +20,7 @@ pub fn judge_at(journal: &[u8], place: usize) -> Slot
 {
     let at = place * slots::LENGTH;
     let end = at + slots::LENGTH;
-    slots::judge(&journal[at..end])
+    slot_reader::judge(&journal[at..end])
 }
 
 // The first blank slot, if nothing before it stops a replay.

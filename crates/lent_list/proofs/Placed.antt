@@ -13,9 +13,9 @@ use Rattle.rules.specs.Sizes.{goodSettings}
 use Rattle.fields.specs.Places.{number}
 use Rattle.slots.specs.Slots as slots
 use Rattle.slots.specs.Slots.{slotLength, judged}
-use Rattle.slots.specs.Meaning.{slotOf, Judged}
-use Rattle.slots.specs.declared.Slot.{Slot}
-use Rattle.slots.specs.declared.Slot.the-variants.{Blank, Torn, Bad, Whole}
+use Rattle.slot_reader.specs.Meaning.{slotOf, Judged}
+use Rattle.slot_reader.specs.declared.Slot.{Slot}
+use Rattle.slot_reader.specs.declared.Slot.the-variants.{Blank, Torn, Bad, Whole}
 use Rattle.journal.specs.Journal.{slotCount, slotAt, slotsFrom, slotsOf}
 use Rattle.journal.proofs.Rooms.{slots-step, slots-end}
 use Rattle.lent_list.specs.Lists.{headLength, recordsIn, slotsIn, settingsIn, countIn, isPlaced, arePlaced, hasForm}

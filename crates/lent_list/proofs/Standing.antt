@@ -13,10 +13,10 @@ use Rattle.laws.proofs.Tests.{by-bool, and-left}
 use Rattle.fields.specs.Places.{number}
 use Rattle.slots.specs.Slots as slots
 use Rattle.slots.specs.Slots.{slotLength, mostInput, isInput, recordBytes, sequenceIn, kindIn, inputIn, isRecord, judged, blank, torn, bad, whole}
-use Rattle.slots.specs.Meaning.{inputPlace, slotOf, Within, Judged}
-use Rattle.slots.specs.declared.Slot.{Slot}
-use Rattle.slots.specs.declared.Slot.the-variants.{Blank, Torn, Bad, Whole}
-use Rattle.slots.proofs.OneForm.{whole-only}
+use Rattle.slot_reader.specs.Meaning.{inputPlace, slotOf, Within, Judged}
+use Rattle.slot_reader.specs.declared.Slot.{Slot}
+use Rattle.slot_reader.specs.declared.Slot.the-variants.{Blank, Torn, Bad, Whole}
+use Rattle.slot_reader.proofs.OneForm.{whole-only}
 use Rattle.journal.specs.Journal.{slotCount, slotAt, slotsFrom, slotsOf}
 use Rattle.journal.proofs.Rooms.{slots-step, slots-end}
 use Rattle.lent_list.specs.Lists.{headLength, recordsIn, slotsIn, hasLength, inputOf, inputsIn, inputsOf, inputsAfter}

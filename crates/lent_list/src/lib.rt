@@ -11,7 +11,7 @@ ghost use Rattle.lent_list.specs.Meaning.{Stands};
 use settings::Made;
 use settings::Settings;
 use settings::Size;
-use slots::Slot;
+use slot_reader::Slot;
 
 // The bytes of the head, and how many slots a list has at most.
 pub const HEAD: usize = 16;
@@ -60,7 +60,7 @@ fn is_placed(list: &[u8], records: u64, place: usize) -> bool
     let number = place as u64;
     let at = HEAD + place * slots::LENGTH;
     let end = at + slots::LENGTH;
-    match slots::judge(&list[at..end]) {
+    match slot_reader::judge(&list[at..end]) {
         Slot::Blank => records <= number,
         Slot::Torn => false,
         Slot::Bad => false,
@@ -118,7 +118,7 @@ pub fn held_at(list: &[u8], place: usize) -> Held
 {
     let at = HEAD + place * slots::LENGTH;
     let after = at + slots::LENGTH;
-    match slots::judge(&list[at..after]) {
+    match slot_reader::judge(&list[at..after]) {
         Slot::Blank => Held::Nothing,
         Slot::Torn => Held::Nothing,
         Slot::Bad => Held::Nothing,

@@ -25,7 +25,7 @@ use Rattle.lines.specs.declared.Line.the-variants.{Bytes, Bad}
 use Rattle.parts.specs.declared.Sort.{Sort}
 use Rattle.parts.specs.declared.Sort.the-variants.{Number, Name, Mask}
 use Rattle.text.proofs.Runs.{word-shorter, rest-shorter}
-use Rattle.text.proofs.Digits.{length-pairs}
+use Rattle.hex_words.proofs.Hex.{length-pairs}
 use Rattle.parts.proofs.Fields.{ends-none, ends-extra, reads-missing, reads-not, reads-is}
 use Rattle.lines.proofs.Replies.{bytes-good, hex-missing, hex-not, hex-rest}
 

@@ -3,7 +3,6 @@ use fields::Name;
 use kinds::Heard;
 use parts::Flaw;
 use parts::Place;
-use text::values;
 ghost use mathlib.Core.Path.{_≡_};
 ghost use Prim.Native.Nat.{_≤_};
 ghost use mathlib.Core.List.{[]};
@@ -143,7 +142,7 @@ fn holds_hex(line: &[u8], at: usize) -> Place
     if start == end {
         return Place::Wrong(Flaw::Missing);
     }
-    if !values::is_bytes(&line[start..end]) {
+    if !hex_words::is_bytes(&line[start..end]) {
         return Place::Wrong(Flaw::Hex);
     }
     parts::ending(line, Place::At(end))
@@ -164,7 +163,7 @@ fn hex(line: &[u8], at: usize, bytes: &mut [u8]) -> Place
     if bytes.len() < len {
         return Place::Wrong(Flaw::Long);
     }
-    values::write_bytes(&line[start..end], bytes, 0);
+    hex_words::write_bytes(&line[start..end], bytes, 0);
     Place::At(len)
 }
 
@@ -190,7 +189,7 @@ fn chosen(line: &[u8], at: usize, bytes: &mut [u8]) -> Line
     if start == end {
         return Line::Bad(Flaw::Missing);
     }
-    if !values::is_bytes(&line[start..end]) {
+    if !hex_words::is_bytes(&line[start..end]) {
         return Line::Bad(Flaw::Hex);
     }
     if let Place::Wrong(flaw) = holds_hex(line, end) {
@@ -204,8 +203,8 @@ fn chosen(line: &[u8], at: usize, bytes: &mut [u8]) -> Line
     if bytes.len() < len {
         return Line::Bad(Flaw::Long);
     }
-    values::write_bytes(&line[start..end], bytes, 0);
-    values::write_bytes(&line[from..to], bytes, first);
+    hex_words::write_bytes(&line[start..end], bytes, 0);
+    hex_words::write_bytes(&line[from..to], bytes, first);
     Line::Bytes {
         what: What::Choose { first },
         len,

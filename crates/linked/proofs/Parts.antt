@@ -20,7 +20,7 @@ use Rattle.wire.specs.declared.Statement.{Statement}
 use Rattle.store.specs.Layout.{sizeIn, statementTable, logTable, countOf, placeOf}
 use Rattle.store.specs.Decode.{rows, statementAt, kindAt, nameAt, nameFor, statements, names}
 use Rattle.store.proofs.Rows.{rows-from, rows-end}
-use Rattle.heading.proofs.Walks.{rows-whole}
+use Rattle.form.proofs.Walks.{rows-whole}
 use Rattle.linked.specs.Told.{nameBelow}
 use Rattle.linked.specs.Links.{isLink, soughtAt}
 

@@ -9,7 +9,7 @@ ghost use Rattle.fields.specs.Places.{number};
 ghost use Rattle.fields.specs.Names.{nameOf};
 ghost use Rattle.store.specs.Layout.{sizeIn, storeLength, statementTable, logTable};
 ghost use Rattle.store.specs.Decode.{statementAt};
-ghost use Rattle.heading.specs.Lent.{Counts};
+ghost use Rattle.form.specs.Lent.{Counts};
 ghost use Rattle.chains.specs.Chains.{Bare, Chained};
 ghost use Rattle.linked.specs.Links.{isLink, heightChain, Foremosts, Checked};
 ghost use Rattle.linked.specs.Told.{nameBelow};

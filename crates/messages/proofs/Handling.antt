@@ -36,9 +36,9 @@ use Rattle.storing.specs.Records.{certifiedAt, usedBy}
 use Rattle.acts.proofs.Works.{formed-parts}
 use Rattle.storing.proofs.Records.{certified-block}
 use Rattle.acts.proofs.Statements.{handled-stated}
-use Rattle.refusals.specs.Answers.{Mutely}
+use Rattle.stops.specs.Answers.{Mutely}
 use Rattle.messages.specs.Votes.{voteFor}
-use Rattle.refusals.proofs.Answers.{answers-is, refused-answers}
+use Rattle.stops.proofs.Answers.{answers-is, refused-answers}
 
 -- ---- 12
 

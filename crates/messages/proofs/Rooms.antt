@@ -14,8 +14,8 @@ use Rattle.store.specs.Decode.{stateOf, Left}
 use Rattle.storing.specs.Records.{fitting, Tried}
 use Rattle.acts.specs.Works.{Formed, Works}
 use Rattle.acts.proofs.Works.{formed-parts, works-none}
-use Rattle.refusals.specs.Answers.{Answers, Mutely}
-use Rattle.refusals.proofs.Stops.{room-answers, full-answers}
+use Rattle.stops.specs.Answers.{Answers, Mutely}
+use Rattle.stops.proofs.Stops.{room-answers, full-answers}
 
 -- a vote or a status found room, or the station stops
 module _ (j : Opener) (t : Certificate) (s : State) {b′ : List ℕ} {f : Bool} (k : Tried (tallied j t s .now) s b′ f) where

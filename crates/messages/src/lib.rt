@@ -18,7 +18,7 @@ ghost use Rattle.kept.specs.Said.{Sendable};
 ghost use Rattle.words.specs.Meaning.{blockOf};
 ghost use Rattle.acts.specs.Works.{Formed};
 ghost use Rattle.storing.specs.Records.{certifiedAt};
-ghost use Rattle.refusals.specs.Answers.{Answers, Mutely};
+ghost use Rattle.stops.specs.Answers.{Answers, Mutely};
 ghost use Rattle.messages.specs.Votes.{voteFor};
 use store::Cause;
 use store::Found;
@@ -62,7 +62,7 @@ pub fn stated(store: &mut [u8], out: &mut [u8], x: Statement) -> u64
 {
     let plan = plans::planned(store, x);
     if !plans::fits(plan) {
-        return refusals::stop(store, 6, Cause::Full);
+        return stops::stop(store, 6, Cause::Full);
     }
     answers::statement(store, out, 0, x, plan) as u64
 }
@@ -73,7 +73,7 @@ fn counted(store: &mut [u8], block: Certificate, place: Found, voters: Voters) -
     ensures { λ r. ⌜ Mutely (ifRoom (stateOf (now (store .entry))) (inputs.tallied (authorOf voters) (withVoters (votersOf voters) (blockOf block)) (stateOf (now (store .entry))))) (now (store .exit)) r ⌝ }
 {
     if !storing::tallied(store, block, place, voters) {
-        return refusals::stop(store, 6, Cause::Full);
+        return stops::stop(store, 6, Cause::Full);
     }
     0
 }
@@ -85,7 +85,7 @@ fn voted(store: &mut [u8], block: Certificate, author: u64) -> u64
 {
     let place = storing::find_certificate(store, block);
     if storing::used_up(store, place, author) {
-        return refusals::refuse(12);
+        return stops::refuse(12);
     }
     counted(store, block, place, Voters::One(author))
 }

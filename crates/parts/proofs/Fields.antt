@@ -18,13 +18,13 @@ use Rattle.parts.specs.declared.Flaw.the-variants as flaw
 use Rattle.parts.specs.declared.Sort as sorts
 use Rattle.parts.specs.declared.Sort.the-variants as sort
 use Rattle.parts.specs.declared.Sort.the-variants.{Number, Mask}
-use Rattle.text.specs.declared.values.Named.{Named}
-use Rattle.text.specs.declared.values.Named.the-variants as named
+use Rattle.hex_words.specs.declared.Named.{Named}
+use Rattle.hex_words.specs.declared.Named.the-variants as named
 use Rattle.parts.specs.declared.Place.{Place}
 use Rattle.parts.specs.declared.Place.the-variants.{At, Wrong}
 use Rattle.text.specs.declared.Span.{Span}
 use Rattle.text.proofs.Runs.{word-none, word-some}
-use Rattle.text.proofs.Digits.{decimal-most, mask-lt}
+use Rattle.numbers.proofs.Digits.{decimal-most, mask-lt}
 
 pub label-yes : (l s : List ℕ) → sameList (word s) l ≡ true → unlabelled l s ≡ rest s
 unfolding unlabelled

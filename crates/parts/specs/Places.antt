@@ -6,8 +6,8 @@ use lib.ListN.{length, drop}
 use Rattle.fields.specs.declared.Name.{Name}
 use Rattle.fields.specs.Names.{nameOf}
 use Rattle.parts.specs.Fields.{Got, got, wrong, onto, reads, fieldOf}
-use Rattle.text.specs.declared.values.Named as nameds
-use Rattle.text.specs.declared.values.Named.the-variants as named
+use Rattle.hex_words.specs.declared.Named as nameds
+use Rattle.hex_words.specs.declared.Named.the-variants as named
 use Rattle.parts.specs.declared.Sort as sorts
 use Rattle.parts.specs.declared.Sort.the-variants as sort
 use Rattle.parts.specs.declared.Place.{Place}

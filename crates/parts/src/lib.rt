@@ -1,15 +1,15 @@
 // The fields of a line. A field is known by its tag on the wire; a plain number, as those of `fresh` and `tick`, has tag 0.
 use fields::Name;
+use hex_words::Named;
+use numbers::Number;
 use text::Span;
-use text::values;
-use text::values::Named;
-use text::values::Number;
 ghost use mathlib.Core.List.{[]};
 ghost use mathlib.Core.Path.{_≡_};
 ghost use Prim.Native.Nat.{_≤_, _<_};
 ghost use lib.ListN.{length, drop};
 ghost use Rattle.parts.specs.Fields.{says, flawOf, fieldOf, unlabelled};
-ghost use Rattle.text.specs.Places.{WordOf, namedOf};
+ghost use Rattle.text.specs.Places.{WordOf};
+ghost use Rattle.hex_words.specs.Meaning.{namedOf};
 ghost use Rattle.parts.specs.Places.{small, HoldsIn, readsAt, Inside, ended, Field};
 
 // What is wrong with a line: the first word is unknown; a word is missing; a word is too many; a number, hex, a name or a mask isn't
@@ -120,14 +120,14 @@ fn value_of(word: &[u8], sort: Sort) -> Named
 {
     match sort {
         Sort::Number(most) => {
-            let Number::Is(value) = values::decimal(word, most) else {
+            let Number::Is(value) = numbers::decimal(word, most) else {
                 return Named::Not;
             };
             Named::Is(small(value))
         }
-        Sort::Name => values::name(word),
+        Sort::Name => hex_words::name(word),
         Sort::Mask => {
-            let Number::Is(value) = values::mask(word) else {
+            let Number::Is(value) = numbers::mask(word) else {
                 return Named::Not;
             };
             Named::Is(small(value))

@@ -9,7 +9,6 @@ use lib.Dec.{leb, eqb, lit<}
 use borrow.Author.Tests.{eq-eqb, le-leb, lt-leb, eqb-true, leb-true, not-true, not-false}
 use Rattle.rules.specs.Limits.{leastOut}
 use Rattle.rules.specs.Messages.{outgoing}
-use Rattle.rules.specs.Words as words
 use Rattle.rules.specs.Words.{State}
 use Rattle.rules.specs.Refusals.{Outcome, refused, running}
 use Rattle.rules.specs.WellFormed.{wellFormed}
@@ -18,40 +17,22 @@ use Rattle.laws.proofs.Truths.{and-2, both}
 use Rattle.fields.specs.Places.{Bytes}
 use Rattle.store.specs.Layout.{storeLength, sizeIn}
 use Rattle.store.specs.Decode.{stateOf, hasForm}
-use Rattle.store.specs.Meaning.{courseOf, Loads}
-use Rattle.store.specs.declared.Station.{Station}
-use Rattle.store.specs.declared.Phase.{Phase}
-use Rattle.store.specs.declared.Phase.the-variants.{InView, Waiting, Stopped}
-use Rattle.store.proofs.Loaded.{loaded-phase}
+use Rattle.outgoing.proofs.Writing.{wrote-prefix}
+use Rattle.oneform.proofs.Held.{left-bytes}
 use Rattle.formed.proofs.Whole.{formed-decoded, unformed-decoded}
 use Rattle.calls.specs.Calls.{Called, refusal, answered, called, Gives}
 use Rattle.acts.specs.Works.{Formed}
 use Rattle.acts.proofs.Works.{state-size}
-use Rattle.refusals.specs.Answers.{barred, unformed, Checks, Answers}
-use Rattle.refusals.proofs.Answers.{answers-is, answers-gives, refused-short, refused-answers}
+use Rattle.stops.specs.Answers.{Answers}
+use Rattle.stops.proofs.Answers.{answers-is, refused-short, refused-answers}
+use Rattle.refusals.specs.Barred.{barred, unformed, Checks}
 
--- ---- the phase
+-- ---- from an outcome as it stands in the buffers to what a call gives
 
-unfoldable runs : words.Phase → Bool
-runs p = elim p [ words.inView ↦ true | words.waiting q ↦ true | words.stopped c ↦ false ]
-
-module _ (s : Station) (b : List ℕ) (e : Loads s b) where
-  loaded-runs : running (stateOf b) ≡ runs (courseOf (s .phase))
-  unfolding running runs
-  loaded-runs = ap runs (sym (loaded-phase s b e))
-
-  pub not-running : (c : _) → s .phase ≡ Stopped c → false ≡ running (stateOf b)
-  unfolding runs
-  not-running c p = sym (loaded-runs ∙ ap (λ (q : Phase). runs (courseOf q)) p)
-
-  pub is-running : ((c : _) → s .phase ≡ Stopped c → ⊥) → true ≡ running (stateOf b)
-  unfolding runs
-  is-running n = go (s .phase) refl
-    where
-      go : (p : Phase) → s .phase ≡ p → true ≡ running (stateOf b)
-      go InView q = sym (loaded-runs ∙ ap (λ (r : Phase). runs (courseOf r)) q)
-      go (Waiting c) q = sym (loaded-runs ∙ ap (λ (r : Phase). runs (courseOf r)) q)
-      go (Stopped c) q = absurd (n c q)
+module _ {x : Outcome} {o b′ o′ : List ℕ} {r : ℕ} where
+  pub answers-gives : length (outgoing (x .out)) ≤ length o → Answers x o b′ o′ r → Gives (answered x o) r b′ o′
+  unfolding answered
+  answers-gives l a = record { result = a .told; store = left-bytes (a .left); out = a .out ∙ wrote-prefix o (outgoing (x .out)) l }
 
 -- ---- what the check says
 

@@ -20,8 +20,8 @@ use Rattle.chains.specs.Chains.{chains, stir, stirWords, stirName, chainOf, Cha
 use Rattle.chains.proofs.Mixes.{words-name}
 use Rattle.chains.proofs.Walks.{chained-more, walk-start, walk-whole}
 use Rattle.chains.proofs.Apart.{any-same}
-use Rattle.tallied.specs.Tallies.{Keyed}
-use Rattle.tallied.proofs.Hanging.{key-is}
+use Rattle.apart.specs.Tallies.{Keyed}
+use Rattle.apart.proofs.Hanging.{key-is}
 use Rattle.repeats.specs.Repeats.{stirOf, statementChain, isSame}
 
 -- what is the same has the same view, height, name and link

@@ -1,3 +1,1 @@
-pub mod Untaken
-pub mod Turns
 pub mod Reports

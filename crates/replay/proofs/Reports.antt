@@ -23,9 +23,10 @@ use Rattle.store.specs.Layout.{storeLength, sizeIn}
 use Rattle.store.specs.Decode.{decode, stateOf, hasForm}
 use Rattle.formed.proofs.Whole.{formed-decoded, unformed-decoded}
 use Rattle.journal.specs.Journal.{slotCount, slotsOf, isShort}
-use Rattle.replay.specs.Replay.{Replay, replayFrom, told, placesBytes, reportBytes, reportLength, Replayed, replayed, reported, hasLengths, replaying}
-use Rattle.replay.specs.Meaning.{Ended, ended, endOf, Replays}
-use Rattle.replay.specs.declared.Ending.{Ending}
+use Rattle.slot_replay.specs.Fold.{Replay, replayFrom, placesBytes, reportLength}
+use Rattle.replay.specs.Replay.{told, reportBytes, Replayed, replayed, reported, hasLengths, replaying}
+use Rattle.slot_replay.specs.Meaning.{Ended, ended, endOf, Replays}
+use Rattle.slot_replay.specs.declared.Ending.{Ending}
 
 -- ---- lengths
 

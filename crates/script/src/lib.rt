@@ -1,13 +1,11 @@
 // A script from standard input, played to one station; docs/SCRIPT.md has its form.
-use crate::engine::List;
-use crate::stored::Store;
+use engine::List;
 use libc::STDIN_FILENO;
 use said::show;
+use stored::Store;
 
-mod engine;
 mod play;
 mod relay;
-mod stored;
 
 // The most bytes of a line, without its end.
 const LONGEST: usize = 4096;

@@ -1,19 +1,16 @@
 // What each line does to the station.
-use crate::engine;
-use crate::engine::List;
 use crate::relay;
-use crate::stored;
-use crate::stored::Store;
+use engine::List;
 use lines::Line;
 use lines::What;
 use page::Page;
 use said::show;
 use said::show::Out;
 use said::spell;
+use stored::Store;
 
 // Plays a line, and says whether it was one. The bytes of any line of 4,096 have room.
 pub fn line(store: &mut Store, list: &mut List, is_plain: bool, line: &[u8], number: u64) -> bool {
-    engine::look(store, list, is_plain);
     let mut bytes = io::buffer();
     match lines::read_line(line, &mut bytes) {
         Line::Blank => true,
@@ -38,7 +35,7 @@ pub fn line(store: &mut Store, list: &mut List, is_plain: bool, line: &[u8], num
             true
         }
         Line::Display => {
-            wall_display(store, number);
+            asked::wall_display(store, number);
             true
         }
         Line::Bad(flaw) => {
@@ -46,14 +43,6 @@ pub fn line(store: &mut Store, list: &mut List, is_plain: bool, line: &[u8], num
             false
         }
     }
-}
-
-// Prints the answer to a line.
-fn answered(number: u64, what: &[u8], answer: u64, out: &Out) {
-    let mut page = io::buffer();
-    let started = show::start(&mut page, 0, number, what);
-    let end = show::answer(&mut page, started, answer, out);
-    page::finish(&page, end);
 }
 
 // A fresh station, which writes nothing out.
@@ -68,7 +57,7 @@ fn fresh(
 ) {
     let answer = engine::fresh(store, list, is_plain, n, delay, own);
     let out = show::out_buffer();
-    answered(number, b"fresh", answer, &out);
+    asked::answered(number, b"fresh", answer, &out);
 }
 
 // A line with bytes, by what they are.
@@ -84,74 +73,24 @@ fn given(
         What::Message => message(store, list, is_plain, number, bytes),
         What::Offer => offer(store, list, is_plain, number, bytes),
         What::Envelope => relay::hand_over(store, list, is_plain, number, bytes),
-        What::Slip => slip(store, number, bytes),
-        What::Certified { view, height } => certified(store, number, view, height, bytes),
-        What::Choose { first } => choose(store, number, bytes, first),
+        What::Slip => asked::slip(store, number, bytes),
+        What::Certified { view, height } => asked::certified(store, number, view, height, bytes),
+        What::Choose { first } => asked::choose(store, number, bytes, first),
     }
-}
-
-// The slip of a logged block, in hex, which changes nothing.
-fn slip(store: &Store, number: u64, name: &[u8]) {
-    let mut out = show::out_buffer();
-    let answer = slip_writer::slip_write(store, name, &mut out);
-    let mut page = io::buffer();
-    let started = show::start(&mut page, 0, number, b"slip");
-    let end = show::slip(&mut page, started, answer, &out);
-    page::finish(&page, end);
-}
-
-// When a block was certified, which changes nothing.
-fn certified(store: &Store, number: u64, view: u64, height: u64, name: &[u8]) {
-    let answer = certified::station_certified(store, view, height, name);
-    let mut page = io::buffer();
-    let started = show::start(&mut page, 0, number, b"certified");
-    let end = show::certified(&mut page, started, answer);
-    page::finish(&page, end);
-}
-
-// Which of two status messages is to be built on, in a group of as many stations as the store's.
-fn choose(store: &Store, number: u64, bytes: &[u8], first: usize) {
-    let mut page = io::buffer();
-    let started = show::start(&mut page, 0, number, b"choose");
-    let end = chosen(&mut page, started, stored::stations(store), bytes, first);
-    page::finish(&page, end);
-}
-
-// The choice in words, and the certificate part of the one that is taken.
-fn chosen(page: &mut Page, at: usize, n: u64, bytes: &[u8], first: usize) -> usize {
-    if bytes.len() < first {
-        return at;
-    }
-    let one = &bytes[..first];
-    let other = &bytes[first..];
-    let told = match choose::status_choose(0, n, one, other) {
-        1 => page::say(page, at, b": the first # "),
-        2 => page::say(page, at, b": the second # "),
-        _ => page::say(page, at, b": neither # "),
-    };
-    let shown = page::bytes(page, told, choose::choose(0, n, one, other));
-    page::put(page, shown, b'\n')
 }
 
 // A message is handed over.
 pub fn message(store: &mut Store, list: &mut List, is_plain: bool, number: u64, message: &[u8]) {
     let mut out = show::out_buffer();
     let answer = engine::take(store, list, is_plain, 3, message, &mut out);
-    answered(number, b"message", answer, &out);
+    asked::answered(number, b"message", answer, &out);
 }
 
 // A name is offered.
 fn offer(store: &mut Store, list: &mut List, is_plain: bool, number: u64, name: &[u8]) {
     let mut out = show::out_buffer();
     let answer = engine::take(store, list, is_plain, 2, name, &mut out);
-    answered(number, b"offer", answer, &out);
-}
-
-// The wall display, which changes nothing.
-fn wall_display(store: &Store, number: u64) {
-    let mut out = show::out_buffer();
-    let answer = display::station_display(store, &mut out);
-    answered(number, b"display", answer, &out);
+    asked::answered(number, b"offer", answer, &out);
 }
 
 // How far a line of ticks is: what the page has, the clock, the one up to which ticks are told, and whether one was refused.

@@ -1,10 +1,10 @@
 // A relay envelope: every message inside is handed over, in order.
-use crate::engine::List;
 use crate::play;
-use crate::stored::Store;
+use engine::List;
 use page::Page;
 use said::show;
 use said::spell;
+use stored::Store;
 ghost use Prim.Native.Nat.{_+_, _≤_};
 ghost use lib.ListN.{length};
 

@@ -25,7 +25,7 @@ use Rattle.tallies.specs.Values.{voteOf}
 use Rattle.store.specs.Decode.{statementAt, kindAt, voteAt, stateFrom}
 use Rattle.store.specs.Meaning.{headerOf}
 use Rattle.store.specs.declared.Station.{Station}
-use Rattle.heading.specs.Lent.{alone}
+use Rattle.heading.specs.Alone.{alone}
 use Rattle.tallied.proofs.Parts.{lost, kept}
 use Rattle.stated.specs.Stated.{voteInOrder, newViewSaid, proposeSaid}
 

@@ -25,11 +25,12 @@ use Rattle.calls.specs.Calls.{refusal, called, offerCalled, Gives}
 use Rattle.acts.specs.Works.{Formed}
 use Rattle.acts.proofs.Works.{formed-parts}
 use Rattle.acts.proofs.Statements.{handled-stated}
-use Rattle.refusals.specs.Answers.{barred, Answers}
+use Rattle.stops.specs.Answers.{Answers}
+use Rattle.refusals.specs.Barred.{barred}
 use Rattle.offers.specs.Offers.{offerOf}
 use Rattle.offers.specs.declared.Offer.{Offer}
 use Rattle.offers.specs.declared.Offer.the-variants.{Taken, NotTaken}
-use Rattle.refusals.proofs.Answers.{answers-is, refused-answers}
+use Rattle.stops.proofs.Answers.{answers-is, refused-answers}
 use Rattle.refusals.proofs.Opening.{Opened, opened, lent-formed, lent-gives, barred-gives}
 
 -- ---- the rule

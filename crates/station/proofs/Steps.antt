@@ -31,8 +31,9 @@ use Rattle.store.specs.declared.Station.{Station}
 use Rattle.store.proofs.Loaded.{loaded-settings, loaded-view}
 use Rattle.calls.specs.Calls.{stepCalled, Gives}
 use Rattle.acts.specs.Works.{Formed}
-use Rattle.refusals.specs.Answers.{barred, Answers}
-use Rattle.refusals.proofs.Answers.{answers-is, refused-answers}
+use Rattle.stops.specs.Answers.{Answers}
+use Rattle.refusals.specs.Barred.{barred}
+use Rattle.stops.proofs.Answers.{answers-is, refused-answers}
 use Rattle.refusals.proofs.Opening.{Opened, opened, lent-formed, lent-gives, barred-gives}
 
 -- ---- the rule

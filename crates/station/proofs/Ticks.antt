@@ -11,7 +11,8 @@ use Rattle.store.specs.Decode.{stateOf}
 use Rattle.kept.proofs.Outs as outs
 use Rattle.calls.specs.Calls.{tickCalled, Gives}
 use Rattle.acts.specs.Works.{Formed}
-use Rattle.refusals.specs.Answers.{unformed, Answers}
+use Rattle.stops.specs.Answers.{Answers}
+use Rattle.refusals.specs.Barred.{unformed}
 use Rattle.refusals.proofs.Opening.{Lent, lent, lent-formed, lent-gives, unformed-gives}
 
 module _ (b o : List ℕ) {n : ℕ} (e : n ≡ unformed b o) where

@@ -22,17 +22,17 @@ pub extern "C" fn station_step(store: &mut [u8], message: &[u8], out: &mut [u8])
 {
     let number = refusals::barred(store, out);
     if number != 0 {
-        return refusals::refuse(number);
+        return stops::refuse(number);
     }
     let Read::Readable(m) = reading::read_message(message) else {
-        return refusals::refuse(4);
+        return stops::refuse(4);
     };
     let station = Station::load(store);
     if !allowed::message_allowed(station.settings, m) {
-        return refusals::refuse(5);
+        return stops::refuse(5);
     }
     if messages::is_ahead(station.view, m) {
-        return refusals::refuse(11);
+        return stops::refuse(11);
     }
     messages::handled(store, out, m)
 }
@@ -43,14 +43,14 @@ pub extern "C" fn station_offer(store: &mut [u8], name: &[u8], out: &mut [u8]) -
     ensures { λ r. ⌜ Gives (offerCalled (now (name .entry)) (now (store .entry)) (now (out .entry))) r (now (store .exit)) (now (out .exit)) ⌝ }
 {
     if name.len() != 32 {
-        return refusals::refuse(1);
+        return stops::refuse(1);
     }
     let number = refusals::barred(store, out);
     if number != 0 {
-        return refusals::refuse(number);
+        return stops::refuse(number);
     }
     let Offer::Taken(x) = offers::offered(store, fields::get_name(name, 0)) else {
-        return refusals::refuse(9);
+        return stops::refuse(9);
     };
     messages::stated(store, out, x)
 }
@@ -63,7 +63,7 @@ pub extern "C" fn station_tick(store: &mut [u8], out: &mut [u8]) -> u64
     let mut told = [0u16; Settings::MOST_STATEMENTS_LARGE];
     let number = refusals::checked(store, out, &mut told);
     if number != 0 {
-        return refusals::refuse(number);
+        return stops::refuse(number);
     }
     ticks::ticked(store, out, &told)
 }

@@ -9,7 +9,7 @@ ghost use Rattle.settings.specs.Made.{settingsOf};
 ghost use Rattle.store.specs.Layout.{sizeIn, storeLength, tallyTable};
 ghost use Rattle.tallies.specs.Values.{openerOf, reachedFrom};
 ghost use Rattle.store.specs.Decode.{tallyAt, tallies};
-ghost use Rattle.heading.specs.Lent.{Counts};
+ghost use Rattle.form.specs.Lent.{Counts};
 use super::block;
 use settings::Settings;
 use store::HEIGHT;

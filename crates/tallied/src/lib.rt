@@ -1,5 +1,3 @@
-// The tallies of a lent store: allowed, apart, and no author with more of them than one may open.
-pub mod apart;
+// The tallies of a lent store, each allowed for its settings, and the block that a record begins with.
 pub mod block;
 pub mod good;
-pub mod openers;

@@ -3,17 +3,11 @@ use Prim.Native.Nat.{ℕ, suc, _-_, _≤_}
 use mathlib.Core.Path.{_≡_}
 use mathlib.Core.Bool.{true, false}
 use mathlib.Core.List.{List, [], _∷_}
-use mathlib.Core.Option.{Option, none, some}
 use lib.ListN.{length, take, drop}
 use Rattle.rules.specs.Script.{sameList}
-use Rattle.fields.specs.Names.{nameOf}
 use Rattle.text.specs.Words.{word, rest, noWord, passes, front, behind}
 use Rattle.text.specs.declared.Over.{Over}
 use Rattle.text.specs.declared.Span.{Span}
-use Rattle.text.specs.declared.values.Number as numbers
-use Rattle.text.specs.declared.values.Number.the-variants as number
-use Rattle.text.specs.declared.values.Named as nameds
-use Rattle.text.specs.declared.values.Named.the-variants as named
 
 -- a run of s from a place up to r
 pub record Runs (over : Over) (s : List ℕ) (from r : ℕ) : Type 0 where
@@ -39,12 +33,3 @@ unfoldable pub placed : ℕ → List (List ℕ) → List ℕ → ℕ
 unfolding sameList
 placed k [] w = 0
 placed k (x ∷ xs) w = elim (sameList x w) [ true ↦ k | false ↦ placed (suc k) xs w ]
-
--- what a word says
-abbrev pub numberOf : numbers.Number → Option ℕ
-numberOf (number.Is v) = some v
-numberOf number.Not = none
-
-abbrev pub namedOf : nameds.Named → Option ℕ
-namedOf (named.Is n) = some (nameOf n)
-namedOf named.Not = none

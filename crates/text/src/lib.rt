@@ -7,8 +7,6 @@ ghost use Rattle.rules.specs.Script.{sameList};
 ghost use Rattle.text.specs.Words.{isSpace, passes as passed};
 ghost use Rattle.text.specs.Places.{Runs, WordOf, Lists, placed};
 
-pub mod values;
-
 // A part of a line, from start up to end: empty where no word was found.
 pub struct Span {
     pub start: usize,

@@ -27,7 +27,7 @@ use Rattle.reports.specs.Gains.{grownLog}
 use Rattle.turns.proofs.Parts.{complain-calm}
 use Rattle.turns.proofs.Leading.{lead-never}
 use Rattle.turns.proofs.Arriving.{enter-not}
-use Rattle.refusals.specs.Answers.{Answers}
+use Rattle.stops.specs.Answers.{Answers}
 use Rattle.moves.specs.Turns.{later, growing, turning, Calm, Calmly}
 use Rattle.moves.proofs.Turns.{never-next}
 use Rattle.moves.proofs.Calming.{next-state}

@@ -25,11 +25,11 @@ use Rattle.merging.specs.declared.Merged.the-variants.{Grown}
 use Rattle.acts.specs.Works.{Formed, Works}
 use Rattle.acts.proofs.Works.{formed-parts}
 use Rattle.reports.specs.Gains.{grownLog}
-use Rattle.refusals.specs.Answers.{Answers, Mutely}
+use Rattle.stops.specs.Answers.{Answers, Mutely}
 use Rattle.moves.specs.Turns.{later, turning, Clear}
 use Rattle.moves.proofs.Turns.{turning-room, turning-ticked}
-use Rattle.refusals.proofs.Answers.{answers-is, refused-answers}
-use Rattle.refusals.proofs.Stops.{room-answers, full-answers}
+use Rattle.stops.proofs.Answers.{answers-is, refused-answers}
+use Rattle.stops.proofs.Stops.{room-answers, full-answers}
 
 -- ---- what the commits answer
 

@@ -8,7 +8,7 @@ ghost use Rattle.store.specs.Decode.{stateOf};
 ghost use Rattle.linked.specs.Told.{Told};
 ghost use Rattle.glance.specs.Looks.{Seen};
 ghost use Rattle.acts.specs.Works.{Formed};
-ghost use Rattle.refusals.specs.Answers.{Answers};
+ghost use Rattle.stops.specs.Answers.{Answers};
 ghost use Rattle.moves.specs.Turns.{Calmly};
 ghost use Rattle.ticks.specs.Decided.{Running};
 use glance::Glance;
@@ -32,14 +32,14 @@ fn busy(
     let mut gained = [0u16; Settings::MOST_STATEMENTS_LARGE];
     let merged = commit::commits(store, station, told, glance.settled, &mut gained);
     let Merged::Grown(len) = merged else {
-        return refusals::stop(store, 7, Cause::Split);
+        return stops::stop(store, 7, Cause::Split);
     };
     let clock = station.clock + 1;
     if calm {
         return moves::growing(store, out, clock, &gained, len) as u64;
     }
     if !moves::next_fits(store, station) {
-        return refusals::stop(store, 6, Cause::Full);
+        return stops::stop(store, 6, Cause::Full);
     }
     moves::turning(store, out, clock, &gained, len, glance.votes) as u64
 }
@@ -54,11 +54,11 @@ pub fn ticked(
     ensures { λ r. ⌜ Answers (tick (stateOf (now (store .entry)))) (now (out .entry)) (now (store .exit)) (now (out .exit)) r ⌝ }
 {
     let station = Station::load(store);
-    if !refusals::is_running(store, station) {
-        return refusals::refuse(3);
+    if !stops::is_running(store, station) {
+        return stops::refuse(3);
     }
     if station.clock as u64 == Settings::LAST_CLOCK {
-        return refusals::stop(store, 8, Cause::Clock);
+        return stops::stop(store, 8, Cause::Clock);
     }
     let glance = glance::look(store, station, told);
     let calm = moves::is_calm(store, station, glance.votes);

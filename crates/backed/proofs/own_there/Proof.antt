@@ -5,7 +5,7 @@ use Rattle.backed.proofs.own_there.Statement.{statement}
 use Rattle.backed.proofs.own_there.Tie as tie
 use Rattle.backed.proofs.own_there.Reads as reads
 use Rattle.backed.proofs.own_there.Lts as lts
-use Rattle.tallied.proofs.apart.has_tally.Reads as has-tally-reads
+use Rattle.apart.proofs.has_tally.Reads as has-tally-reads
 
 -- src/there.rt:130:9
 returns : tie.Need-returns

@@ -9,7 +9,7 @@ use Rattle.backed.proofs.there.Tie as tie
 use Rattle.backed.proofs.there.Reads as reads
 use Rattle.backed.proofs.there.Lts as lts
 use Rattle.backed.proofs.own_there.Reads as own-there-reads
-use Rattle.tallied.proofs.apart.has_tally.Reads as has-tally-reads
+use Rattle.apart.proofs.has_tally.Reads as has-tally-reads
 
 -- src/there.rt:150:9
 own-there-requires : tie.Need-own-there-requires

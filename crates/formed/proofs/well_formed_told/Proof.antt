@@ -7,8 +7,8 @@ use Rattle.formed.proofs.well_formed_told.Reads as reads
 use Rattle.formed.proofs.well_formed_told.Lts as lts
 use Rattle.chains.proofs.salt.Reads as salt-reads
 use Rattle.formed.proofs.tables_good.Reads as tables-good-reads
-use Rattle.heading.proofs.form.has_form.Reads as has-form-reads
-use Rattle.heading.proofs.header.header_good.Reads as header-good-reads
+use Rattle.form.proofs.has_form.Reads as has-form-reads
+use Rattle.heading.proofs.header_good.Reads as header-good-reads
 use Rattle.stated.proofs.all_good.Reads as all-good-reads
 use Rattle.store.proofs.Station.load.Reads as load-reads
 

@@ -6,7 +6,7 @@ use Rattle.fields.proofs.Laws.{number-split}
 use Rattle.fields.specs.Places.{number}
 use Rattle.rules.specs.Limits.{small}
 use lib.Dec.{eqb}
-use Prim.Native.Nat.{ℕ, _+_, _%_}
+use Prim.Native.Nat.{ℕ, _+_, _*_}
 use native.Mathlib.Omega.{arith}
 use mathlib.Core.Path.{ap, _∙_}
 use borrow.Author.Needs.{needs}
@@ -28,17 +28,47 @@ add-low-3 c = search needs
 get-requires : tie.Need-get-requires
 get-requires c κs = search needs
 
-cast-result : tie.Need-cast-result
-cast-result c = search needs
+add-get : tie.Need-add-get
+add-get c = search needs
+
+get-requires-2 : tie.Need-get-requires-2
+get-requires-2 c κs = search needs
+
+mul-result : tie.Need-mul-result
+mul-result c = omega (arith, c .get2 .ensures .1)
+
+add-result : tie.Need-add-result
+add-result c = omega (arith, c .before .get .ensures .1, c .get2 .ensures .1)
+
+turned-requires : tie.Need-turned-requires
+turned-requires c κs = search needs
 
 returns : tie.Need-returns
 unfolding statementAt
 returns c =
-    let a = c .before .before .args in
+    let a = c .before .before .before .before .args in
+    let b = a .store .now in
     let at = placeOf statementTable small (a .i) + 0 in
-    ap (λ (low : ℕ). eqb low (a .view % 65_536)) (c .get .ensures .0)
-    ∙ lower-half _ (a .view) (number (a .store .now) at 2) (number (a .store .now) (at + 2) 2) (number-split (a .store .now) at 2 2) (omega (arith, c .get .ensures .0, c .get .ensures .1)) (c .before .before .pre .2) (c .before .before .pre .3)
+    let first = c .before .before .get in
+    let second = c .before .get2 in
+    let halves = number-split b at 2 2 in
+    let bytes = number-split b (at + 2) 1 1 in
+    ap (λ (t : ℕ). eqb (first .result + 256 * second .result) t) (c .turned .ensures)
+    ∙ lower-half _ (a .view) (number b at 2) (first .result) (second .result) (omega (arith, halves, bytes, first .ensures .0, second .ensures .0)) (omega (arith, first .ensures .1))
+    (omega (arith, second .ensures .1)) (c .before .before .before .before .pre .2) (c .before .before .before .before .pre .3)
 
 pub is-of-view-spec : {M : Type 1} → statement M
 is-of-view-spec =
-    tie.close (tie.spec mul-low add-low add-low-2 add-low-3 get-requires cast-result returns)
+    tie.close
+    (tie.spec
+    mul-low
+    add-low
+    add-low-2
+    add-low-3
+    get-requires
+    add-get
+    get-requires-2
+    mul-result
+    add-result
+    turned-requires
+    returns)

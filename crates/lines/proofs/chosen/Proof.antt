@@ -5,7 +5,7 @@ use Rattle.text.specs.Words.{word, pairs}
 use Rattle.parts.specs.Fields.{got}
 use Rattle.lines.specs.Script.{hex}
 use Rattle.text.proofs.Runs.{word-none, word-some, word-length}
-use Rattle.text.proofs.Digits.{length-pairs}
+use Rattle.hex_words.proofs.Hex.{length-pairs}
 use Rattle.lines.proofs.Replies.{nothing-bad, unchanged, too-long, written-good, chosen-missing, chosen-not, chosen-wrong, chosen-both}
 use Prim.Native.Nat.{ℕ, _/_}
 use mathlib.Core.Path.{_≡_, refl, sym, ap, ap₂, _∙_}

@@ -1,6 +1,6 @@
 -- `lines::hex` meets its contract. Assumes nothing.
 use Rattle.text.proofs.Runs.{word-length}
-use Rattle.text.proofs.Digits.{length-pairs}
+use Rattle.hex_words.proofs.Hex.{length-pairs}
 use Rattle.lines.proofs.Replies.{hex-wrong, hex-long, hex-good}
 use Rattle.text.specs.Words.{pairs, word}
 use Prim.Native.Nat.{ℕ, _/_}

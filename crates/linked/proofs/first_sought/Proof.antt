@@ -3,7 +3,7 @@ use mathlib.Core.Path.{_≡_, sym, _∙_}
 use native.Mathlib.Omega.{arith}
 use Rattle.laws.proofs.Bounds.{statements-most}
 use Rattle.store.specs.Layout.{sizeIn}
-use Rattle.heading.proofs.Forms.{few-statements}
+use Rattle.form.proofs.Forms.{few-statements}
 use Rattle.chains.proofs.Walks.{walk-less}
 use Rattle.linked.proofs.Parts.{sought-any, sought-above}
 use Rattle.linked.proofs.Heights.{Seeking, seek-start, seek-here, seek-on, seek-end}

@@ -2,7 +2,7 @@
 use Prim.Native.Nat.{_-_, _+_, _%_, _≤_}
 use mathlib.Core.Path.{_≡_, ap}
 use native.Mathlib.Omega.{arith}
-use Rattle.heading.proofs.Forms.{few-statements}
+use Rattle.form.proofs.Forms.{few-statements}
 use Rattle.chains.specs.Chains.{chains, Chained}
 use Rattle.chains.proofs.Walks.{chained-none, chained-more}
 use Rattle.linked.specs.Links.{heightChain}

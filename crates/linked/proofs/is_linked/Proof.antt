@@ -4,7 +4,7 @@ use mathlib.Core.Path.{_≡_, refl, sym, _∙_}
 use native.Mathlib.Omega.{arith}
 use Rattle.rules.specs.WellFormed.{linked}
 use Rattle.store.specs.Decode.{statements, names}
-use Rattle.heading.proofs.Forms.{few-names, few-statements}
+use Rattle.form.proofs.Forms.{few-names, few-statements}
 use Rattle.linked.proofs.Parts.{linkedFrom, linked-start, linked-end, linked-here, linked-next}
 use Rattle.linked.proofs.Heights.{link-none, link-some}
 use Rattle.linked.proofs.Telling.{SoFar, so-far-none, so-far-less, so-far-more}

@@ -3,7 +3,7 @@ use native.Mathlib.Omega.{arith}
 use Rattle.wire.specs.Meaning.{messageOf}
 use Rattle.words.specs.Meaning.{blockOf}
 use Rattle.store.specs.Decode.{stateOf}
-use Rattle.refusals.proofs.Answers.{answers-is}
+use Rattle.stops.proofs.Answers.{answers-is}
 use Rattle.messages.proofs.Handling.{stated-handled, vote-handled, status-handled, blame-handled, set-handled, stated-sendable, vote-author, blame-author, set-mask}
 use Rattle.kept.proofs.Facts.{clocks-of}
 use Rattle.acts.proofs.Works.{formed-parts}

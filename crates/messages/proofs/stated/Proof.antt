@@ -7,7 +7,7 @@ use Rattle.wire.specs.Meaning.{statementOf}
 use Rattle.store.specs.Decode.{stateOf}
 use Rattle.plans.proofs.Plans.{plan-room}
 use Rattle.acts.proofs.Works.{formed-parts}
-use Rattle.refusals.proofs.Stops.{room-answers, full-answers}
+use Rattle.stops.proofs.Stops.{room-answers, full-answers}
 use borrow.Author.Needs.{needs}
 use Rattle.messages.proofs.stated.Statement.{statement}
 use Rattle.messages.proofs.stated.Tie as tie

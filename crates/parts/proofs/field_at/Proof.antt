@@ -1,7 +1,7 @@
 -- `parts::field_at` meets its contract. Assumes nothing.
 use Rattle.parts.proofs.Fields.{field-wrong, field-missing, field-not, field-is}
 use Rattle.parts.specs.Fields.{flawOf}
-use Rattle.text.specs.Places.{namedOf}
+use Rattle.hex_words.specs.Meaning.{namedOf}
 use Rattle.parts.specs.declared.Place.the-variants.{Wrong}
 use mathlib.Core.Path.{sym, ap, _∙_}
 use borrow.Author.Needs.{needs}

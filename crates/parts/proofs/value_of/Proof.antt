@@ -1,7 +1,7 @@
 -- `parts::value_of` meets its contract: by the sort. Assumes nothing.
 use Rattle.parts.proofs.Fields.{says-number, says-mask, holds-name}
 use Rattle.parts.specs.Fields.{says}
-use Rattle.text.specs.Places.{numberOf}
+use Rattle.numbers.specs.Meaning.{numberOf}
 use mathlib.Core.Path.{sym, ap, _∙_}
 use borrow.Author.Needs.{needs}
 use Rattle.parts.proofs.value_of.Statement.{statement}

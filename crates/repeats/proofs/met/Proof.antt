@@ -2,7 +2,7 @@ use Rattle.repeats.specs.Repeats.{isSame}
 use Rattle.store.specs.Decode.{statementAt}
 use Rattle.chains.proofs.Walks.{walk-end, walk-less, walk-on, walk-here, walk-next}
 use Rattle.chains.specs.Chains.{behind, Walk}
-use Rattle.heading.proofs.Forms.{few-statements}
+use Rattle.form.proofs.Forms.{few-statements}
 use Rattle.rules.specs.Lists.{any}
 use native.Mathlib.Omega.{arith}
 use mathlib.Core.Path.{_≡_, refl, sym, _∙_}

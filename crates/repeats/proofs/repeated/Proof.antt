@@ -1,5 +1,5 @@
 use Rattle.repeats.proofs.Hanging.{met-start, met-is, met-hangs}
-use Rattle.heading.proofs.Forms.{few-statements}
+use Rattle.form.proofs.Forms.{few-statements}
 use Rattle.laws.proofs.Tests.{no-bool}
 use native.Mathlib.Omega.{arith}
 use mathlib.Core.Path.{sym, _∙_}

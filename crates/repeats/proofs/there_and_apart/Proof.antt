@@ -6,7 +6,7 @@ use Rattle.repeats.specs.Repeats.{statementChain}
 use Rattle.chains.proofs.Apart.{whole-rows, all-not, distinct-not}
 use Rattle.chains.proofs.Walks.{chained-none}
 use Rattle.chains.specs.Chains.{chainOf, stir, Chained}
-use Rattle.heading.proofs.Walks.{all-end, all-next, distinct-end, distinct-next}
+use Rattle.form.proofs.Walks.{all-end, all-next, distinct-end, distinct-next}
 use Rattle.store.specs.Decode.{rows, statementAt, statements, tallies}
 use Rattle.rules.specs.WellFormed.{talliesThere}
 use Rattle.rules.specs.Words.{sameStatement}

@@ -5,8 +5,8 @@ use borrow.Author.Tests.{not-true, not-false}
 use Rattle.rules.specs.WellFormed.{statementGood}
 use Rattle.rules.specs.Lists.{all}
 use Rattle.store.specs.Decode.{rows, statementAt, statements}
-use Rattle.heading.specs.Lent.{alone}
-use Rattle.heading.proofs.Walks.{rows-whole, all-end, all-here, all-next}
+use Rattle.heading.specs.Alone.{alone}
+use Rattle.form.proofs.Walks.{rows-whole, all-end, all-here, all-next}
 use borrow.Author.Needs.{needs}
 use Rattle.stated.proofs.all_good.Statement.{statement}
 use Rattle.stated.proofs.all_good.Tie as tie

@@ -13,9 +13,6 @@ use Rattle.script.proofs.play.line.Tie as tie
 within : {r line : Line} {room room′ : ℕ} → r ≡ line → filled r ≤ room → room′ ≡ room → filled line ≤ room′
 within e f k = omega (arith, rw e at f)
 
-look-requires : tie.Need-look-requires
-look-requires c κs = search needs
-
 buffer-requires : tie.Need-buffer-requires
 buffer-requires c κs = search needs
 
@@ -104,7 +101,6 @@ pub line-spec : {M : Type 1} → statement M
 line-spec =
     tie.close
     (tie.spec
-    look-requires
     buffer-requires
     slice-aggregate-read-line
     read-line-requires

@@ -6,7 +6,7 @@ use Rattle.rules.specs.WellFormed.{tallyGood}
 use Rattle.rules.specs.Lists.{all}
 use Rattle.settings.specs.Made.{settingsOf}
 use Rattle.store.specs.Decode.{rows, tallyAt, tallies}
-use Rattle.heading.proofs.Walks.{rows-whole, all-end, all-here, all-next}
+use Rattle.form.proofs.Walks.{rows-whole, all-end, all-here, all-next}
 use borrow.Author.Needs.{needs}
 use Rattle.tallied.proofs.good.all_good.Statement.{statement}
 use Rattle.tallied.proofs.good.all_good.Tie as tie

@@ -1,0 +1,46 @@
+-- `stored::entries` is safe and ends. Assumes nothing.
+use Prim.Native.Nat.{_-_}
+use borrow.Author.Needs.{needs}
+use Rattle.stored.proofs.entries.Statement.{statement}
+use Rattle.stored.proofs.entries.Tie as tie
+
+abbrev Inv-loop : tie.InvT-loop
+Inv-loop page₀ at names count end₀ i₀ page end i = Unit {0}
+
+abbrev μ-loop : tie.MeasureT-loop
+μ-loop page₀ at names count end₀ i₀ page end i = count - i
+
+loop-holds : tie.Need-loop-holds Inv-loop μ-loop
+loop-holds c = search needs
+
+entry-requires : tie.Need-entry-requires Inv-loop μ-loop
+entry-requires c κs = search needs
+
+add-i : tie.Need-add-i Inv-loop μ-loop
+add-i c = search needs
+
+loop-less : tie.Need-loop-less Inv-loop μ-loop
+loop-less c = search needs
+
+loop-again : tie.Need-loop-again Inv-loop μ-loop
+loop-again c = search needs
+
+returns : tie.Need-returns Inv-loop μ-loop
+returns c = search needs
+
+returns-2 : tie.Need-returns-2 Inv-loop μ-loop
+returns-2 c = search needs
+
+pub entries-spec : {M : Type 1} → statement M
+entries-spec =
+    tie.close
+    (tie.spec
+    Inv-loop
+    μ-loop
+    loop-holds
+    entry-requires
+    add-i
+    loop-less
+    loop-again
+    returns
+    returns-2)
