@@ -61,6 +61,7 @@ pub fn kinds(script: &[Input], settings: Settings, runs: usize) -> [Times; Kind:
 /// The least time of each input over some runs, without the time of looking at the clock.
 fn least(script: &[Input], settings: Settings, runs: usize) -> Vec<Times> {
     let mut least = vec![[f64::MAX; COLUMNS]; script.len()];
+    let mut ticks = vec![[f64::MAX; 2]; script.len()];
     for _ in 0..runs {
         let mut checks = Vec::with_capacity(script.len());
         let proved = each(script, settings, |program, _| checks.push(check(program)));
@@ -69,9 +70,12 @@ fn least(script: &[Input], settings: Settings, runs: usize) -> Vec<Times> {
         for (place, least) in least.iter_mut().enumerate() {
             lessen(least, [proved[place], checks[place], lent[place], second[place]]);
         }
+        tick_and_refuse(script, settings, &mut ticks);
     }
-    for (times, added) in least.iter_mut().zip(added(script, settings, TURNS * runs)) {
-        times[CHECK] = added.map_or(times[CHECK], |added| times[PROVED] - added);
+    for ((input, times), [ticked, refused]) in script.iter().zip(&mut least).zip(ticks) {
+        if input.kind == Kind::Tick {
+            times[CHECK] = times[PROVED] - (ticked - refused);
+        }
     }
     let nothing = (0..1000).map(|_| timed(|| ())).fold(f64::MAX, f64::min);
     least.into_iter().map(|times| times.map(|time| time - nothing)).collect()
@@ -86,30 +90,27 @@ fn check(program: &mut Proved) -> f64 {
 /// How often a tick is made in a run where what it adds is measured.
 const TURNS: usize = 4;
 
-/// What each tick adds to the check of its store: the same store is ticked, and as that of a stopped station refused right
-/// after the check. Both lie at one place, so that no other place in memory makes a difference.
-fn added(script: &[Input], settings: Settings, turns: usize) -> Vec<Option<f64>> {
+/// The least times by which what each tick adds to the check of its store is told: the same store is ticked, and as that of
+/// a stopped station refused right after the check. Both lie at one place, so that no other place in memory makes a
+/// difference.
+fn tick_and_refuse(script: &[Input], settings: Settings, least: &mut [[f64; 2]]) {
     let mut program = fresh::<Proved>(settings);
     let mut place = vec![0; SIZE.store_length()];
     let mut out = vec![0; SIZE.out_length()];
-    let mut added = Vec::with_capacity(script.len());
-    for input in script {
-        added.push((input.kind == Kind::Tick).then(|| {
+    for (input, least) in script.iter().zip(least) {
+        if input.kind == Kind::Tick {
             let stopped = program.stopped();
-            let mut least = [f64::MAX; 2];
-            for _ in 0..turns {
+            for _ in 0..TURNS {
                 let times = [&program, &stopped].map(|program| {
                     place.copy_from_slice(program.station().store());
                     black_box(ffi::step(&mut place, &[], &mut out));
                     timed(|| ffi::tick(&mut place, &mut out))
                 });
-                lessen(&mut least, times);
+                lessen(least, times);
             }
-            least[0] - least[1]
-        }));
+        }
         black_box(input.call.give(&mut program).number);
     }
-    added
 }
 
 /// The times per input of some of the inputs.
