@@ -50,12 +50,12 @@ done
 echo "three journals as scripts print what the second program says, and the same log"
 
 # printed messages as lines of a script: the words, and the bytes behind the field's head, each to a fresh station
-grep -E '^  to ' "$place/all.txt" | head -n 2000 >"$place/messages.txt"
+grep -E '^  to ' "$place/all.txt" | sed -n '1,2000p' >"$place/messages.txt"
 sed -E 's/^  to [a-z0-9]+: /fresh 3 2 0\n/' "$place/messages.txt" >"$place/words.txt"
 sed -E 's/^  to (all: .* # 10.{4}|[0-9]+: .* # 11.{6})/fresh 3 2 0\nmessage /' "$place/messages.txt" >"$place/hex.txt"
 for form in words hex; do tools/play "$place/$form.txt" >"$place/$form.played"; done
 cmp "$place/words.played" "$place/hex.played"
-tail -n 1 "$place/words.played" | grep -q ' 0 bad$'
+tail -n 1 "$place/words.played" | grep ' 0 bad$' >/dev/null
 echo "$(wc -l <"$place/messages.txt") printed messages are taken again, in words and in hex alike"
 
 # README shows the first script, and what it prints with the hex cut short
