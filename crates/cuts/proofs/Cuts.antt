@@ -21,7 +21,7 @@ use Rattle.slot_replay.specs.Fold.{replayFrom}
 use Rattle.replay.specs.Replay.{replayed, reported, hasLengths, replaying}
 use Rattle.cuts.specs.Disk.{Try, Proper, tryIn, trying, tryAll, Zeroed}
 use Rattle.cuts.specs.After.{isUntouched, isComplete, completed, AllTaken, replayOf, Filled}
-use Rattle.cuts.proofs.Places.{length-slot}
+use Rattle.journal.proofs.Places.{length-slot}
 use Rattle.cuts.proofs.Stored.{stored-all}
 use Rattle.cuts.proofs.Tries.{slots-after}
 use Rattle.cuts.proofs.Replays.{replay-laid, completed-is}

@@ -1,4 +1,3 @@
-pub mod Places
 pub mod Stored
 pub mod Tries
 pub mod Replays

@@ -13,7 +13,7 @@ use Rattle.slots.specs.Slots.{slotLength, recordBytes, judged, Slot, blank, tor
 use Rattle.journal.specs.Journal.{slotCount, slotAt, withSlot, slotsFrom, slotsOf, free, nowhere, Room, roomFrom, roomIn}
 use Rattle.cuts.specs.Disk.{Try, Proper, storing, tryIn, trying, tryAll, Zeroed}
 use Rattle.cuts.specs.After.{isUntouched, isComplete, laid}
-use Rattle.cuts.proofs.Places.{length-slot, count-with, slot-here, slot-before, slot-behind, slots-same, slots-split}
+use Rattle.journal.proofs.Places.{length-slot, count-with, slot-here, slot-before, slot-behind, slots-same, slots-split}
 use Rattle.cuts.proofs.Stored.{length-storing, stored-some, stored-whole}
 
 -- slots in use, with so many records in them, and blank ones behind

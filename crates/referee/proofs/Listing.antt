@@ -25,7 +25,7 @@ use Rattle.slots.proofs.Inputs.{input-fits}
 use Rattle.slots.proofs.Records.{length-record}
 use Rattle.slot_reader.proofs.OneForm.{judged-blank, reads-back}
 use Rattle.journal.specs.Journal.{slotCount, slotAt, withSlot, slotsFrom, slotsOf}
-use Rattle.cuts.proofs.Places.{length-with, count-with, slot-here, slot-before, slot-behind, slots-same, slots-split}
+use Rattle.journal.proofs.Places.{length-with, count-with, slot-here, slot-before, slot-behind, slots-same, slots-split}
 use Rattle.lent_list.specs.Lists.{Input, tick, offer, message, kindOf, bytesOf, inputOf, headLength, mostSlots, recordsIn, slotsIn, hasLength, settingsIn, countIn, isPlaced, arePlaced, hasForm, inputsIn, inputsOf, freshList, isFull, added}
 use Rattle.lent_list.proofs.Lengths.{lengths}
 use Rattle.lent_list.proofs.Made.{settings-fit}

@@ -1,7 +1,6 @@
 // Outgoing fields in words: any bytes can be shown, and each field goes by its own length.
 ghost use Prim.Native.Nat.{_≤_, _<_};
 ghost use lib.ListN.{length};
-use crate::spell;
 use page::Page;
 use wire::Read;
 

@@ -3,7 +3,6 @@ ghost use mathlib.Core.Path.{_≡_};
 ghost use lib.ListN.{length};
 ghost use Rattle.rules.specs.Limits.{leastOutSmall};
 use crate::sent;
-use crate::spell;
 use page::Page;
 use parts::Flaw;
 use settings::Settings;
@@ -28,7 +27,7 @@ pub fn start(page: &mut Page, at: usize, line: u64, what: &[u8]) -> usize {
     page::say(page, marked, what)
 }
 
-// The reasons of refusals, in the words of 01 and 02; of a number that is none of theirs nothing is said.
+// The reasons of refusals, in the words of 01 and 02.
 pub fn reason(page: &mut Page, at: usize, refusal: u64) -> usize {
     match refusal {
         1 => page::say(
@@ -49,6 +48,13 @@ pub fn reason(page: &mut Page, at: usize, refusal: u64) -> usize {
         8 => page::say(page, at, b" tick at clock 4,000,000,000\n"),
         9 => page::say(page, at, b" offer not to be taken\n"),
         10 => page::say(page, at, b" bad settings for a fresh store\n"),
+        _ => later_reason(page, at, refusal),
+    }
+}
+
+// Those of 02; of a number that is none of theirs nothing is said.
+fn later_reason(page: &mut Page, at: usize, refusal: u64) -> usize {
+    match refusal {
         11 => page::say(
             page,
             at,
@@ -116,6 +122,44 @@ pub fn certified(page: &mut Page, at: usize, answer: u64) -> usize {
     }
     let told = spell::number(page, at, b": at clock ", answer - 1);
     page::put(page, told, b'\n')
+}
+
+// A tick, by the clock that it leads to, without its answer.
+pub fn tick(page: &mut Page, at: usize, number: u64, clock: u64) -> usize {
+    let started = start(page, at, number, b"tick ");
+    page::decimal(page, started, clock)
+}
+
+// Ticks that said nothing: those behind one clock, up to another.
+pub fn quiet(page: &mut Page, at: usize, number: u64, from: u64, to: u64) -> usize {
+    if to <= from {
+        return at;
+    }
+    if to - from == 1 {
+        let named = tick(page, at, number, to);
+        return page::say(page, named, b": 0 done, 0 bytes\n");
+    }
+    let started = start(page, at, number, b"ticks ");
+    let first = page::decimal(page, started, from + 1);
+    let last = spell::number(page, first, b" to ", to);
+    page::say(page, last, b": 0 done, 0 bytes each\n")
+}
+
+// A line with an envelope: how many messages are in it, or the refusal.
+pub fn envelope(line: u64, answer: u64) {
+    let mut page = io::buffer();
+    let started = start(&mut page, 0, line, b"envelope");
+    let end = messages(&mut page, started, answer);
+    page::finish(&page, end);
+}
+
+// The answer to an envelope, in words.
+fn messages(page: &mut Page, at: usize, answer: u64) -> usize {
+    let number = refusal(answer);
+    if number != 0 {
+        return refused(page, at, number);
+    }
+    counted(page, at, answer, b" messages\n")
 }
 
 // What is wrong with a line.

@@ -5,7 +5,6 @@ ghost use Prim.Native.Nat.{_/_, _<_};
 ghost use Rattle.store.specs.Layout.{smallLength};
 use page::Page;
 use said::show;
-use said::spell;
 use settings::Settings;
 use store::Cause;
 use store::Phase;

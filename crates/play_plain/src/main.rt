@@ -1,4 +1,0 @@
-// Plays a script from standard input to the plain engine.
-fn main() {
-    script::run(true);
-}
