@@ -24,7 +24,7 @@ for own in 0 1 2; do
 done
 echo "both examples do as docs/HOST.md says"
 
-# the long ones beside the others; the plain engine beside both on 01's bench, at the limits and with wrong parents, up to 250
+# the long one beside the others; the plain engine beside both on 01's bench, at the limits and with wrong parents, up to 250
 # inputs each
 "$built/compare" >"$place/compare.txt" 2>&1 &
 compared=$!

@@ -34,8 +34,10 @@ echo "20 random runs print what the second program says"
 
 # the plain engine, whose calls work through all inputs before them: short scripts
 for script in examples/first.txt crates/play/stdin tests/scripts/*.txt; do
-    tools/play --plain "$script" | cmp - <(tools/play "$script")
+    tools/play --plain "$script" 2>"$place/engine.txt" | cmp - <(tools/play "$script")
+    grep -x 'the plain engine answers' "$place/engine.txt" >/dev/null
 done
+[ -z "$(tools/play examples/first.txt 2>&1 >/dev/null)" ]
 echo "the plain engine prints the test scripts alike"
 
 # the journals of the example host, as scripts

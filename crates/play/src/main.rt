@@ -1,5 +1,6 @@
 // Plays a script from standard input to one station, or to the plain engine; docs/SCRIPT.md has its form.
 use engine::List;
+use libc::STDERR_FILENO;
 use libc::STDIN_FILENO;
 use said::show;
 use stored::Store;
@@ -137,6 +138,11 @@ fn is_plain() -> bool {
     text::same(&word[..len], b"--plain")
 }
 
+// What is printed is the same for both; that the plain engine answers is said beside it.
 fn main() {
-    run(is_plain());
+    let plain = is_plain();
+    if plain {
+        io::write_all(STDERR_FILENO, b"the plain engine answers\n");
+    }
+    run(plain);
 }
