@@ -46,8 +46,7 @@ sub-i c = search needs
 
 repeated-requires : tie.Need-repeated-requires Inv-loop μ-loop
 repeated-requires c κs =
-    let start = c .before .before .before .before .before .before .before in
-    let loop = c .before .before .before .loop in
+    let start = c .before .before .before .before .before .before .before in let loop = c .before .before .before .loop in
     let more = c .before .before .loop-test .taken in
     let e : loop .i - 1 + 1 ≡ loop .i = omega (arith, more) in
     (start .pre .0, omega (arith, loop .inv .0, more), rw e (loop .inv .1))
@@ -55,10 +54,10 @@ repeated-requires c κs =
 returns-2 : tie.Need-returns-2 Inv-loop μ-loop
 unfolding tallies
 returns-2 c =
+    let loop = c .before .before .before .before .before .loop in let loop-test = c .before .before .before .before .loop-test in
     let start = c .before .before .before .before .before .before .before .before .before in
-    let loop = c .before .before .before .before .before .loop in
     let good = all (tallyGood (settingsOf (start .args .settings)) (start .args .clock)) (tallies (start .args .store .now)) in
-    let twice = distinct-not (tallyAt (start .args .store .now)) sameTally (loop .i - 1) _ _ (start .pre .0 .is) (omega (arith, loop .inv .0, c .before .before .before .before .loop-test .taken)) (sym (c .before .repeated .ensures .is) ∙ c .if2 .taken) in
+    let twice = distinct-not (tallyAt (start .args .store .now)) sameTally (loop .i - 1) _ _ (start .pre .0 .is) (omega (arith, loop .inv .0, loop-test .taken)) (sym (c .before .repeated .ensures .is) ∙ c .if2 .taken) in
     record { is = sym (ap (good &&_) twice ∙ and-false good); hang = λ e. no-bool (sym e) }
 
 loop-less : tie.Need-loop-less Inv-loop μ-loop
@@ -79,8 +78,7 @@ loop-again c =
 returns-3 : tie.Need-returns-3 Inv-loop μ-loop
 unfolding tallies
 returns-3 c =
-    let start = c .before .before .before .before .before in
-    let loop = c .before .loop in
+    let start = c .before .before .before .before .before in let loop = c .before .loop in
     let e : loop .i ≡ 0 = omega (arith, c .loop-test .left) in
     record {
       is = sym (ap₂ _&&_ (sym (c .before .before .before .all-good .ensures) ∙ not-false _ (c .before .before .if1 .left)) (distinct-whole (tallyAt (start .args .store .now)) sameTally _ _ _ (start .pre .0 .is) (c .loop-test .left) (loop .inv .2)));

@@ -1,5 +1,5 @@
 -- `linked::first_sought` meets its contract. Assumes nothing.
-use mathlib.Core.Path.{_≡_, sym, _∙_}
+use mathlib.Core.Path.{sym, _∙_}
 use native.Mathlib.Omega.{arith}
 use Rattle.laws.proofs.Bounds.{statements-most}
 use Rattle.store.specs.Layout.{sizeIn}
@@ -32,8 +32,7 @@ element-copy-out-rest c = search needs
 
 cast-rest : tie.Need-cast-rest Inv-loop μ-loop
 cast-rest c =
-    let start = c .before .before .before in
-    let a = start .args in
+    let start = c .before .before .before in let a = start .args in
     let seek = seek-start (a .store .now) (a .k) (start .pre .2) (omega arith) in
     record { fits = omega (arith, seek .above .within, few-statements (start .pre .1)) }
 

@@ -4,7 +4,6 @@ use mathlib.Core.Path.{_≡_, sym, ap, ap₂, _∙_}
 use native.Mathlib.Omega.{arith}
 use Rattle.lookup.specs.Search.{seek, hasMark}
 use Rattle.lookup.proofs.Seeks.{record-within, places-few, seek-end, seek-here, seek-next}
-use borrow.Author.Needs.{needs}
 use Rattle.lookup.proofs.ahead.Statement.{statement}
 use Rattle.lookup.proofs.ahead.Tie as tie
 
@@ -63,8 +62,7 @@ loop-less c = omega arith
 
 loop-again : tie.Need-loop-again Inv-loop μ-loop
 loop-again c =
-    let l = c .before .before .before .loop in
-    let a = c .before .before .before .before .before .args in
+    let l = c .before .before .before .loop in let a = c .before .before .before .before .before .args in
     let from = a .from in
     let e : from + l .k + 1 ≡ from + (l .k + 1) = omega arith in
     (omega arith, l .inv .1 ∙ seek-next _ _ _ (omega arith) (sym (c .before .is-word .ensures) ∙ c .if1 .left) ∙ ap (λ (i : ℕ). seek (hasMark (a .s .now) (a .base) (a .size) (a .mark)) i (from + 16 - i)) e)

@@ -1,10 +1,9 @@
 -- `lookup::marked` meets its contract: what is left to search answers as the whole does. Assumes nothing.
-use Prim.Native.Nat.{ℕ, _+_, _-_}
+use Prim.Native.Nat.{_+_, _-_}
 use mathlib.Core.Path.{_≡_, refl, sym, ap, _∙_}
 use native.Mathlib.Omega.{arith}
 use Rattle.lookup.specs.Search.{seek, hasMark}
 use Rattle.lookup.proofs.Seeks.{record-within, turn-within, seek-end, seek-here, seek-next, seek-stops, seek-passes}
-use borrow.Author.Needs.{needs}
 use Rattle.lookup.proofs.marked.Statement.{statement}
 use Rattle.lookup.proofs.marked.Tie as tie
 
@@ -42,8 +41,7 @@ loop-less c = omega arith
 
 loop-again : tie.Need-loop-again Inv-loop μ-loop
 loop-again c =
-    let l = c .before .before .before .before .loop in
-    let a = c .before .before .before .before .before .before .args in
+    let l = c .before .before .before .before .loop in let a = c .before .before .before .before .before .before .args in
     let e : a .end - l .i - 16 ≡ a .end - (l .i + 16) = omega arith in
     l .inv ∙ seek-passes _ (l .i) 16 _ (omega arith) (rw (← c .before .ahead .ensures) (c .if2 .left)) ∙ ap (seek (hasMark (a .s .now) (a .base) (a .size) (a .mark)) (l .i + 16)) e
 

@@ -1,5 +1,4 @@
 -- `messages::voted` meets its contract: refused where its author is used up, else counted. Assumes nothing.
-use mathlib.Core.Path.{refl}
 use borrow.Author.Needs.{needs}
 use Rattle.words.specs.Meaning.{blockOf}
 use Rattle.messages.proofs.Handling.{vote-refused, vote-counted}
@@ -20,8 +19,7 @@ same-length c = search needs
 
 returns : tie.Need-returns
 returns c =
-    let used = c .before .before .used-up in
-    let found = c .before .before .before .before .find-certificate in
+    let used = c .before .before .used-up in let found = c .before .before .before .before .find-certificate in
     let start = c .before .before .before .before .before .before .before in
     vote-refused (start .pre .0) (blockOf (start .args .block)) (start .pre .1) (start .args .author) (found .result) (found .ensures) (used .ensures) (c .before .if1 .taken) (c .refuse .ensures)
 
@@ -35,8 +33,7 @@ same-length-2 c = search needs
 
 returns-2 : tie.Need-returns-2
 returns-2 c =
-    let used = c .before .before .before .before .before .used-up in
-    let found = c .before .before .before .before .before .before .before .find-certificate in
+    let used = c .before .before .before .before .before .used-up in let found = c .before .before .before .before .before .before .before .find-certificate in
     let start = c .before .before .before .before .before .before .before .before .before .before in
     vote-counted (start .pre .0) (blockOf (start .args .block)) (start .pre .1) (start .args .author) (found .result) (found .ensures) (used .ensures) (c .before .before .before .before .if1 .left) (c .before .before .counted .ensures)
 

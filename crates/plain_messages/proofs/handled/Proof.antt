@@ -32,16 +32,20 @@ enum-known-message-2 c = search needs
 cast-mask-of : tie.Need-cast-mask-of
 unfolding messageOf
 cast-mask-of c =
-    let a = c .before .before .before .before .args in
-    let k = c .before .before .before .before .pre .0 in
-    record { fits = omega (arith, author-small (a .e) k (c .before .message2 .given .0 .1 .1 .1 .0) (allowed-rights (state (a .e) .settings) (vote (c .before .message2 .given .0 .0) (c .before .message2 .given .0 .1 .0) (nameOf (c .before .message2 .given .0 .1 .1 .0)) (c .before .message2 .given .0 .1 .1 .1 .0)) (ap (λ (z : Message). allowed (state (a .e) .settings) (messageOf z)) (sym (c .before .message2 .given .1)) ∙ c .before .before .before .before .pre .1) .2)) }
+    let start = c .before .before .before .before in let a = start .args in let pre = start .pre in
+    let k = pre .0 in
+    record { fits = omega (arith, author-small (a .e) k (c .before .message2 .given .0 .1 .1 .1 .0) (allowed-rights (state (a .e) .settings) (vote (c .before .message2 .given .0 .0) (c .before .message2 .given .0 .1 .0) (nameOf (c .before .message2 .given .0 .1 .1 .0)) (c .before .message2 .given .0 .1 .1 .1 .0)) (ap (λ (z : Message). allowed (state (a .e) .settings) (messageOf z)) (sym (c .before .message2 .given .1)) ∙ pre .1) .2)) }
 
 mask-of-requires : tie.Need-mask-of-requires
 unfolding messageOf
 mask-of-requires c κs =
-    let a = c .before .before .before .before .args in
-    let k = c .before .before .before .before .pre .0 in
-    author-small (a .e) k (c .before .message2 .given .0 .1 .1 .1 .0) (allowed-rights (state (a .e) .settings) (vote (c .before .message2 .given .0 .0) (c .before .message2 .given .0 .1 .0) (nameOf (c .before .message2 .given .0 .1 .1 .0)) (c .before .message2 .given .0 .1 .1 .1 .0)) (ap (λ (z : Message). allowed (state (a .e) .settings) (messageOf z)) (sym (c .before .message2 .given .1)) ∙ c .before .before .before .before .pre .1) .2)
+    let start = c .before .before .before .before in let a = start .args in let pre = start .pre in
+    let k = pre .0 in
+    author-small
+    (a .e)
+    k
+    (c .before .message2 .given .0 .1 .1 .1 .0)
+    (allowed-rights (state (a .e) .settings) (vote (c .before .message2 .given .0 .0) (c .before .message2 .given .0 .1 .0) (nameOf (c .before .message2 .given .0 .1 .1 .0)) (c .before .message2 .given .0 .1 .1 .1 .0)) (ap (λ (z : Message). allowed (state (a .e) .settings) (messageOf z)) (sym (c .before .message2 .given .1)) ∙ pre .1) .2)
 
 tallied-requires : tie.Need-tallied-requires
 tallied-requires c κs =
@@ -55,23 +59,23 @@ enum-known-message-3 c = search needs
 cast-mask-of-2 : tie.Need-cast-mask-of-2
 unfolding messageOf
 cast-mask-of-2 c =
-    let a = c .before .before .before .before .args in
-    let k = c .before .before .before .before .pre .0 in
-    record { fits = omega (arith, author-small (a .e) k (c .before .message3 .given .0 .1 .0) (allowed-rights (state (a .e) .settings) (blame (c .before .message3 .given .0 .0) (c .before .message3 .given .0 .1 .0)) (ap (λ (z : Message). allowed (state (a .e) .settings) (messageOf z)) (sym (c .before .message3 .given .1)) ∙ c .before .before .before .before .pre .1) .1)) }
+    let start = c .before .before .before .before in let a = start .args in let pre = start .pre in
+    let k = pre .0 in
+    record { fits = omega (arith, author-small (a .e) k (c .before .message3 .given .0 .1 .0) (allowed-rights (state (a .e) .settings) (blame (c .before .message3 .given .0 .0) (c .before .message3 .given .0 .1 .0)) (ap (λ (z : Message). allowed (state (a .e) .settings) (messageOf z)) (sym (c .before .message3 .given .1)) ∙ pre .1) .1)) }
 
 mask-of-requires-2 : tie.Need-mask-of-requires-2
 unfolding messageOf
 mask-of-requires-2 c κs =
-    let a = c .before .before .before .before .args in
-    let k = c .before .before .before .before .pre .0 in
-    author-small (a .e) k (c .before .message3 .given .0 .1 .0) (allowed-rights (state (a .e) .settings) (blame (c .before .message3 .given .0 .0) (c .before .message3 .given .0 .1 .0)) (ap (λ (z : Message). allowed (state (a .e) .settings) (messageOf z)) (sym (c .before .message3 .given .1)) ∙ c .before .before .before .before .pre .1) .1)
+    let start = c .before .before .before .before in let a = start .args in let pre = start .pre in
+    let k = pre .0 in
+    author-small (a .e) k (c .before .message3 .given .0 .1 .0) (allowed-rights (state (a .e) .settings) (blame (c .before .message3 .given .0 .0) (c .before .message3 .given .0 .1 .0)) (ap (λ (z : Message). allowed (state (a .e) .settings) (messageOf z)) (sym (c .before .message3 .given .1)) ∙ pre .1) .1)
 
 blaming-requires : tie.Need-blaming-requires
 unfolding messageOf
 blaming-requires c κs =
-    let a = c .before .before .before .before .before .before .args in
-    let k = c .before .before .before .before .before .before .pre .0 in
-    (k .sized, view-small (a .e) k (c .before .before .before .message3 .given .0 .0) (allowed-rights (state (a .e) .settings) (blame (c .before .before .before .message3 .given .0 .0) (c .before .before .before .message3 .given .0 .1 .0)) (ap (λ (z : Message). allowed (state (a .e) .settings) (messageOf z)) (sym (c .before .before .before .message3 .given .1)) ∙ c .before .before .before .before .before .before .pre .1) .0), c .before .before .before .before .before .before .pre .2)
+    let start = c .before .before .before .before .before .before in let a = start .args in let pre = start .pre in let message3 = c .before .before .before .message3 in
+    let k = pre .0 in
+    (k .sized, view-small (a .e) k (message3 .given .0 .0) (allowed-rights (state (a .e) .settings) (blame (message3 .given .0 .0) (message3 .given .0 .1 .0)) (ap (λ (z : Message). allowed (state (a .e) .settings) (messageOf z)) (sym (message3 .given .1)) ∙ pre .1) .0), pre .2)
 
 enum-known-message-4 : tie.Need-enum-known-message-4
 enum-known-message-4 c = search needs
@@ -79,9 +83,9 @@ enum-known-message-4 c = search needs
 blaming-requires-2 : tie.Need-blaming-requires-2
 unfolding messageOf
 blaming-requires-2 c κs =
-    let a = c .before .before .before .before .before .args in
-    let k = c .before .before .before .before .before .pre .0 in
-    (k .sized, view-small (a .e) k (c .before .before .message4 .given .0 .0) (allowed-rights (state (a .e) .settings) (blameSet (c .before .before .message4 .given .0 .0) (c .before .before .message4 .given .0 .1 .0)) (ap (λ (z : Message). allowed (state (a .e) .settings) (messageOf z)) (sym (c .before .before .message4 .given .1)) ∙ c .before .before .before .before .before .pre .1) .0), c .before .before .before .before .before .pre .2)
+    let start = c .before .before .before .before .before in let a = start .args in let pre = start .pre in let message4 = c .before .before .message4 in
+    let k = pre .0 in
+    (k .sized, view-small (a .e) k (message4 .given .0 .0) (allowed-rights (state (a .e) .settings) (blameSet (message4 .given .0 .0) (message4 .given .0 .1 .0)) (ap (λ (z : Message). allowed (state (a .e) .settings) (messageOf z)) (sym (message4 .given .1)) ∙ pre .1) .0), pre .2)
 
 enum-known-message-5 : tie.Need-enum-known-message-5
 enum-known-message-5 c = search needs
@@ -104,9 +108,9 @@ returns c =
 returns-2 : tie.Need-returns-2
 unfolding messageOf inputs.handled
 returns-2 c =
-    let a = c .before .before .before .before .before .before .args in
-    told (a .e) _ (a .at) (c .before .before .before .message2 .given .1)
-    (tallied-worked (a .e) _ (a .at) (some (c .before .before .before .message2 .given .0 .1 .1 .1 .0)) _ _ (voter-certificate (c .before .before .before .message2 .given .0 .0) (c .before .before .before .message2 .given .0 .1 .0) (c .before .before .before .message2 .given .0 .1 .1 .0) (c .before .before .before .message2 .given .0 .1 .1 .1 .0) (c .before .mask-of .ensures)) (c .tallied .ensures))
+    let a = c .before .before .before .before .before .before .args in let message2 = c .before .before .before .message2 in
+    told (a .e) _ (a .at) (message2 .given .1)
+    (tallied-worked (a .e) _ (a .at) (some (message2 .given .0 .1 .1 .1 .0)) _ _ (voter-certificate (message2 .given .0 .0) (message2 .given .0 .1 .0) (message2 .given .0 .1 .1 .0) (message2 .given .0 .1 .1 .1 .0) (c .before .mask-of .ensures)) (c .tallied .ensures))
 
 same-length-2 : tie.Need-same-length-2
 same-length-2 c = search needs
@@ -114,9 +118,10 @@ same-length-2 c = search needs
 returns-3 : tie.Need-returns-3
 unfolding messageOf inputs.handled
 returns-3 c =
-    let a = c .before .before .before .before .before .before .before .before .before .args in
-    let k = c .before .before .before .before .before .before .before .before .before .pre .0 in
-    told (a .e) _ (a .at) (c .before .before .before .before .before .before .message3 .given .1) (blamed-worked (a .e) _ (a .at) (c .before .before .before .before .before .before .message3 .given .0 .0) (c .before .before .before .before .mask-of2 .ensures) (c .before .before .blaming .ensures))
+    let start = c .before .before .before .before .before .before .before .before .before in let a = start .args in let pre = start .pre in
+    let message3 = c .before .before .before .before .before .before .message3 in let mask-of2 = c .before .before .before .before .mask-of2 in
+    let k = pre .0 in
+    told (a .e) _ (a .at) (message3 .given .1) (blamed-worked (a .e) _ (a .at) (message3 .given .0 .0) (mask-of2 .ensures) (c .before .before .blaming .ensures))
 
 same-length-3 : tie.Need-same-length-3
 same-length-3 c = search needs
@@ -131,9 +136,9 @@ returns-4 c =
 returns-5 : tie.Need-returns-5
 unfolding messageOf inputs.handled certificateOf
 returns-5 c =
-    let a = c .before .before .before .before .before .args in
-    let t : words.Certificate = record { view = (c .before .before .message5 .given .0 .1 .1 .0); height = (c .before .before .message5 .given .0 .0); name = nameOf (c .before .before .message5 .given .0 .1 .0); mask = (c .before .before .message5 .given .0 .1 .1 .1 .0) } in
-    told (a .e) _ (a .at) (c .before .before .message5 .given .1) (tallied-worked (a .e) _ (a .at) none t t refl (c .tallied2 .ensures))
+    let a = c .before .before .before .before .before .args in let message5 = c .before .before .message5 in
+    let t : words.Certificate = record { view = (message5 .given .0 .1 .1 .0); height = (message5 .given .0 .0); name = nameOf (message5 .given .0 .1 .0); mask = (message5 .given .0 .1 .1 .1 .0) } in
+    told (a .e) _ (a .at) (message5 .given .1) (tallied-worked (a .e) _ (a .at) none t t refl (c .tallied2 .ensures))
 
 pub handled-spec : {M : Type 1} → statement M
 handled-spec =

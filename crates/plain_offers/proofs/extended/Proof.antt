@@ -49,14 +49,22 @@ returns : tie.Need-returns
 unfolding messageOf message statementOf state
 returns c =
     let a = c .before .before .before .before .before .before .before .before .before .before .before .args in
-    ap (λ (m : messages.Message). some m) (above-is (statementOf (a .x) none) (nameOf (a .name)) (state (a .e)) (c .before .before .before .before .before .before .before .voters .result) (c .before .before .before .before .before .before .before .voters .ensures ∙ ap (λ (t : words.Certificate). words.voters t (tallies (a .e .tallies))) (c .before .before .before .before .before .before .before .before .own-block .ensures)))
-    ∙ extension-made (statementOf (a .x) none) (nameOf (a .name)) (state (a .e)) (sym (extendable-is (statementOf (a .x) none) (nameOf (a .name)) (state (a .e)) (c .before .before .before .before .before .before .before .voters .result) (c .before .before .before .before .before .before .before .voters .ensures ∙ ap (λ (t : words.Certificate). words.voters t (tallies (a .e .tallies))) (c .before .before .before .before .before .before .before .before .own-block .ensures)) (c .before .before .before .before .before .quorum .result) (c .before .before .before .before .before .quorum .ensures ∙ ap (quorum (settingsOf (a .e .settings))) (c .before .before .before .before .before .before .wide .ensures .0))) ∙ c .before .before .before .if1 .taken)
+    let own-block = c .before .before .before .before .before .before .before .before .own-block in
+    let voters = c .before .before .before .before .before .before .before .voters in let wide = c .before .before .before .before .before .before .wide in
+    let the-quorum = c .before .before .before .before .before .quorum in let if1 = c .before .before .before .if1 in
+    ap (λ (m : messages.Message). some m) (above-is (statementOf (a .x) none) (nameOf (a .name)) (state (a .e)) (voters .result) (voters .ensures ∙ ap (λ (t : words.Certificate). words.voters t (tallies (a .e .tallies))) (own-block .ensures)))
+    ∙ extension-made (statementOf (a .x) none) (nameOf (a .name)) (state (a .e)) (sym (extendable-is (statementOf (a .x) none) (nameOf (a .name)) (state (a .e)) (voters .result) (voters .ensures ∙ ap (λ (t : words.Certificate). words.voters t (tallies (a .e .tallies))) (own-block .ensures)) (the-quorum .result) (the-quorum .ensures ∙ ap (quorum (settingsOf (a .e .settings))) (wide .ensures .0))) ∙ if1 .taken)
 
 returns-2 : tie.Need-returns-2
 unfolding statementOf state
 returns-2 c =
-    let a = c .before .before .before .before .before .before .before .before .args in
-    extension-none (statementOf (a .x) none) (nameOf (a .name)) (state (a .e)) (sym (extendable-is (statementOf (a .x) none) (nameOf (a .name)) (state (a .e)) (c .before .before .before .before .voters .result) (c .before .before .before .before .voters .ensures ∙ ap (λ (t : words.Certificate). words.voters t (tallies (a .e .tallies))) (c .before .before .before .before .before .own-block .ensures)) (c .before .before .quorum .result) (c .before .before .quorum .ensures ∙ ap (quorum (settingsOf (a .e .settings))) (c .before .before .before .wide .ensures .0))) ∙ c .if1 .left)
+    let a = c .before .before .before .before .before .before .before .before .args in let own-block = c .before .before .before .before .before .own-block in
+    let voters = c .before .before .before .before .voters in let wide = c .before .before .before .wide in let the-quorum = c .before .before .quorum in
+    extension-none
+    (statementOf (a .x) none)
+    (nameOf (a .name))
+    (state (a .e))
+    (sym (extendable-is (statementOf (a .x) none) (nameOf (a .name)) (state (a .e)) (voters .result) (voters .ensures ∙ ap (λ (t : words.Certificate). words.voters t (tallies (a .e .tallies))) (own-block .ensures)) (the-quorum .result) (the-quorum .ensures ∙ ap (quorum (settingsOf (a .e .settings))) (wide .ensures .0))) ∙ c .if1 .left)
 
 pub extended-spec : {M : Type 1} → statement M
 extended-spec =

@@ -15,7 +15,7 @@ use borrow.Author.Tests.{not-true, not-false}
 use native.Mathlib.Omega.{arith}
 use mathlib.Core.Bool.{Bool, true, _&&_, and-false}
 use mathlib.Core.Path.{_≡_, refl, sym, ap, ap₂, _∙_}
-use Prim.Native.Nat.{ℕ, _-_, _+_, _<_, _≤_}
+use Prim.Native.Nat.{_-_, _+_, _<_, _≤_}
 use borrow.Author.Needs.{needs}
 use Rattle.repeats.proofs.there_and_apart.Statement.{statement}
 use Rattle.repeats.proofs.there_and_apart.Tie as tie
@@ -53,31 +53,28 @@ sub-i c = search needs
 
 certified-block-requires : tie.Need-certified-block-requires Inv-loop μ-loop
 certified-block-requires c κs =
-    let start = c .before .before .before .before in
-    let loop = c .before .loop in
+    let start = c .before .before .before .before in let loop = c .before .loop in
     let more = c .loop-test .taken in
     (start .pre .2 .long, omega (arith, start .pre .2 .room, loop .inv .0, more), start .pre .3 _ (omega (arith, loop .inv .0, more)))
 
 own-block-requires : tie.Need-own-block-requires Inv-loop μ-loop
 own-block-requires c κs =
-    let start = c .before .before .before .before .before in
-    let loop = c .before .before .loop in
+    let start = c .before .before .before .before .before in let loop = c .before .before .loop in
     let more = c .before .loop-test .taken in
     (start .pre .2 .long, omega (arith, start .pre .2 .room, loop .inv .0, more), start .pre .3 _ (omega (arith, loop .inv .0, more)), c .certified-block .ensures .keyed .key-is, loop .inv .4)
 
 there-requires : tie.Need-there-requires Inv-loop μ-loop
 there-requires c κs =
-    let start = c .before .before .before .before .before .before in
-    let loop = c .before .before .before .loop in
+    let start = c .before .before .before .before .before .before in let loop = c .before .before .before .loop in
     let more = c .before .before .loop-test .taken in
     (start .pre .0, start .pre .1, omega (arith, start .pre .2 .room, loop .inv .0, more), c .own-block .ensures, c .before .certified-block .ensures)
 
 returns-2 : tie.Need-returns-2 Inv-loop μ-loop
 unfolding statements
 returns-2 c =
+    let loop = c .before .before .before .before .before .loop in let loop-test = c .before .before .before .before .loop-test in
     let start = c .before .before .before .before .before .before .before .before in
-    let loop = c .before .before .before .before .before .loop in
-    let more = c .before .before .before .before .loop-test .taken in
+    let more = loop-test .taken in
     let store = start .args .store .now in
     ap (λ (x : Bool). x && distinct sameStatement (statements store)) (sym (all-not (statementAt store) (talliesThere (tallies store)) (loop .i - 1) _ _ (start .pre .2 .is) (omega (arith, loop .inv .0, more)) (sym (c .before .there .ensures) ∙ not-true _ (c .if2 .taken))))
 
@@ -89,16 +86,18 @@ chain-of-requires c κs = search needs
 
 repeated-requires : tie.Need-repeated-requires Inv-loop μ-loop
 repeated-requires c κs =
-    let start = c .before .before .before .before .before .before .before .before .before .before .before .before in
+    let shared-slice-known = c .before .before .before .before .before .before .before .before .before .before .before .shared-slice-known in
     let loop = c .before .before .before .before .before .before .before .before .before .loop in
-    let more = c .before .before .before .before .before .before .before .before .loop-test .taken in
-    let bytes = c .before .before .before .before .before .before .before .before .before .before .before .shared-slice-known .given in
-    let block = c .before .before .before .before .before .before .before .certified-block in
-    let own = c .before .before .before .before .before .before .own-block in
+    let loop-test = c .before .before .before .before .before .before .before .before .loop-test in
+    let block = c .before .before .before .before .before .before .before .certified-block in let own = c .before .before .before .before .before .before .own-block in
+    let stirred = c .before .before .before .stirred in let chain-of = c .before .before .chain-of in
+    let start = c .before .before .before .before .before .before .before .before .before .before .before .before in
+    let more = loop-test .taken in
+    let bytes = shared-slice-known .given in
     let store = start .args .store .now in
-    let chain = c .before .before .chain-of .ensures .0 ∙ ap chainOf (c .before .before .before .stirred .ensures ∙ ap₂ stir (own .ensures .mixes ∙ keyed-stirs store bytes (start .args .salt) _ _ _ (own .ensures .keyed)) (block .ensures .mixes ∙ keyed-stirs store bytes (start .args .salt) _ _ _ (block .ensures .keyed))) in
+    let chain = chain-of .ensures .0 ∙ ap chainOf (stirred .ensures ∙ ap₂ stir (own .ensures .mixes ∙ keyed-stirs store bytes (start .args .salt) _ _ _ (own .ensures .keyed)) (block .ensures .mixes ∙ keyed-stirs store bytes (start .args .salt) _ _ _ (block .ensures .keyed))) in
     let e : loop .i - 1 + 1 ≡ loop .i = omega (arith, more) in
-    (start .pre .2, omega (arith, loop .inv .0, more), rw e (loop .inv .1), chain, c .before .before .chain-of .ensures .1)
+    (start .pre .2, omega (arith, loop .inv .0, more), rw e (loop .inv .1), chain, chain-of .ensures .1)
 
 returns-3 : tie.Need-returns-3 Inv-loop μ-loop
 unfolding statements
@@ -136,8 +135,7 @@ loop-again c =
 returns-4 : tie.Need-returns-4 Inv-loop μ-loop
 unfolding statements
 returns-4 c =
-    let start = c .before .before .before .before in
-    let loop = c .before .loop in
+    let start = c .before .before .before .before in let loop = c .before .loop in
     let store = start .args .store .now in
     let whole = whole-rows (statementAt store) (loop .i) _ _ (start .pre .2 .is) (c .loop-test .left) in
     sym (ap₂ _&&_ (ap (all (talliesThere (tallies store))) whole ∙ loop .inv .3) (ap (distinct sameStatement) whole ∙ loop .inv .2))
