@@ -45,12 +45,14 @@ load-requires c κs =
 
 store-new-requires : tie.Need-store-new-requires
 store-new-requires c κs =
-    let plan = c .before .before .before .before .plan in let start = c .before .before .before .before .before .before .before .before in
+    let plan = c .before .before .before .before .plan in
+    let start = c .before .before .before .before .before .before .before .before in
     (start .pre .0 .form, start .pre .1, plan-tells (statementOf (start .args .x) none) (stateOf (start .args .store .now)) (New _ _) (sym (plan .given .1) ∙ start .pre .3), clocks-of (formed-parts (start .pre .0) .formed) .last)
 
 answer-requires : tie.Need-answer-requires
 answer-requires c κs =
-    let plan = c .before .before .before .before .before .before .before .before .before .plan in let load = c .before .before .before .before .before .before .load in
+    let plan = c .before .before .before .before .before .before .before .before .before .plan in
+    let load = c .before .before .before .before .before .before .load in
     let store-new = c .before .before .before .before .store-new in
     let start = c .before .before .before .before .before .before .before .before .before .before .before .before .before in
     let b = start .args .store .now in

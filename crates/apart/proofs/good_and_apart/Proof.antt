@@ -46,7 +46,8 @@ sub-i c = search needs
 
 repeated-requires : tie.Need-repeated-requires Inv-loop μ-loop
 repeated-requires c κs =
-    let start = c .before .before .before .before .before .before .before in let loop = c .before .before .before .loop in
+    let start = c .before .before .before .before .before .before .before in
+    let loop = c .before .before .before .loop in
     let more = c .before .before .loop-test .taken in
     let e : loop .i - 1 + 1 ≡ loop .i = omega (arith, more) in
     (start .pre .0, omega (arith, loop .inv .0, more), rw e (loop .inv .1))
@@ -54,7 +55,8 @@ repeated-requires c κs =
 returns-2 : tie.Need-returns-2 Inv-loop μ-loop
 unfolding tallies
 returns-2 c =
-    let loop = c .before .before .before .before .before .loop in let loop-test = c .before .before .before .before .loop-test in
+    let loop = c .before .before .before .before .before .loop in
+    let loop-test = c .before .before .before .before .loop-test in
     let start = c .before .before .before .before .before .before .before .before .before in
     let good = all (tallyGood (settingsOf (start .args .settings)) (start .args .clock)) (tallies (start .args .store .now)) in
     let twice = distinct-not (tallyAt (start .args .store .now)) sameTally (loop .i - 1) _ _ (start .pre .0 .is) (omega (arith, loop .inv .0, loop-test .taken)) (sym (c .before .repeated .ensures .is) ∙ c .if2 .taken) in
@@ -78,7 +80,8 @@ loop-again c =
 returns-3 : tie.Need-returns-3 Inv-loop μ-loop
 unfolding tallies
 returns-3 c =
-    let start = c .before .before .before .before .before in let loop = c .before .loop in
+    let start = c .before .before .before .before .before in
+    let loop = c .before .loop in
     let e : loop .i ≡ 0 = omega (arith, c .loop-test .left) in
     record {
       is = sym (ap₂ _&&_ (sym (c .before .before .before .all-good .ensures) ∙ not-false _ (c .before .before .if1 .left)) (distinct-whole (tallyAt (start .args .store .now)) sameTally _ _ _ (start .pre .0 .is) (c .loop-test .left) (loop .inv .2)));

@@ -23,14 +23,16 @@ element-copy-out-left c = search needs
 
 cast-left : tie.Need-cast-left
 cast-left c =
-    let shared-slice-known = c .before .before .before .shared-slice-known in let start = c .before .before .before .before in
+    let shared-slice-known = c .before .before .before .shared-slice-known in
+    let start = c .before .before .before .before in
     let q = c .before .chain-of .ensures .0 ∙ ap chainOf (start .pre .1 .mixes) in
     let walk = has-start (start .args .store .now) (shared-slice-known .given) _ (c .before .before .tallies-in .ensures) (start .pre .1 .salt) (start .args .count) (start .pre .0 .is) (start .args .key) (start .args .at) (start .pre .1 .hang) _ q (c .before .chain-of .ensures .1) in
     record { fits = omega (arith, walk .within, few-tallies (start .pre .0)) }
 
 walked-requires : tie.Need-walked-requires
 walked-requires c κs =
-    let shared-slice-known = c .before .before .before .shared-slice-known in let tallies-in = c .before .before .tallies-in in let start = c .before .before .before .before in
+    let shared-slice-known = c .before .before .before .shared-slice-known in let tallies-in = c .before .before .tallies-in in
+    let start = c .before .before .before .before in
     let q = c .before .chain-of .ensures .0 ∙ ap chainOf (start .pre .1 .mixes) in
     let walk = has-start (start .args .store .now) (shared-slice-known .given) _ (tallies-in .ensures) (start .pre .1 .salt) (start .args .count) (start .pre .0 .is) (start .args .key) (start .args .at) (start .pre .1 .hang) _ q (c .before .chain-of .ensures .1) in
     let k = start .pre .0 in
@@ -39,7 +41,8 @@ walked-requires c κs =
 returns : tie.Need-returns
 returns c =
     let shared-slice-known = c .before .before .before .before .shared-slice-known in let tallies-in = c .before .before .before .tallies-in in
-    let chain-of = c .before .before .chain-of in let start = c .before .before .before .before .before in
+    let chain-of = c .before .before .chain-of in
+    let start = c .before .before .before .before .before in
     let q = chain-of .ensures .0 ∙ ap chainOf (start .pre .1 .mixes) in
     let has = has-is (start .args .store .now) (shared-slice-known .given) _ (tallies-in .ensures) (start .pre .1 .salt) (start .args .count) (start .pre .0 .is) (start .args .key) (start .args .at) (start .pre .1 .hang) _ q (chain-of .ensures .1) in
     has _ (c .walked .ensures)

@@ -66,7 +66,8 @@ returns-2 c =
     let get = c .before .before .before .before .before .before .before .before .before .get in
     let with-words = c .before .before .before .before .before .before .before .before .with-words in
     let chain-of = c .before .before .before .before .before .before .before .chain-of in let has-block = c .before .before .before .before .has-block in
-    let if1 = c .before .before .before .if1 in let start = c .before .before .before .before .before .before .before .before .before .before .before .before in
+    let if1 = c .before .before .before .if1 in
+    let start = c .before .before .before .before .before .before .before .before .before .before .before .before in
     let q = chain-of .ensures .0 ∙ ap chainOf (with-words .ensures) in
     let met = met-is (start .args .store .now) (shared-slice-known .given) _ (tallies-in .ensures) (start .args .salt) (start .args .count) (start .args .i) _ (get .ensures .0) (start .pre .2) (start .pre .1) _ q (chain-of .ensures .1) in
     let hangs = met-hangs (start .args .store .now) (shared-slice-known .given) _ (tallies-in .ensures) (start .args .salt) (start .args .count) (start .args .i) _ (get .ensures .0) (start .pre .2) (start .pre .1) _ q (chain-of .ensures .1) in

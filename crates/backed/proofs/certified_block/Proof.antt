@@ -21,7 +21,8 @@ with-words-requires c κs = search needs
 
 returns : tie.Need-returns
 returns c =
-    let a = c .before .before .before .before .before .args in let at = c .before .before .certified-at in
+    let a = c .before .before .before .before .before .args in
+    let at = c .before .before .certified-at in
     record {
       keyed = certified-keyed (a .store .now) (c .before .before .before .before .shared-slice-known .given) (a .i) _ (c .before .before .before .certified-key .ensures) _ (at .ensures .0);
       fits = at .ensures .1;

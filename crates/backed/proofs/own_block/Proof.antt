@@ -33,7 +33,8 @@ same-requires c κs = search needs
 
 returns : tie.Need-returns
 returns c =
-    let start = c .before .before .before .before .before in let a = start .args in
+    let start = c .before .before .before .before .before in
+    let a = start .args in
     let b = a .store .now in
     let bytes = c .before .before .before .before .shared-slice-known .given in
     let key = c .before .before .before .own-key .result in

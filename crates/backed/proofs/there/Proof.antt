@@ -33,7 +33,8 @@ has-tally-requires c κs =
 returns-3 : tie.Need-returns-3
 returns-3 c =
     let shared-slice-known = c .before .before .before .before .before .shared-slice-known in let own-there = c .before .before .before .before .own-there in
-    let if1 = c .before .before .before .if1 in let start = c .before .before .before .before .before .before in
+    let if1 = c .before .before .before .if1 in
+    let start = c .before .before .before .before .before .before in
     let b = start .args .store .now in
     let i = start .args .i in
     let block = start .pre .4 in

@@ -43,7 +43,8 @@ returns c =
 
 note-vote-requires : tie.Need-note-vote-requires
 note-vote-requires c κs =
-    let start = c .before .before .before .before .before .before .before .before .before in let load = c .before .before .before .before .before .load in
+    let start = c .before .before .before .before .before .before .before .before .before in
+    let load = c .before .before .before .before .before .load in
     (start .pre .0 .form, start .pre .1 .within, omega (arith, loaded-clock (load .result) (start .args .store .now) (load .ensures), clocks-of (formed-parts (start .pre .0) .formed) .last))
 
 own-block-requires : tie.Need-own-block-requires
@@ -52,7 +53,8 @@ own-block-requires c κs = search needs
 join-found-requires : tie.Need-join-found-requires
 join-found-requires c κs =
     let start = c .before .before .before .before .before .before .before .before .before .before .before .before .before .before in let args = start .args in let p = start .pre in
-    let load = c .before .before .before .before .before .before .before .before .before .before .load in let vote = c .before .before .before .before .note-vote in
+    let load = c .before .before .before .before .before .before .before .before .before .before .load in
+    let vote = c .before .before .before .before .note-vote in
     let block = c .own-block in
     let x = statementOf (args .x) none in
     let m = only (load .result .settings .own) in

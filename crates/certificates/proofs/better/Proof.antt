@@ -38,7 +38,8 @@ returns-3 c =
 returns-4 : tie.Need-returns-4
 unfolding blockOf
 returns-4 c =
-    let a = c .before .before .before .before .before .before .before .args in let if1 = c .before .before .before .before .before .if1 in
+    let a = c .before .before .before .before .before .before .before .args in
+    let if1 = c .before .before .before .before .before .if1 in
     let higher = c .before .before .before .before .higher in let if2 = c .before .before .before .if2 in
     chosen-here (settingsOf (a .settings)) (a .view) (blockOf (a .block)) (blockOf (a .best)) (if1 .left) (sym (c .before .quorum .ensures) ∙ not-false _ (c .if3 .left)) (sym (higher .ensures) ∙ not-false _ (if2 .left))
 

@@ -77,7 +77,8 @@ loop-less-2 c =
 loop-again-2 : tie.Need-loop-again-2 Inv-loop μ-loop
 loop-again-2 c =
     let a = c .before .before .before .before .before .before .before .before .before .before .before .args in
-    let loaded = c .before .before .before .before .before .before .before .before .before .load in let l = c .before .before .before .before .before .before .loop in
+    let loaded = c .before .before .before .before .before .before .before .before .before .load in
+    let l = c .before .before .before .before .before .before .loop in
     let loop-test = c .before .before .before .before .before .loop-test in
     let b = a .store .now in
     let tally = c .before .certificate .ensures ∙ ap certificateOf (c .before .before .tally-at .ensures) in

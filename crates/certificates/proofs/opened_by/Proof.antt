@@ -43,7 +43,8 @@ add-if1 c = omega (arith, c .before .before .before .before .before .pre .1)
 
 add-opened : tie.Need-add-opened Inv-loop μ-loop
 add-opened c =
-    let l = c .before .before .before .loop in let a = c .before .before .before .before .before .before in
+    let l = c .before .before .before .loop in
+    let a = c .before .before .before .before .before .before in
     record { fits = omega (arith, l .inv .1, opened-few (a .args .store .now) (a .args .author) (l .i) (countOf tallyTable (a .args .store .now) - l .i), few-tallies (a .pre .0)) }
 
 loop-less : tie.Need-loop-less Inv-loop μ-loop
@@ -51,7 +52,8 @@ loop-less c = search needs
 
 loop-again : tie.Need-loop-again Inv-loop μ-loop
 loop-again c =
-    let l = c .before .before .before .loop in let a = c .before .before .before .before .before .before .args in
+    let l = c .before .before .before .loop in
+    let a = c .before .before .before .before .before .before .args in
     (omega (arith, l .inv .0), ap (_+ 1) (l .inv .1) ∙ opened-one (a .store .now) (a .author) (l .i) (countOf tallyTable (a .store .now)) _ (c .before .before .loop-test .taken) (l .inv .0) (c .before .opener-at .ensures) (c .if1 .taken))
 
 loop-less-2 : tie.Need-loop-less-2 Inv-loop μ-loop
@@ -59,13 +61,15 @@ loop-less-2 c = search needs
 
 loop-again-2 : tie.Need-loop-again-2 Inv-loop μ-loop
 loop-again-2 c =
-    let l = c .before .before .before .loop in let a = c .before .before .before .before .before .before .args in
+    let l = c .before .before .before .loop in
+    let a = c .before .before .before .before .before .before .args in
     (omega (arith, l .inv .0), l .inv .1 ∙ opened-none (a .store .now) (a .author) (l .i) (countOf tallyTable (a .store .now)) _ (c .before .before .loop-test .taken) (l .inv .0) (c .before .opener-at .ensures) (c .if1 .left))
 
 returns : tie.Need-returns Inv-loop μ-loop
 unfolding tallies
 returns c =
-    let l = c .before .loop in let a = c .before .before .before .before .args in
+    let l = c .before .loop in
+    let a = c .before .before .before .before .args in
     l .inv .1 ∙ opened-whole (a .store .now) (a .author) (l .i) (countOf tallyTable (a .store .now)) (c .loop-test .left)
 
 pub opened-by-spec : {M : Type 1} → statement M

@@ -34,7 +34,8 @@ add-result c = search needs
 returns : tie.Need-returns
 unfolding tallyFor blockOf
 returns c =
-    let a = c .before .before .before .before .before .args in let shared-slice-known = c .before .before .before .before .shared-slice-known in
+    let a = c .before .before .before .before .before .args in
+    let shared-slice-known = c .before .before .before .before .shared-slice-known in
     let tally-place = c .before .before .before .tally-place in
     let b = a .store .now in
     let at = placeOf tallyTable (sizeIn b) (a .i) in

@@ -31,13 +31,15 @@ enum-told c = search needs
 returns : tie.Need-returns
 unfolding tallies tallyOf
 returns c =
-    let a = c .before .before .before .before .before .before .args in let find-tally = c .before .before .before .before .find-tally in let found = c .before .before .found in
+    let a = c .before .before .before .before .before .before .args in
+    let find-tally = c .before .before .before .before .find-tally in let found = c .before .before .found in
     ap (λ (t : Tally). t .mask) (c .tally-at .ensures) ∙ sym (voters-first (blockOf (a .block)) (tallies (a .store .now)) ∙ ap maskOf (found-first (ofBlock (blockOf (a .block))) (tallyAt (a .store .now)) (countOf tallyTable (a .store .now)) (find-tally .result) (find-tally .ensures) (found .given .0 .0) (found .given .1)))
 
 returns-2 : tie.Need-returns-2
 unfolding tallies
 returns-2 c =
-    let a = c .before .before .before .before .args in let find-tally = c .before .before .find-tally in
+    let a = c .before .before .before .before .args in
+    let find-tally = c .before .before .find-tally in
     sym (voters-first (blockOf (a .block)) (tallies (a .store .now)) ∙ ap maskOf (missing-first (ofBlock (blockOf (a .block))) (tallyAt (a .store .now)) (countOf tallyTable (a .store .now)) (find-tally .result) (find-tally .ensures) (c .enum-told .given .1)))
 
 pub voters-spec : {M : Type 1} → statement M

@@ -41,13 +41,15 @@ loop-less c = search needs
 loop-again : tie.Need-loop-again Inv-loop μ-loop
 unfolding stirWords
 loop-again c =
-    let start = c .before .before .before .before .before in let loop = c .before .before .before .loop in
+    let start = c .before .before .before .before .before in
+    let loop = c .before .before .before .loop in
     let more = c .before .before .loop-test .taken in
     (omega arith, rw (add-one (loop .k)) (c .stirred .ensures ∙ rw (c .before .get .ensures .0, loop .inv .1)))
 
 returns : tie.Need-returns Inv-loop μ-loop
 returns c =
-    let a = c .before .before .before .args in let loop = c .before .loop in
+    let a = c .before .before .before .args in
+    let loop = c .before .loop in
     let e : loop .k ≡ a .words = omega (arith, loop .inv .0, c .loop-test .left) in
     loop .inv .1 ∙ ap (stirWords (a .store .now) (a .mix) (a .at)) e
 

@@ -163,7 +163,8 @@ loop-less-6 c =
 loop-again-6 : tie.Need-loop-again-6 Inv-loop μ-loop
 loop-again-6 c =
     let loop = c .before .before .before .before .before .before .before .before .before .before .before .before .before .before .before .before .before .before .before .before .before .before .before .loop in
-    let if6 = c .before .before .before .before .before .before .before .before .if6 in let join = c .before .before .before .before .before .join in
+    let if6 = c .before .before .before .before .before .before .before .before .if6 in
+    let join = c .before .before .before .before .before .join in
     turn-grown (turn (c .before .before .before .before .before .before .before .before .before)) (if6 .left) _ (join .result) (join .ensures) (omega (arith, join .kept .1 .1 .1 .0, loop .inv .long)) _ (c .before .m .given .1)
 
 same-length : tie.Need-same-length Inv-loop μ-loop
@@ -196,7 +197,8 @@ same-length-4 c =
 returns-2 : tie.Need-returns-2 Inv-loop μ-loop
 returns-2 c =
     let pre = c .before .before .before .before .before .before .before .before .before .before .before .before .before .before .before .before .before .before .before .before .before .before .before .before .before .before .before .pre in
-    let if6 = c .before .before .before .before .before .before .before .if6 in let join = c .before .before .before .before .join in
+    let if6 = c .before .before .before .before .before .before .before .if6 in
+    let join = c .before .before .before .before .join in
     turn-differs (turn (c .before .before .before .before .before .before .before .before)) (if6 .left) _ (join .result) (join .ensures) (pre .0 .all) (c .enum-told .given .1)
 
 pub commit-due-spec : {M : Type 1} → statement M

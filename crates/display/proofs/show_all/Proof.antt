@@ -53,7 +53,8 @@ loop-holds c =
 show-one-requires : tie.Need-show-one-requires Inv-loop μ-loop
 show-one-requires c κs =
     let start = c .before .before .before .before .before .before .before .before .before in let args = start .args in let pre = start .pre in
-    let load = c .before .before .before .before .before .before .load in let enum-told = c .before .before .before .before .enum-told in
+    let load = c .before .before .before .before .before .before .load in
+    let enum-told = c .before .before .before .before .enum-told in
     let loop = c .before .before .before .loop in
     let inv = loop .inv in
     let i = c .before .if1 .taken in

@@ -26,7 +26,8 @@ well-formed-requires c κs =
 
 returns-3 : tie.Need-returns-3
 returns-3 c =
-    let a = c .before .before .before .before .before .before .before .before .args in let is-whole = c .before .before .before .before .before .is-whole in
+    let a = c .before .before .before .before .before .before .before .before .args in
+    let is-whole = c .before .before .before .before .before .is-whole in
     let if1 = c .before .before .before .before .if1 in let least-out-in = c .before .before .before .least-out-in in
     refused-formless (a .store .now) (a .out .now) (is-whole .ensures) (if1 .left) (omega (arith, c .before .before .if2 .left, least-out-in .ensures)) (c .before .well-formed .ensures) refl (c .if3 .taken)
 

@@ -33,7 +33,8 @@ loop-less c = search needs
 
 loop-again : tie.Need-loop-again Inv-loop μ-loop
 loop-again c =
-    let a = c .before .before .before .args in let l = c .before .before .loop in
+    let a = c .before .before .before .args in
+    let l = c .before .before .loop in
     let x = c .shared-slice-known .given (a .at + l .k) in
     (omega arith, simp number-suc (zero-step 256 (l .any) _ _ (x .fits) (l .inv .1)))
 

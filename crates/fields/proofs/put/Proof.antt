@@ -35,7 +35,8 @@ loop-less c = search needs
 
 loop-again : tie.Need-loop-again Inv-loop μ-loop
 loop-again c =
-    let a = c .before .before .args in let l = c .before .loop in
+    let a = c .before .before .args in
+    let l = c .before .loop in
     (omega arith, sym (put-step (l .s) (a .at) (l .k) (l .left) (c .loop-test .taken)) ∙ l .inv .1, simp length-set (l .inv .2))
 
 same-length : tie.Need-same-length Inv-loop μ-loop

@@ -39,7 +39,8 @@ loop-less c = search needs
 
 loop-again : tie.Need-loop-again Inv-loop μ-loop
 loop-again c =
-    let a = c .before .before .before .before .args in let l = c .before .before .before .loop in
+    let a = c .before .before .before .before .args in
+    let l = c .before .before .before .loop in
     let x = c .before .shared-slice-known .given (a .i + l .k) in
     let y = c .shared-slice-known2 .given (a .j + l .k) in
     (omega arith, simp number-suc (same-step 256 (l .any) _ _ _ _ (x .fits) (y .fits) (l .inv .1)))

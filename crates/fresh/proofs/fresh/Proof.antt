@@ -38,7 +38,8 @@ same-length-2 c = search needs
 
 returns-2 : tie.Need-returns-2
 returns-2 c =
-    let start = c .before .before .before .before .before .before .before .before .before in let a = start .args in
+    let start = c .before .before .before .before .before .before .before .before .before in
+    let a = start .args in
     settings-refused (a .store .now) (a .n) (a .d) (a .own) (c .before .before .before .size-in .result) (c .before .before .before .size-in .ensures)
     (eqb-true _ _ (sym (c .before .before .before .before .before .before .is-whole .ensures) ∙ not-false _ (c .before .before .before .before .before .if1 .left)))
     (made-bad (a .store .now) (a .n) (a .d) (a .own) (c .before .before .before .size-in .result) (c .before .before .before .size-in .ensures) (sym (c .before .before .new .ensures .0) ∙ c .enum-told .given .1))

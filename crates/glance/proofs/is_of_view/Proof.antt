@@ -49,7 +49,8 @@ returns c =
     let a = c .before .before .before .before .args in
     let b = a .store .now in
     let at = placeOf statementTable small (a .i) + 0 in
-    let first = c .before .before .get in let second = c .before .get2 in
+    let first = c .before .before .get in
+    let second = c .before .get2 in
     let halves = number-split b at 2 2 in
     let bytes = number-split b (at + 2) 1 1 in
     ap (λ (t : ℕ). eqb (first .result + 256 * second .result) t) (c .turned .ensures)

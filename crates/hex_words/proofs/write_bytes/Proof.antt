@@ -64,7 +64,8 @@ loop-less c = search needs
 
 loop-again : tie.Need-loop-again Inv-loop μ-loop
 loop-again c =
-    let at = c .before .before .before .before .before .loop in let a = c .before .before .before .before .before .before .before .before .args in
+    let at = c .before .before .before .before .before .loop in
+    let a = c .before .before .before .before .before .before .before .before .args in
     let w = a .word .now in
     (omega arith, refl, simp length-set (at .inv .2), at .inv .3 ∙ ap (wrote (at .bytes) (a .at + at .i)) (pairs-step w (at .i) (omega arith) ∙ ap (_∷ pairs (drop (2 * (at .i + 1)) w)) (ap₂ (λ (x y : ℕ). x * 16 + y) (sym (c .before .before .digit .ensures .0)) (sym (c .digit2 .ensures .0)))) ∙ wrote-further (at .bytes) (a .at) (at .i) _ _)
 

@@ -49,7 +49,8 @@ joined-requires c κs =
 
 open-tally-requires : tie.Need-open-tally-requires
 open-tally-requires c κs =
-    let start = c .before .before .before .before .before .before .before .before in let a = start .args in
+    let start = c .before .before .before .before .before .before .before .before in
+    let a = start .args in
     let m = votersOf (a .voters) in
     (start .pre .0, room-left (a .store .now) (authorOf (a .voters)) (withVoters m (blockOf (a .block))) _ (start .pre .2 ∙ voters-apart m (blockOf (a .block)) _) (c .before .before .before .enum-told .given .1) (start .pre .1))
 

@@ -32,7 +32,8 @@ enum-told c = search needs
 
 returns-2 : tie.Need-returns-2
 returns-2 c =
-    let a = c .before .before .before .before .before .before .args in let ending = c .before .before .before .ending in
+    let a = c .before .before .before .before .before .before .args in
+    let ending = c .before .before .before .ending in
     let bs = unbe 32 (nameOf (a .name)) in
     too-long bs (a .bytes .now) (a .what) (meant (λ _. given (a .what) bs) (readsAt [] (a .line .now) (a .place))) (named-good (given (a .what) bs) (a .line .now) (a .place) _ (ending .ensures) _ (c .before .enum-told .given .1)) (omega (arith, length-unbe 32 (nameOf (a .name)), c .if1 .taken))
 
@@ -45,7 +46,9 @@ same-length c = search needs
 returns-3 : tie.Need-returns-3
 returns-3 c =
     let ending = c .before .before .before .before .before .before .before .ending in let enum-told = c .before .before .before .before .before .enum-told in
-    let if1 = c .before .before .before .before .if1 in let start = c .before .before .before .before .before .before .before .before .before .before in let a = start .args in
+    let if1 = c .before .before .before .before .if1 in
+    let start = c .before .before .before .before .before .before .before .before .before .before in
+    let a = start .args in
     let small = name-lt (a .name) (omega (arith, start .good)) (omega (arith, start .good)) (omega (arith, start .good)) (omega (arith, start .good)) in
     let bs = unbe 32 (nameOf (a .name)) in
     written-good bs

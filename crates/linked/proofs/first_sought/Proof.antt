@@ -32,7 +32,8 @@ element-copy-out-rest c = search needs
 
 cast-rest : tie.Need-cast-rest Inv-loop μ-loop
 cast-rest c =
-    let start = c .before .before .before in let a = start .args in
+    let start = c .before .before .before in
+    let a = start .args in
     let seek = seek-start (a .store .now) (a .k) (start .pre .2) (omega arith) in
     record { fits = omega (arith, seek .above .within, few-statements (start .pre .1)) }
 

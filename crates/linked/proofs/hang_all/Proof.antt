@@ -47,8 +47,10 @@ loop-less c =
 
 loop-again : tie.Need-loop-again Inv-loop μ-loop
 loop-again c =
-    let loop = c .before .before .before .before .before .loop in let loop-test = c .before .before .before .before .loop-test in
-    let height-at = c .before .before .before .height-at in let start = c .before .before .before .before .before .before .before in
+    let loop = c .before .before .before .before .before .loop in
+    let loop-test = c .before .before .before .before .loop-test in
+    let height-at = c .before .before .before .height-at in
+    let start = c .before .before .before .before .before .before .before in
     let more = loop-test .taken in
     let few = few-statements (start .pre .0) in
     let e : loop .i - 1 + 1 ≡ loop .i = omega (arith, more) in

@@ -62,7 +62,8 @@ loop-less c = omega arith
 
 loop-again : tie.Need-loop-again Inv-loop μ-loop
 loop-again c =
-    let l = c .before .before .before .loop in let a = c .before .before .before .before .before .args in
+    let l = c .before .before .before .loop in
+    let a = c .before .before .before .before .before .args in
     let from = a .from in
     let e : from + l .k + 1 ≡ from + (l .k + 1) = omega arith in
     (omega arith, l .inv .1 ∙ seek-next _ _ _ (omega arith) (sym (c .before .is-word .ensures) ∙ c .if1 .left) ∙ ap (λ (i : ℕ). seek (hasMark (a .s .now) (a .base) (a .size) (a .mark)) i (from + 16 - i)) e)

@@ -41,7 +41,8 @@ loop-less c = omega arith
 
 loop-again : tie.Need-loop-again Inv-loop μ-loop
 loop-again c =
-    let l = c .before .before .before .before .loop in let a = c .before .before .before .before .before .before .args in
+    let l = c .before .before .before .before .loop in
+    let a = c .before .before .before .before .before .before .args in
     let e : a .end - l .i - 16 ≡ a .end - (l .i + 16) = omega arith in
     l .inv ∙ seek-passes _ (l .i) 16 _ (omega arith) (rw (← c .before .ahead .ensures) (c .if2 .left)) ∙ ap (seek (hasMark (a .s .now) (a .base) (a .size) (a .mark)) (l .i + 16)) e
 

@@ -42,7 +42,8 @@ loop-less c = omega arith
 
 loop-again : tie.Need-loop-again Inv-loop μ-loop
 loop-again c =
-    let a = c .before .before .before .before .before .args in let shared-slice-known = c .before .before .before .before .shared-slice-known in
+    let a = c .before .before .before .before .before .args in
+    let shared-slice-known = c .before .before .before .before .shared-slice-known in
     let l = c .before .before .before .loop in
     (omega (arith, l .inv .0), l .inv .1 ∙ turn-number _ (shared-slice-known .given) _ (l .k) _ (omega arith) ∙ ap (λ (x : ℕ). turn (l .k - 1) (number (a .s .now) (a .at) (l .k - 1)) (l .value * 256 + x)) (sym (c .wide .ensures .0)), turn-room (l .k) (l .value) _ (omega arith) (l .inv .0) (l .inv .2) (c .wide .ensures .1))
 

@@ -43,7 +43,8 @@ same-length-3 c = search needs
 returns-3 : tie.Need-returns-3
 returns-3 c =
     let pre = c .before .before .before .before .before .before .before .before .before .before .before .before .pre in
-    let least = c .before .before .before .before .before .before .before .least in let agrees = c .before .before .before .before .before .before .agrees in
+    let least = c .before .before .before .before .before .before .before .least in
+    let agrees = c .before .before .before .before .before .before .agrees in
     let if1 = c .before .before .before .before .before .if1 in let if2 = c .before .before .before .before .if2 in
     let long : c .before .before .before .before .before .before .before .before .before .before .before .before .args .len ≤ c .before .before .before .before .before .before .before .before .before .before .before .before .args .height = omega (arith, if2 .left) in
     join-grows _ _ _ _ _ _ (pre .0) _ (agrees .result) (agrees .ensures) long (least .ensures .3 long) (not-false _ (if1 .left)) _ (c .before .before .copy-places .ensures)

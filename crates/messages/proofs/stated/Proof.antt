@@ -27,7 +27,8 @@ same-length c = search needs
 returns : tie.Need-returns
 returns c =
     let planned = c .before .before .before .before .before .before .planned in let fits2 = c .before .before .before .before .before .fits2 in
-    let if1 = c .before .before .before .before .if1 in let start = c .before .before .before .before .before .before .before .before .before .before in
+    let if1 = c .before .before .before .before .if1 in
+    let start = c .before .before .before .before .before .before .before .before .before .before in
     let s = stateOf (start .args .store .now) in
     let x = statementOf (start .args .x) none in
     let room = fits2 .ensures ∙ plan-room x s (formed-parts (start .pre .0)) (planned .result) (planned .ensures) in

@@ -19,7 +19,8 @@ same-length c = search needs
 
 returns : tie.Need-returns
 returns c =
-    let used = c .before .before .used-up in let found = c .before .before .before .before .find-certificate in
+    let used = c .before .before .used-up in
+    let found = c .before .before .before .before .find-certificate in
     let start = c .before .before .before .before .before .before .before in
     vote-refused (start .pre .0) (blockOf (start .args .block)) (start .pre .1) (start .args .author) (found .result) (found .ensures) (used .ensures) (c .before .if1 .taken) (c .refuse .ensures)
 
@@ -33,7 +34,8 @@ same-length-2 c = search needs
 
 returns-2 : tie.Need-returns-2
 returns-2 c =
-    let used = c .before .before .before .before .before .used-up in let found = c .before .before .before .before .before .before .before .find-certificate in
+    let used = c .before .before .before .before .before .used-up in
+    let found = c .before .before .before .before .before .before .before .find-certificate in
     let start = c .before .before .before .before .before .before .before .before .before .before in
     vote-counted (start .pre .0) (blockOf (start .args .block)) (start .pre .1) (start .args .author) (found .result) (found .ensures) (used .ensures) (c .before .before .before .before .if1 .left) (c .before .before .counted .ensures)
 

@@ -38,7 +38,8 @@ fits-requires c κs = search needs
 returns-2 : tie.Need-returns-2
 returns-2 c =
     let pre = c .before .before .before .before .before .before .before .pre in let args = c .before .before .before .before .before .before .before .args in
-    let leads-at = c .before .before .before .before .leads-at in let if1 = c .before .before .before .if1 in let own-new-view = c .before .before .own-new-view in
+    let leads-at = c .before .before .before .before .leads-at in let if1 = c .before .before .before .if1 in
+    let own-new-view = c .before .before .own-new-view in
     let start = c .before .before .before .before .before .before .before in
     c .fits2 .ensures ∙ plan-room (statementOf (own-new-view .result) none) (stateOf (start .args .store .now)) (formed-parts (start .pre .0)) (c .before .planned .result) (c .before .planned .ensures)
     ∙ fits-next _ (own-new-view .result) (sym (leads-at .ensures ∙ loaded-next (pre .0) (args .station) (pre .1)) ∙ not-false _ (if1 .left)) (own-new-view .ensures .0)

@@ -65,7 +65,8 @@ only-requires c κs =
 returns-3 : tie.Need-returns-3 Inv-loop μ-loop
 unfolding union
 returns-3 c =
-    let at = c .before .before .before .before .before .before .before .before .loop in let run = c .before .before .before .before .before .before .before .run in
+    let at = c .before .before .before .before .before .before .before .before .loop in
+    let run = c .before .before .before .before .before .before .before .run in
     let decimal = c .before .before .before .before .before .decimal in let station = c .before .before .before .station in
     sym (at .inv .1 ∙ mask-last _ _ _ _ (run .ensures) _ (c .if2 .taken) (sym (decimal .ensures) ∙ ap numberOf (station .given .1)) ∙ ap (λ (x : ℕ). some (union (at .joined) x)) (sym (c .before .only .ensures)))
 
@@ -79,7 +80,8 @@ loop-again : tie.Need-loop-again Inv-loop μ-loop
 unfolding union
 loop-again c =
     let args = c .before .before .before .before .before .before .before .before .before .before .before .before .before .args in
-    let at = c .before .before .before .before .before .before .before .before .loop in let run = c .before .before .before .before .before .before .before .run in
+    let at = c .before .before .before .before .before .before .before .before .loop in
+    let run = c .before .before .before .before .before .before .before .run in
     let decimal = c .before .before .before .before .before .decimal in let station = c .before .before .before .station in
     let w = args .word .now in
     let end = run .result in

@@ -21,12 +21,14 @@ enum-told c = search needs
 
 returns : tie.Need-returns
 returns c =
-    let a = c .before .before .before .before .before .before .args in let load = c .before .before .before .before .load in
+    let a = c .before .before .before .before .before .before .args in
+    let load = c .before .before .before .before .load in
     top-none (load .result) (a .store .now) (load .ensures) (a .name) (c .before .before .top .ensures) (c .enum-told .given .1)
 
 statement-at-requires : tie.Need-statement-at-requires
 statement-at-requires c κs =
-    let a = c .before .before .before .before .before .before .before .args in let load = c .before .before .before .before .before .load in
+    let a = c .before .before .before .before .before .before .before .args in
+    let load = c .before .before .before .before .before .load in
     let f = c .before .before .before .before .before .before .before .pre .form in
     (form-long _ f, omega (arith, top-within (load .result) (a .store .now) (load .ensures) (a .name) (c .before .before .before .top .ensures) (c .before .i .given .1), form-statements _ f))
 

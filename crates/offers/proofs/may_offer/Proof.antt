@@ -24,7 +24,8 @@ is-opened-requires c κs = search needs
 
 returns : tie.Need-returns
 returns c =
-    let a = c .before .before .before .before .before .before .args in let load = c .before .before .before .before .load in
+    let a = c .before .before .before .before .before .before .args in
+    let load = c .before .before .before .before .load in
     may-is (load .result) (a .store .now) (load .ensures) (nameOf (a .name)) (c .before .leads .ensures) (c .is-opened .ensures) (c .before .before .before .is-zero .ensures) (c .before .before .is-used .ensures)
 
 pub may-offer-spec : {M : Type 1} → statement M

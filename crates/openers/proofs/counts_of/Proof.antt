@@ -39,7 +39,8 @@ array-read-counts c = search needs
 
 add-counts : tie.Need-add-counts Inv-loop μ-loop
 add-counts c =
-    let l = c .before .before .before .loop in let a = c .before .before .before .before .before in
+    let l = c .before .before .before .loop in
+    let a = c .before .before .before .before .before in
     let small = opener-small (a .args .store .now) (c .before .before .before .before .shared-slice-known .given) (l .i - 1) in
     let m = counted-most (a .args .store .now) (l .i) (a .args .count - l .i) (l .counts) (l .inv .2) (c .before .opener-at .result) (c .if1 .taken) (omega (arith, c .before .opener-at .ensures)) in
     record { fits = omega (arith, a .pre .room, tallies-most (sizeIn (a .args .store .now))) }
@@ -55,7 +56,8 @@ loop-less c = search needs
 
 loop-again : tie.Need-loop-again Inv-loop μ-loop
 loop-again c =
-    let a = c .before .before .before .before .before .args in let shared-slice-known = c .before .before .before .before .shared-slice-known in
+    let a = c .before .before .before .before .before .args in
+    let shared-slice-known = c .before .before .before .before .shared-slice-known in
     let l = c .before .before .before .loop in
     let small = opener-small (a .store .now) (shared-slice-known .given) (l .i - 1) in
     (omega (arith, l .inv .0), simp length-set (l .inv .1), counted-more (a .store .now) (l .i) (a .count) (l .counts) (c .before .before .loop-test .taken) (l .inv .0) (c .before .opener-at .result) (c .before .opener-at .ensures) (l .inv .2) (l .inv .1) (c .if1 .taken) (omega (arith, c .before .opener-at .ensures)))
@@ -65,12 +67,14 @@ loop-less-2 c = search needs
 
 loop-again-2 : tie.Need-loop-again-2 Inv-loop μ-loop
 loop-again-2 c =
-    let l = c .before .before .before .loop in let a = c .before .before .before .before .before .args in
+    let l = c .before .before .before .loop in
+    let a = c .before .before .before .before .before .args in
     (omega (arith, l .inv .0), l .inv .1, counted-same (a .store .now) (l .i) (a .count) (l .counts) (c .before .before .loop-test .taken) (l .inv .0) (c .before .opener-at .result) (c .before .opener-at .ensures) (l .inv .2) (c .if1 .left))
 
 returns : tie.Need-returns Inv-loop μ-loop
 returns c =
-    let l = c .before .loop in let a = c .before .before .before .args in
+    let l = c .before .loop in
+    let a = c .before .before .before .args in
     counted-whole (a .store .now) (l .i) (a .count) (l .counts) (c .loop-test .left) (c .before .loop .inv .2)
 
 pub counts-of-spec : {M : Type 1} → statement M

@@ -16,7 +16,8 @@ wrong-requires c κs = search needs
 
 returns : tie.Need-returns
 returns c =
-    let a = c .before .before .before .before .args in let w = c .before .before .word-of in
+    let a = c .before .before .before .before .args in
+    let w = c .before .before .word-of in
     field-wrong _ _ _ _ _ _ (c .wrong .ensures .0) (c .wrong .ensures .1) (field-missing (a .line .now) (a .at) (a .tag) (w .result) (w .ensures) (c .before .if1 .taken))
 
 sort-of-requires : tie.Need-sort-of-requires
@@ -49,7 +50,8 @@ wrong-requires-2 c κs = search needs
 returns-2 : tie.Need-returns-2
 returns-2 c =
     let a = c .before .before .before .before .before .before .before .before .before .before .args in
-    let w = c .before .before .before .before .before .before .before .before .word-of in let if1 = c .before .before .before .before .before .before .before .if1 in
+    let w = c .before .before .before .before .before .before .before .before .word-of in
+    let if1 = c .before .before .before .before .before .before .before .if1 in
     let sort-of = c .before .before .before .before .before .before .sort-of in let value-of = c .before .before .before .before .value-of in
     let sort = sort-of .ensures in
     let none = rw sort at (sym (value-of .ensures .0) ∙ ap namedOf (c .before .before .enum-told .given .1)) in
@@ -57,7 +59,8 @@ returns-2 c =
 
 returns-3 : tie.Need-returns-3
 returns-3 c =
-    let a = c .before .before .before .before .before .before .before .before .before .args in let w = c .before .before .before .before .before .before .before .word-of in
+    let a = c .before .before .before .before .before .before .before .before .before .args in
+    let w = c .before .before .before .before .before .before .before .word-of in
     let if1 = c .before .before .before .before .before .before .if1 in let sort-of = c .before .before .before .before .before .sort-of in
     let value-of = c .before .before .before .value-of in
     let sort = sort-of .ensures in

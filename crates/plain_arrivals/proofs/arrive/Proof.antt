@@ -66,7 +66,8 @@ in-order-requires c κs = search needs
 
 voting-all-requires : tie.Need-voting-all-requires
 voting-all-requires c κs =
-    let current = c .before .before .before .before .before .current in let o = c .before .in-order in
+    let current = c .before .before .before .before .before .current in
+    let o = c .before .in-order in
     let s = c .before .before .before .before .before .before .before .before .before .before in
     (o .ensures .within, s .pre .0 .sized, s .pre .0 .free, order-votable (s .args .e) (s .pre .0) (current .result) (current .ensures .is) (o .result) (o .ensures .is), omega (arith, s .pre .1, o .ensures .within .most))
 
@@ -80,7 +81,8 @@ returns-2 c =
     let if1 = c .before .before .before .before .before .before .before .before .before .before .before .if1 in
     let current = c .before .before .before .before .before .before .before .before .before .current in
     let pair = c .before .before .before .before .before .before .before .before .pair in let two = c .before .before .before .before .before .before .two in
-    let both = c .before .before .before .both in let s = c .before .before .before .before .before .before .before .before .before .before .before .before .before .before in
+    let both = c .before .before .before .both in
+    let s = c .before .before .before .before .before .before .before .before .before .before .before .before .before .before in
     let t = two .given in
     arrives-two (s .args .e) _ (s .args .at) (sym (blame-full .ensures) ∙ if1 .left) (current .result) (current-is (s .args .e) (s .pre .0) (current .result) (current .ensures .is)) (heldOf (t .0 .0)) (heldOf (t .0 .1 .0)) (ap twoOf (sym (t .1)) ∙ pair .ensures) (both .ensures) (c .quit2 .ensures)
 

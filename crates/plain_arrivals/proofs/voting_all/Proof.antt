@@ -31,7 +31,8 @@ add-i c = let p = c .before .before .before .before .pre in omega (arith, p .0 .
 
 voting-requires : tie.Need-voting-requires Inv-loop μ-loop
 voting-requires c κs =
-    let start = c .before .before .before .before .before in let a = start .args in let p = start .pre in let l = c .before .before .before .loop in
+    let start = c .before .before .before .before .before in let a = start .args in let p = start .pre in
+    let l = c .before .before .before .loop in
     let x = getD (a .t1 .items) (l .i) blank in
     let v = next-votable (a .t1) (p .0) blank (l .i) (c .before .before .loop-test .taken) (state (l .engine) .tallies) (l .inv .votable) in
     (l .inv .sized, l .inv .free, held-certifies x (v .certifies), held-linked x (v .certifies), omega (arith, l .inv .space, c .before .before .loop-test .taken))
@@ -41,7 +42,8 @@ loop-less c = omega (arith, c .before .before .before .before .before .before .l
 
 loop-again : tie.Need-loop-again Inv-loop μ-loop
 loop-again c =
-    let s = c .before .before .before .before .before .before .before .before .before in let l = c .before .before .before .before .before .before .before .loop in
+    let s = c .before .before .before .before .before .before .before .before .before in
+    let l = c .before .before .before .before .before .before .before .loop in
     votes-again (s .args .t1) (s .pre .0) blank (l .i) (c .before .before .before .before .before .before .loop-test .taken) (l .inv) (c .before .before .before .voting .ensures)
 
 same-length : tie.Need-same-length Inv-loop μ-loop

@@ -69,7 +69,8 @@ returns-2 c =
     let lower = c .before .before .before .before .before .before .before .before .before .before .lower in
     let none = c .before .before .before .before .before .before .before .before .before .none in
     let if1 = c .before .before .before .before .before .before .before .before .if1 in let loop = c .before .before .before .before .loop in
-    let loop-test = c .before .before .before .loop-test in let s = c .before .before .before .before .before .before .before .before .before .before .before .before in
+    let loop-test = c .before .before .before .loop-test in
+    let s = c .before .before .before .before .before .before .before .before .before .before .before .before in
     record {
       within = none .ensures .within;
       is = sym (chain-start (statements (s .args .xs)) (heldOf (s .args .x)) (none .result .items) _ (s .args .x .statement .name) (lower .ensures) (omega (arith, none .ensures .within .long, if1 .left)) refl
@@ -99,7 +100,8 @@ returns-3 : tie.Need-returns-3 Inv-loop μ-loop
 unfolding maybeOf heldOf statementOf names
 returns-3 c =
     let lower = c .before .before .before .before .before .before .before .lower in let none = c .before .before .before .before .before .before .none in
-    let if1 = c .before .before .before .before .before .if1 in let s = c .before .before .before .before .before .before .before .before .before in
+    let if1 = c .before .before .before .before .before .if1 in
+    let s = c .before .before .before .before .before .before .before .before .before in
     let w = c .before .loop .inv in
     record {
       within = record { long = w .long; most = w .fits };

@@ -38,7 +38,8 @@ commit-requires c κs = let s = c .before .before .before in (s .pre .0, s .pre 
 returns : tie.Need-returns Inv-loop μ-loop
 unfolding maybeOf
 returns c =
-    let l = c .before .before .before .before .before .loop in let loop-test = c .before .before .before .before .loop-test in
+    let l = c .before .before .before .before .before .loop in
+    let loop-test = c .before .before .before .before .loop-test in
     let s = c .before .before .before .before .before .before in
     record { within = l .inv .1; is = sym (l .inv .2 ∙ commits-differ (statements (s .args .xs)) (s .args .t2 .items) (s .args .t2 .count) _ (l .i) (tables.names (l .names)) (omega (arith, s .pre .2 .long, s .pre .2 .most)) (loop-test .taken) (gives-none (c .before .before .commit .ensures) (not-true _ (c .if1 .taken)))) }
 
@@ -50,14 +51,17 @@ loop-less c = omega arith
 
 loop-again : tie.Need-loop-again Inv-loop μ-loop
 loop-again c =
-    let l = c .before .before .before .before .before .before .loop in let loop-test = c .before .before .before .before .before .loop-test in
-    let commit = c .before .before .before .commit in let s = c .before .before .before .before .before .before .before in
+    let l = c .before .before .before .before .before .before .loop in
+    let loop-test = c .before .before .before .before .before .loop-test in
+    let commit = c .before .before .before .commit in
+    let s = c .before .before .before .before .before .before .before in
     (omega arith, commit .ensures .within, l .inv .2 ∙ commits-go (statements (s .args .xs)) (s .args .t2 .items) (s .args .t2 .count) _ (l .i) (tables.names (l .names)) (omega (arith, s .pre .2 .long, s .pre .2 .most)) (loop-test .taken) _ (gives-some (commit .ensures) (not-false _ (c .before .if1 .left))))
 
 returns-2 : tie.Need-returns-2 Inv-loop μ-loop
 unfolding maybeOf
 returns-2 c =
-    let s = c .before .before in let l = c .before .loop in
+    let s = c .before .before in
+    let l = c .before .loop in
     record { within = l .inv .1; is = sym (l .inv .2 ∙ commits-end (statements (s .args .xs)) (s .args .t2 .items) (s .args .t2 .count) (l .i) (tables.names (l .names)) (c .loop-test .left)) }
 
 pub commits-spec : {M : Type 1} → statement M

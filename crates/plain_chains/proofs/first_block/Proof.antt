@@ -36,7 +36,8 @@ is-block-requires c κs = search needs
 returns : tie.Need-returns Inv-loop μ-loop
 returns c =
     let t = c .before .before .before .before .before .args .t1 in
-    let w = c .before .before .before .before .before .pre in let l = c .before .before .before .before .loop in
+    let w = c .before .before .before .before .before .pre in
+    let l = c .before .before .before .before .loop in
     sym (l .inv .1 ∙ first-here heldOf _ (t .items) (t .count) _ (l .i) (omega (arith, w .long, w .most)) (c .before .before .before .loop-test .taken) (sym (c .before .is-block .ensures) ∙ c .if1 .taken))
 
 add-i : tie.Need-add-i Inv-loop μ-loop
@@ -48,7 +49,8 @@ loop-less c = omega arith
 loop-again : tie.Need-loop-again Inv-loop μ-loop
 loop-again c =
     let t = c .before .before .before .before .before .args .t1 in
-    let w = c .before .before .before .before .before .pre in let l = c .before .before .before .before .loop in
+    let w = c .before .before .before .before .before .pre in
+    let l = c .before .before .before .before .loop in
     (omega arith, l .inv .1 ∙ first-next heldOf _ (t .items) (t .count) _ (l .i) (omega (arith, w .long, w .most)) (c .before .before .before .loop-test .taken) (sym (c .before .is-block .ensures) ∙ c .if1 .left))
 
 returns-2 : tie.Need-returns-2 Inv-loop μ-loop

@@ -108,7 +108,8 @@ returns c =
 returns-2 : tie.Need-returns-2
 unfolding messageOf inputs.handled
 returns-2 c =
-    let a = c .before .before .before .before .before .before .args in let message2 = c .before .before .before .message2 in
+    let a = c .before .before .before .before .before .before .args in
+    let message2 = c .before .before .before .message2 in
     told (a .e) _ (a .at) (message2 .given .1)
     (tallied-worked (a .e) _ (a .at) (some (message2 .given .0 .1 .1 .1 .0)) _ _ (voter-certificate (message2 .given .0 .0) (message2 .given .0 .1 .0) (message2 .given .0 .1 .1 .0) (message2 .given .0 .1 .1 .1 .0) (c .before .mask-of .ensures)) (c .tallied .ensures))
 
@@ -136,7 +137,8 @@ returns-4 c =
 returns-5 : tie.Need-returns-5
 unfolding messageOf inputs.handled certificateOf
 returns-5 c =
-    let a = c .before .before .before .before .before .args in let message5 = c .before .before .message5 in
+    let a = c .before .before .before .before .before .args in
+    let message5 = c .before .before .message5 in
     let t : words.Certificate = record { view = (message5 .given .0 .1 .1 .0); height = (message5 .given .0 .0); name = nameOf (message5 .given .0 .1 .0); mask = (message5 .given .0 .1 .1 .1 .0) } in
     told (a .e) _ (a .at) (message5 .given .1) (tallied-worked (a .e) _ (a .at) none t t refl (c .tallied2 .ensures))
 

@@ -58,7 +58,8 @@ returns c =
 returns-2 : tie.Need-returns-2
 unfolding statementOf state
 returns-2 c =
-    let a = c .before .before .before .before .before .before .before .before .args in let own-block = c .before .before .before .before .before .own-block in
+    let a = c .before .before .before .before .before .before .before .before .args in
+    let own-block = c .before .before .before .before .before .own-block in
     let voters = c .before .before .before .before .voters in let wide = c .before .before .before .wide in let the-quorum = c .before .before .quorum in
     extension-none
     (statementOf (a .x) none)

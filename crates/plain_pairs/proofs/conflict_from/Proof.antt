@@ -37,7 +37,8 @@ conflict-requires c κs = search needs
 returns : tie.Need-returns Inv-loop μ-loop
 unfolding statements
 returns c =
-    let start = c .before .before .before .before .before in let a = start .args in let pre = start .pre in let l = c .before .before .before .before .loop in
+    let start = c .before .before .before .before .before in let a = start .args in let pre = start .pre in
+    let l = c .before .before .before .before .loop in
     let loop-test = c .before .before .before .loop-test in
     let w = pre .0 in
     sym (l .inv .1 ∙ first-here heldOf (words.conflict (statementOf (a .x) none)) (a .t1 .items) (a .t1 .count) blank (l .i) (omega (arith, w .long, w .most)) (loop-test .taken) (conflict-held (a .x) (getD (a .t1 .items) (l .i) blank) ∙ sym (c .before .conflict .ensures) ∙ c .if1 .taken))
@@ -50,7 +51,8 @@ loop-less c = omega (arith, c .before .before .before .loop-test .taken)
 
 loop-again : tie.Need-loop-again Inv-loop μ-loop
 loop-again c =
-    let start = c .before .before .before .before .before in let a = start .args in let pre = start .pre in let l = c .before .before .before .before .loop in
+    let start = c .before .before .before .before .before in let a = start .args in let pre = start .pre in
+    let l = c .before .before .before .before .loop in
     let loop-test = c .before .before .before .loop-test in
     let w = pre .0 in
     (omega (arith, loop-test .taken), l .inv .1 ∙ first-next heldOf (words.conflict (statementOf (a .x) none)) (a .t1 .items) (a .t1 .count) blank (l .i) (omega (arith, w .long, w .most)) (loop-test .taken) (conflict-held (a .x) (getD (a .t1 .items) (l .i) blank) ∙ sym (c .before .conflict .ensures) ∙ c .if1 .left))
@@ -58,7 +60,8 @@ loop-again c =
 returns-2 : tie.Need-returns-2 Inv-loop μ-loop
 unfolding statements
 returns-2 c =
-    let a = c .before .before .args in let l = c .before .loop in
+    let a = c .before .before .args in
+    let l = c .before .loop in
     sym (l .inv .1 ∙ first-done heldOf (words.conflict (statementOf (a .x) none)) (a .t1 .items) (a .t1 .count) (l .i) (c .loop-test .left))
 
 pub conflict-from-spec : {M : Type 1} → statement M

@@ -40,7 +40,8 @@ returns : tie.Need-returns Inv-loop μ-loop
 unfolding statements
 returns c =
     let start = c .before .before .before .before .before .before .before in let a = start .args in let w = start .pre in
-    let l = c .before .before .before .before .before .before .loop in let loop-test = c .before .before .before .before .before .loop-test in
+    let l = c .before .before .before .before .before .before .loop in
+    let loop-test = c .before .before .before .before .before .loop-test in
     let conflict-from = c .before .before .before .conflict-from in
     sym (l .inv .1 ∙ pair-here (a .t1 .items) (a .t1 .count) blank (l .i) (omega (arith, w .long, w .most)) (loop-test .taken) _ (sym (conflict-from .ensures) ∙ ap foundOf (c .before .found .given .1)))
 
@@ -53,14 +54,16 @@ loop-less c = omega (arith, c .before .before .before .before .loop-test .taken)
 loop-again : tie.Need-loop-again Inv-loop μ-loop
 unfolding statements
 loop-again c =
-    let start = c .before .before .before .before .before .before in let a = start .args in let w = start .pre in let l = c .before .before .before .before .before .loop in
+    let start = c .before .before .before .before .before .before in let a = start .args in let w = start .pre in
+    let l = c .before .before .before .before .before .loop in
     let loop-test = c .before .before .before .before .loop-test in
     (omega (arith, loop-test .taken), l .inv .1 ∙ pair-next (a .t1 .items) (a .t1 .count) blank (l .i) (omega (arith, w .long, w .most)) (loop-test .taken) (sym (c .before .before .conflict-from .ensures) ∙ ap foundOf (c .enum-told .given .1)))
 
 returns-2 : tie.Need-returns-2 Inv-loop μ-loop
 unfolding statements
 returns-2 c =
-    let a = c .before .before .args in let l = c .before .loop in
+    let a = c .before .before .args in
+    let l = c .before .loop in
     sym (l .inv .1 ∙ pair-done (a .t1 .items) (a .t1 .count) (l .i) (c .loop-test .left))
 
 pub pair-spec : {M : Type 1} → statement M

@@ -25,7 +25,8 @@ higher-requires c κs = search needs
 returns : tie.Need-returns
 unfolding tallyOf words.certified
 returns c =
-    let a = c .before .before .before .before .before .before .args in let certificate-of = c .before .before .before .before .before .certificate-of in
+    let a = c .before .before .before .before .before .before .args in
+    let certificate-of = c .before .before .before .before .before .certificate-of in
     let wide = c .before .before .before .before .wide in let the-quorum = c .before .before .before .quorum in let higher = c .before .before .higher in
     best-own (settingsOf (a .settings)) (a .view) (tallyOf (a .t)) (certificateOf (a .best)) (certificateOf (certificate-of .result)) (the-quorum .result) (higher .result) (certificate-of .ensures)
     (the-quorum .ensures ∙ ap (quorum (settingsOf (a .settings))) (wide .ensures .0)) (higher .ensures) (c .if1 .taken)
@@ -33,7 +34,8 @@ returns c =
 returns-2 : tie.Need-returns-2
 unfolding tallyOf words.certified
 returns-2 c =
-    let a = c .before .before .before .before .before .before .args in let certificate-of = c .before .before .before .before .before .certificate-of in
+    let a = c .before .before .before .before .before .before .args in
+    let certificate-of = c .before .before .before .before .before .certificate-of in
     let wide = c .before .before .before .before .wide in let the-quorum = c .before .before .before .quorum in let higher = c .before .before .higher in
     best-other (settingsOf (a .settings)) (a .view) (tallyOf (a .t)) (certificateOf (a .best)) (certificateOf (certificate-of .result)) (the-quorum .result) (higher .result) (certificate-of .ensures)
     (the-quorum .ensures ∙ ap (quorum (settingsOf (a .settings))) (wide .ensures .0)) (higher .ensures) (c .if1 .left)

@@ -18,7 +18,8 @@ with-clock-requires c κs = search needs
 
 commits-requires : tie.Need-commits-requires
 commits-requires c κs =
-    let s = c .before .before .before in let t = c .with-clock in
+    let s = c .before .before .before in
+    let t = c .with-clock in
     let k = later-whole (s .args .e) (t .result) (t .ensures) (s .pre .0) (s .pre .2) in
     (k .sized, omega (arith, few-statements (t .result) k))
 
@@ -27,7 +28,8 @@ halted-requires c κs = search needs
 
 returns : tie.Need-returns
 returns c =
-    let s = c .before .before .before .before .before .before .before in let t = c .before .before .before .before .with-clock in
+    let s = c .before .before .before .before .before .before .before in
+    let t = c .before .before .before .before .with-clock in
     let k = later-whole (s .args .e) (t .result) (t .ensures) (s .pre .0) (s .pre .2) in
     let m = c .before .before .before .commits in
     let n = later-commits (s .args .e) (t .result) (t .ensures) (no-log (t .result) k (m .result) (m .ensures) (not-true _ (c .before .if1 .taken))) in
@@ -35,7 +37,8 @@ returns c =
 
 turned-requires : tie.Need-turned-requires
 turned-requires c κs =
-    let s = c .before .before .before .before .before .before .before in let t = c .before .before .before .before .with-clock in
+    let s = c .before .before .before .before .before .before .before in
+    let t = c .before .before .before .before .with-clock in
     let k = later-whole (s .args .e) (t .result) (t .ensures) (s .pre .0) (s .pre .2) in
     let m = c .before .before .before .commits in
     (some-keepable (t .result) k (m .result) (m .ensures) (not-false _ (c .before .if1 .left)), s .pre .3)
@@ -48,7 +51,8 @@ same-length c = search needs
 
 returns-2 : tie.Need-returns-2
 returns-2 c =
-    let t = c .before .before .before .before .before .before .before .before .with-clock in let m = c .before .before .before .before .before .before .before .commits in
+    let t = c .before .before .before .before .before .before .before .before .with-clock in
+    let m = c .before .before .before .before .before .before .before .commits in
     let if1 = c .before .before .before .before .before .if1 in let turned = c .before .before .before .turned in
     let s = c .before .before .before .before .before .before .before .before .before .before .before in
     let k = later-whole (s .args .e) (t .result) (t .ensures) (s .pre .0) (s .pre .2) in

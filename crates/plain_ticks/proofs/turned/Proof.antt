@@ -12,13 +12,15 @@ logging-requires c κs = let s = c .before .before in let k = s .pre .0 in (k .w
 
 complain-requires : tie.Need-complain-requires
 complain-requires c κs =
-    let s = c .before .before .before .before .before .before in let g = c .before .before .before .logging in
+    let s = c .before .before .before .before .before .before in
+    let g = c .before .before .before .logging in
     let k = logged-whole (s .args .e) (s .args .log) (s .pre .0) _ (g .ensures) in
     (k .sized, whole-view (g .result .engine) k, omega (arith, logged-space (s .args .e) (s .args .log) (s .pre .0) _ (g .ensures) (s .pre .1)))
 
 lead-requires : tie.Need-lead-requires
 lead-requires c κs =
-    let s = c .before .before .before .before .before .before .before .before .before .before in let g = c .before .before .before .before .before .before .before .logging in
+    let s = c .before .before .before .before .before .before .before .before .before .before in
+    let g = c .before .before .before .before .before .before .before .logging in
     let k = logged-whole (s .args .e) (s .args .log) (s .pre .0) _ (g .ensures) in
     let h = logged-space (s .args .e) (s .args .log) (s .pre .0) _ (g .ensures) (s .pre .1) in
     let b = c .before .before .before .complain in

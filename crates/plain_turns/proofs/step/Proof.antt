@@ -74,7 +74,7 @@ returns-3 c =
 heard-requires : tie.Need-heard-requires
 unfolding state
 heard-requires c κs =
-    let start = c .before .before .before .before .before .before .before .before .before .before .before .before .before .before in let a = start .args in let pre = start .pre in
+    let pre = c .before .before .before .before .before .before .before .before .before .before .before .before .before .before .pre in
     let message-allowed = c .before .before .before .before .message-allowed in let if2 = c .before .before .before .if2 in
     (pre .0, sym (message-allowed .ensures) ∙ not-false _ (if2 .left), pre .1)
 

@@ -68,7 +68,8 @@ add-room c =
     let certificate-of = c .before .before .before .before .before .before .before .before .before .certificate-of in
     let find-certificate = c .before .before .before .before .before .before .before .before .find-certificate in
     let own-block = c .before .before .before .before .before .before .before .own-block in let find-tally = c .before .before .before .before .before .before .find-tally in
-    let needed = c .before .before .before .before .before .needed in let needed2 = c .before .before .before .before .needed2 in let load = c .before .before .before .load in
+    let needed = c .before .before .before .before .before .needed in let needed2 = c .before .before .before .before .needed2 in
+    let load = c .before .before .before .load in
     let start = c .before .before .before .before .before .before .before .before .before .before .before .before .before .before in
     omega (arith, loaded-tallies (load .result) (start .args .store .now) (load .ensures), form-tallies _ (start .pre .0 .form), needed .ensures, needed-few (blockOf (certificate-of .result)) (find-certificate .result), needed2 .ensures, needed-few (blockOf (own-block .result)) (find-tally .result))
 
@@ -85,8 +86,10 @@ returns-2 c =
     let certificate = c .before .before .before .before .before .before .before .before .before .before .before .certificate-of in
     let certified = c .before .before .before .before .before .before .before .before .before .before .find-certificate in
     let block = c .before .before .before .before .before .before .before .before .before .own-block in
-    let own = c .before .before .before .before .before .before .before .before .find-tally in let needed = c .before .before .before .before .before .before .before .needed in
-    let needed2 = c .before .before .before .before .before .before .needed2 in let load = c .before .before .before .before .before .load in
+    let own = c .before .before .before .before .before .before .before .before .find-tally in
+    let needed = c .before .before .before .before .before .before .before .needed in
+    let needed2 = c .before .before .before .before .before .before .needed2 in
+    let load = c .before .before .before .before .before .load in
     let most-statements-in = c .before .before .before .before .most-statements-in in
     let start = c .before .before .before .before .before .before .before .before .before .before .before .before .before .before .before .before in
     let b = start .args .store .now in

@@ -50,7 +50,8 @@ add-next-2 c =
 add-t13 : tie.Need-add-t13
 unfolding placeOf
 add-t13 c =
-    let if1 = c .before .before .before .before .if1 in let width-of = c .before .before .before .width-of in let after-has = c .before .before .before .before .before in
+    let if1 = c .before .before .before .before .if1 in let width-of = c .before .before .before .width-of in
+    let after-has = c .before .before .before .before .before in
     let a = after-has .before .before .args in
     omega (arith, head-room (a .s .now) (a .tag) (placeOf (a .cursor)) (after-has .has .ensures) (if1 .left) (width-of .ensures) (c .before .before .stands .ensures) (c .before .if2 .left))
 

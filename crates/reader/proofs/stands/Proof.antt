@@ -22,7 +22,8 @@ shared-slice-read-if3 c = search needs
 
 returns-3 : tie.Need-returns-3
 returns-3 c =
-    let start = c .before .before .before .before .before in let a = start .args in
+    let start = c .before .before .before .before .before in
+    let a = start .args in
     field-other (a .s .now) (c .before .shared-slice-known2 .given) (a .at) (a .tag) (a .width) (start .pre) (c .if3 .taken)
 
 add-get : tie.Need-add-get
@@ -33,7 +34,8 @@ get-requires c κs = search needs
 
 returns-4 : tie.Need-returns-4
 returns-4 c =
-    let start = c .before .before .before .before .before .before in let a = start .args in
+    let start = c .before .before .before .before .before .before in
+    let a = start .args in
     ap (λ (n : ℕ). eqb n (a .width)) (c .get .ensures .0)
     ∙ field-same (a .s .now) (c .before .before .shared-slice-known2 .given) (a .at) (a .tag) (a .width) (start .pre) (omega arith) (c .before .if3 .left)
 

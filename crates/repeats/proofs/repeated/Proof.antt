@@ -16,18 +16,21 @@ element-copy-out-left c = search needs
 
 cast-left : tie.Need-cast-left
 cast-left c =
-    let start = c .before .before in let a = start .args in
+    let start = c .before .before in
+    let a = start .args in
     let walk = met-start (a .store .now) (c .before .shared-slice-known .given) (a .salt) (a .count) (a .i) (start .pre .2) (start .pre .1) _ (start .pre .3) (start .pre .4) in
     record { fits = omega (arith, walk .within, few-statements (start .pre .0)) }
 
 met-requires : tie.Need-met-requires
 met-requires c κs =
-    let start = c .before .before .before in let a = start .args in
+    let start = c .before .before .before in
+    let a = start .args in
     (start .pre .0, start .pre .1, met-start (a .store .now) (c .before .before .shared-slice-known .given) (a .salt) (a .count) (a .i) (start .pre .2) (start .pre .1) _ (start .pre .3) (start .pre .4))
 
 returns : tie.Need-returns
 returns c =
-    let start = c .before .before .before .before .before in let a = start .args in
+    let start = c .before .before .before .before .before in
+    let a = start .args in
     let met = met-is (a .store .now) (c .before .before .before .before .shared-slice-known .given) (a .salt) (a .count) (a .i) (start .pre .2) (start .pre .1) _ (start .pre .3) (start .pre .4) in
     record { is = sym (c .if1 .taken) ∙ c .before .met .ensures ∙ met; hangs = λ e. no-bool e }
 
@@ -42,7 +45,8 @@ hang-requires c κs =
 
 returns-2 : tie.Need-returns-2
 returns-2 c =
-    let start = c .before .before .before .before .before .before .before .before in let a = start .args in
+    let start = c .before .before .before .before .before .before .before .before in
+    let a = start .args in
     let b = a .store .now in
     let bytes = c .before .before .before .before .before .before .before .shared-slice-known .given in
     let met = met-is b bytes (a .salt) (a .count) (a .i) (start .pre .2) (start .pre .1) _ (start .pre .3) (start .pre .4) in

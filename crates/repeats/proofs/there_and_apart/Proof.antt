@@ -53,26 +53,30 @@ sub-i c = search needs
 
 certified-block-requires : tie.Need-certified-block-requires Inv-loop μ-loop
 certified-block-requires c κs =
-    let start = c .before .before .before .before in let loop = c .before .loop in
+    let start = c .before .before .before .before in
+    let loop = c .before .loop in
     let more = c .loop-test .taken in
     (start .pre .2 .long, omega (arith, start .pre .2 .room, loop .inv .0, more), start .pre .3 _ (omega (arith, loop .inv .0, more)))
 
 own-block-requires : tie.Need-own-block-requires Inv-loop μ-loop
 own-block-requires c κs =
-    let start = c .before .before .before .before .before in let loop = c .before .before .loop in
+    let start = c .before .before .before .before .before in
+    let loop = c .before .before .loop in
     let more = c .before .loop-test .taken in
     (start .pre .2 .long, omega (arith, start .pre .2 .room, loop .inv .0, more), start .pre .3 _ (omega (arith, loop .inv .0, more)), c .certified-block .ensures .keyed .key-is, loop .inv .4)
 
 there-requires : tie.Need-there-requires Inv-loop μ-loop
 there-requires c κs =
-    let start = c .before .before .before .before .before .before in let loop = c .before .before .before .loop in
+    let start = c .before .before .before .before .before .before in
+    let loop = c .before .before .before .loop in
     let more = c .before .before .loop-test .taken in
     (start .pre .0, start .pre .1, omega (arith, start .pre .2 .room, loop .inv .0, more), c .own-block .ensures, c .before .certified-block .ensures)
 
 returns-2 : tie.Need-returns-2 Inv-loop μ-loop
 unfolding statements
 returns-2 c =
-    let loop = c .before .before .before .before .before .loop in let loop-test = c .before .before .before .before .loop-test in
+    let loop = c .before .before .before .before .before .loop in
+    let loop-test = c .before .before .before .before .loop-test in
     let start = c .before .before .before .before .before .before .before .before in
     let more = loop-test .taken in
     let store = start .args .store .now in
@@ -89,7 +93,8 @@ repeated-requires c κs =
     let shared-slice-known = c .before .before .before .before .before .before .before .before .before .before .before .shared-slice-known in
     let loop = c .before .before .before .before .before .before .before .before .before .loop in
     let loop-test = c .before .before .before .before .before .before .before .before .loop-test in
-    let block = c .before .before .before .before .before .before .before .certified-block in let own = c .before .before .before .before .before .before .own-block in
+    let block = c .before .before .before .before .before .before .before .certified-block in
+    let own = c .before .before .before .before .before .before .own-block in
     let stirred = c .before .before .before .stirred in let chain-of = c .before .before .chain-of in
     let start = c .before .before .before .before .before .before .before .before .before .before .before .before in
     let more = loop-test .taken in
@@ -135,7 +140,8 @@ loop-again c =
 returns-4 : tie.Need-returns-4 Inv-loop μ-loop
 unfolding statements
 returns-4 c =
-    let start = c .before .before .before .before in let loop = c .before .loop in
+    let start = c .before .before .before .before in
+    let loop = c .before .loop in
     let store = start .args .store .now in
     let whole = whole-rows (statementAt store) (loop .i) _ _ (start .pre .2 .is) (c .loop-test .left) in
     sym (ap₂ _&&_ (ap (all (talliesThere (tallies store))) whole ∙ loop .inv .3) (ap (distinct sameStatement) whole ∙ loop .inv .2))

@@ -39,18 +39,21 @@ shared-slice-read-statement-at c =
 
 cast-statement-at : tie.Need-cast-statement-at Inv-loop μ-loop
 cast-statement-at c =
-    let pre = c .before .before .before .before .before .before .before .before .before .pre in let loop = c .before .before .before .loop in
+    let pre = c .before .before .before .before .before .before .before .before .before .pre in
+    let loop = c .before .before .before .loop in
     omega (arith, pre .stored (loop .k) (loop .inv .1 .low) (c .before .before .loop-test .taken), form-statements _ (pre .form))
 
 statement-at-requires : tie.Need-statement-at-requires Inv-loop μ-loop
 statement-at-requires c κs =
-    let pre = c .before .before .before .before .before .before .before .before .before .pre in let loop = c .before .before .before .loop in
+    let pre = c .before .before .before .before .before .before .before .before .before .pre in
+    let loop = c .before .before .before .loop in
     (form-long _ (loop .inv .1 .left .form), omega (arith, pre .stored (loop .k) (loop .inv .1 .low) (c .before .before .loop-test .taken), form-statements _ (pre .form), ap mostStatements (logged-size _ _ _ _ (loop .inv .1))))
 
 append-name-requires : tie.Need-append-name-requires Inv-loop μ-loop
 append-name-requires c κs =
     let pre = c .before .before .before .before .before .before .before .before .before .before .before .before .pre in
-    let loop = c .before .before .before .before .before .before .loop in let loop-test = c .before .before .before .before .before .loop-test in
+    let loop = c .before .before .before .before .before .before .loop in
+    let loop-test = c .before .before .before .before .before .loop-test in
     ((loop .inv .1 .left .form), omega (arith, logged-count _ _ _ _ (loop .inv .1), loop-test .taken, pre .fits, ap mostStatements (logged-size _ _ _ _ (loop .inv .1))))
 
 add-committed : tie.Need-add-committed Inv-loop μ-loop
@@ -68,7 +71,8 @@ cast-committed c =
 committed-requires : tie.Need-committed-requires Inv-loop μ-loop
 committed-requires c κs =
     let start = c .before .before .before .before .before .before .before .before .before .before .before .before .before .before .before .before in let a = start .args in
-    let p = start .pre in let l = c .before .before .before .before .before .before .before .before .before .before .loop in
+    let p = start .pre in
+    let l = c .before .before .before .before .before .before .before .before .before .before .loop in
     let loop-test = c .before .before .before .before .before .before .before .before .before .loop-test in
     let statement-at = c .before .before .before .before .before .before .statement-at in
     omega (arith, logged-ends (a .store .now) (a .gained .now) (a .out .now) (a .at) (l .inv .1), l .inv .1 .low, loop-test .taken, p .space, says-length (l .inv .1 .says), committed-bytes (l .k + 1) (nameOf (statement-at .result .name)))
@@ -86,7 +90,8 @@ loop-less c =
 loop-again : tie.Need-loop-again Inv-loop μ-loop
 loop-again c =
     let start = c .before .before .before .before .before .before .before .before .before .before .before .before .before .before .before .before .before .before .before in
-    let a = start .args in let p = start .pre in let l = c .before .before .before .before .before .before .before .before .before .before .before .before .before .loop in
+    let a = start .args in let p = start .pre in
+    let l = c .before .before .before .before .before .before .before .before .before .before .before .before .before .loop in
     let loop-test = c .before .before .before .before .before .before .before .before .before .before .before .before .loop-test in
     let statement-at = c .before .before .before .before .before .before .before .before .before .statement-at in
     let append-name = c .before .before .before .before .before .before .append-name in

@@ -51,7 +51,8 @@ loop-less c = omega arith
 
 loop-again : tie.Need-loop-again Inv-loop μ-loop
 loop-again c =
-    let a = c .before .before .before .before .before .before .before .args in let statement-count = c .before .before .before .before .before .statement-count in
+    let a = c .before .before .before .before .before .before .before .args in
+    let statement-count = c .before .before .before .before .before .statement-count in
     let l = c .before .before .before .before .loop in
     l .inv ∙ pair-step (statementAt (a .store .now)) (a .view) (countOf statementTable (a .store .now)) (l .i) (omega (arith, statement-count .ensures .0)) none (finds-nothing (c .before .before .rival-of .ensures) (c .enum-told .given .1))
 
@@ -62,7 +63,8 @@ returns c =
 
 returns-2 : tie.Need-returns-2 Inv-loop μ-loop
 returns-2 c =
-    let a = c .before .before .before .before .before .before .before .before .args in let statement-count = c .before .before .before .before .before .before .statement-count in
+    let a = c .before .before .before .before .before .before .before .before .args in
+    let statement-count = c .before .before .before .before .before .before .statement-count in
     let loop = c .before .before .before .before .before .loop in let rival-of = c .before .before .before .rival-of in
     let f = statementAt (a .store .now) in
     let j = c .before .found .given .0 .0 in

@@ -40,7 +40,8 @@ loop-less c = omega arith
 
 loop-again : tie.Need-loop-again Inv-loop μ-loop
 loop-again c =
-    let a = c .before .before .before .before .before .before .args in let l = c .before .before .before .loop in
+    let a = c .before .before .before .before .before .before .args in
+    let l = c .before .before .before .loop in
     (omega arith, topmost-other (statementAt (a .store .now)) (a .view) (countOf statementTable (a .store .now)) (l .i) (c .before .before .loop-test .taken) (l .inv .0) (l .best) (l .height) (l .inv .1) (λ e. c .if1 .taken (c .before .view-at .ensures ∙ e)))
 
 statement-at-requires : tie.Need-statement-at-requires Inv-loop μ-loop
@@ -52,7 +53,8 @@ loop-less-2 c = omega arith
 
 loop-again-2 : tie.Need-loop-again-2 Inv-loop μ-loop
 loop-again-2 c =
-    let a = c .before .before .before .before .before .before .before .before .before .args in let l = c .before .before .before .before .before .before .loop in
+    let a = c .before .before .before .before .before .before .before .before .before .args in
+    let l = c .before .before .before .before .before .before .loop in
     let loop-test = c .before .before .before .before .before .loop-test in let view-at = c .before .before .before .before .view-at in let if1 = c .before .before .before .if1 in
     let statement-at = c .before .before .statement-at in
     (omega arith, topmost-lower (statementAt (a .store .now)) (a .view) (countOf statementTable (a .store .now)) (l .i) (loop-test .taken) (l .inv .0) (sym (view-at .ensures) ∙ if1 .left) (l .best) (l .height) (l .inv .1) (omega (arith, read-height (statement-at .result) (statementAt (a .store .now) (l .i - 1)) (statement-at .ensures))))
@@ -62,7 +64,8 @@ loop-less-3 c = omega arith
 
 loop-again-3 : tie.Need-loop-again-3 Inv-loop μ-loop
 loop-again-3 c =
-    let a = c .before .before .before .before .before .before .before .before .before .args in let l = c .before .before .before .before .before .before .loop in
+    let a = c .before .before .before .before .before .before .before .before .before .args in
+    let l = c .before .before .before .before .before .before .loop in
     let loop-test = c .before .before .before .before .before .loop-test in let view-at = c .before .before .before .before .view-at in let if1 = c .before .before .before .if1 in
     let statement-at = c .before .before .statement-at in
     (omega arith, topmost-here (statementAt (a .store .now)) (a .view) (countOf statementTable (a .store .now)) (l .i) (loop-test .taken) (l .inv .0) (sym (view-at .ensures) ∙ if1 .left) (l .best) (l .height) (l .inv .1) (statement-at .result .height) (read-height (statement-at .result) (statementAt (a .store .now) (l .i - 1)) (statement-at .ensures)) (c .if2 .left))

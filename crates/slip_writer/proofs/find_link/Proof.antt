@@ -37,17 +37,20 @@ loop-less c = omega arith
 
 loop-again : tie.Need-loop-again Inv-loop μ-loop
 loop-again c =
-    let a = c .before .before .before .before .before .args in let l = c .before .before .before .loop in
+    let a = c .before .before .before .before .before .args in
+    let l = c .before .before .before .loop in
     (omega arith, l .inv .1 ∙ find-next (statementAt (a .store .now)) (isLink (a .height) (nameOf (a .name)) (nameOf (a .parent))) _ (l .i) (omega arith) (sym (c .before .links .ensures) ∙ c .if2 .left))
 
 returns : tie.Need-returns Inv-loop μ-loop
 returns c =
-    let a = c .before .before .before .args in let l = c .before .loop in
+    let a = c .before .before .before .args in
+    let l = c .before .loop in
     sym (l .inv .1 ∙ find-none (statementAt (a .store .now)) (isLink (a .height) (nameOf (a .name)) (nameOf (a .parent))) _ (l .i) (omega arith))
 
 returns-2 : tie.Need-returns-2 Inv-loop μ-loop
 returns-2 c =
-    let a = c .before .before .before .before .before .args in let l = c .before .before .before .loop in
+    let a = c .before .before .before .before .before .args in
+    let l = c .before .before .before .loop in
     sym (l .inv .1 ∙ find-here (statementAt (a .store .now)) (isLink (a .height) (nameOf (a .name)) (nameOf (a .parent))) _ (l .i) (omega arith) (sym (c .before .links .ensures) ∙ c .if2 .taken))
 
 pub find-link-spec : {M : Type 1} → statement M

@@ -40,17 +40,20 @@ loop-less c = omega arith
 
 loop-again : tie.Need-loop-again Inv-loop μ-loop
 loop-again c =
-    let a = c .before .before .before .before .before .before .args in let l = c .before .before .before .before .loop in
+    let a = c .before .before .before .before .before .before .args in
+    let l = c .before .before .before .before .loop in
     (omega arith, l .inv .1 ∙ find-next (nameAt (a .store .now)) (eqb (nameOf (a .name))) _ (l .i) (omega arith) (ap (eqb (nameOf (a .name))) (sym (c .before .before .name-at .ensures)) ∙ sym (c .before .same .ensures) ∙ c .if2 .left))
 
 returns : tie.Need-returns Inv-loop μ-loop
 returns c =
-    let a = c .before .before .before .args in let l = c .before .loop in
+    let a = c .before .before .before .args in
+    let l = c .before .loop in
     sym (l .inv .1 ∙ find-none (nameAt (a .store .now)) (eqb (nameOf (a .name))) _ (l .i) (omega arith))
 
 returns-2 : tie.Need-returns-2 Inv-loop μ-loop
 returns-2 c =
-    let a = c .before .before .before .before .before .before .args in let l = c .before .before .before .before .loop in
+    let a = c .before .before .before .before .before .before .args in
+    let l = c .before .before .before .before .loop in
     sym (l .inv .1 ∙ find-here (nameAt (a .store .now)) (eqb (nameOf (a .name))) _ (l .i) (omega arith) (ap (eqb (nameOf (a .name))) (sym (c .before .before .name-at .ensures)) ∙ sym (c .before .same .ensures) ∙ c .if2 .taken))
 
 pub find-name-spec : {M : Type 1} → statement M

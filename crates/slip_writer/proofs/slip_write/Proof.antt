@@ -34,7 +34,8 @@ well-formed-requires c κs =
 
 returns-4 : tie.Need-returns-4
 returns-4 c =
-    let a = c .before .before .before .before .before .before .before .before .before .before .args in let is-whole = c .before .before .before .before .before .before .is-whole in
+    let a = c .before .before .before .before .before .before .before .before .before .before .args in
+    let is-whole = c .before .before .before .before .before .before .is-whole in
     let if1 = c .before .before .before .before .before .if1 in let if2 = c .before .before .before .before .if2 in let least-out-in = c .before .before .before .least-out-in in
     refused-formless (a .store .now) (a .name .now) (a .out .now) (is-whole .ensures) (if1 .left) (if2 .left) (omega (arith, c .before .before .if3 .left, least-out-in .ensures)) (c .before .well-formed .ensures) refl (c .if4 .taken)
 

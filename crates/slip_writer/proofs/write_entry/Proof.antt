@@ -23,7 +23,8 @@ add-write-message c = search needs
 write-message-requires : tie.Need-write-message-requires
 unfolding messageOf
 write-message-requires c κs =
-    let read = c .before .before .before .before .before .statement-at in let pre = c .before .before .before .before .before .before .before .before .pre in
+    let read = c .before .before .before .before .before .statement-at in
+    let pre = c .before .before .before .before .before .before .before .before .pre in
     (λ q. no-bool (sym q ∙ is-propose _ _ (read .ensures) (pre .2)), omega (arith, pre .3, said-length _ _ (read .ensures) (pre .2)))
 
 same-length : tie.Need-same-length

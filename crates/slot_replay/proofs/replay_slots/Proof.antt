@@ -43,7 +43,8 @@ same-length-3 c = search needs
 
 returns : tie.Need-returns Inv-loop μ-loop
 returns c =
-    let a = c .before .before .before .before .before .before .before .before .before .args in let l = c .before .before .before .before .loop in
+    let a = c .before .before .before .before .before .before .before .before .before .args in
+    let l = c .before .before .before .before .loop in
     let j = a .journal .now in
     let s = c .before .before .judge-at .ensures .is in
     record { is = at-blank j _ (l .records) (l .place) (length j / 128) (l .torn) (l .store) (l .out) (l .report) (l .inv .6) (c .before .before .before .loop-test .taken) _ s (c .enum-told .given .1); bounded = record { records = l .inv .1; torn = l .inv .2; place = omega (arith, slot-count j, l .inv .0) } }
@@ -59,7 +60,8 @@ add-put c = search needs
 
 put-requires : tie.Need-put-requires Inv-loop μ-loop
 put-requires c κs =
-    let a = c .before .before .before .before .before .before .before .before .before .before .args in let l = c .before .before .before .before .before .loop in
+    let a = c .before .before .before .before .before .before .before .before .before .before .args in
+    let l = c .before .before .before .before .before .loop in
     let j = a .journal .now in
     omega (arith, slot-count j, c .before .before .before .before .before .before .before .before .before .before .pre .1, l .inv .2, l .inv .5, c .before .before .before .before .loop-test .taken)
 
@@ -75,7 +77,8 @@ loop-less c = search needs
 loop-again : tie.Need-loop-again Inv-loop μ-loop
 loop-again c =
     let start = c .before .before .before .before .before .before .before .before .before .before .before .before .before in let a = start .args in let pre = start .pre in
-    let l = c .before .before .before .before .before .before .before .before .loop in let loop-test = c .before .before .before .before .before .before .before .loop-test in
+    let l = c .before .before .before .before .before .before .before .before .loop in
+    let loop-test = c .before .before .before .before .before .before .before .loop-test in
     let judge-at = c .before .before .before .before .before .before .judge-at in let enum-told2 = c .before .before .before .before .enum-told2 in let put = c .before .before .put in
     let j = a .journal .now in
     let s = judge-at .ensures .is in (
@@ -102,7 +105,8 @@ same-length-6 c = search needs
 
 returns-2 : tie.Need-returns-2 Inv-loop μ-loop
 returns-2 c =
-    let a = c .before .before .before .before .before .before .before .before .before .args in let l = c .before .before .before .before .loop in
+    let a = c .before .before .before .before .before .before .before .before .before .args in
+    let l = c .before .before .before .before .loop in
     let j = a .journal .now in
     let s = c .before .before .judge-at .ensures .is in
     record { is = at-bad j _ (l .records) (l .place) (length j / 128) (l .torn) (l .store) (l .out) (l .report) (l .inv .6) (c .before .before .before .loop-test .taken) _ s (c .enum-told3 .given .1); bounded = record { records = l .inv .1; torn = l .inv .2; place = omega (arith, slot-count j, l .inv .0) } }
@@ -121,7 +125,8 @@ same-length-9 c = search needs
 
 returns-3 : tie.Need-returns-3 Inv-loop μ-loop
 returns-3 c =
-    let a = c .before .before .before .before .before .before .before .before .before .before .before .args in let l = c .before .before .before .before .before .before .loop in
+    let a = c .before .before .before .before .before .before .before .before .before .before .before .args in
+    let l = c .before .before .before .before .before .before .loop in
     let j = a .journal .now in
     let s = c .before .before .before .before .judge-at .ensures .is in
     record { is = at-other j _ (l .records) (l .place) (length j / 128) (l .torn) (l .store) (l .out) (l .report) (l .inv .6) (c .before .before .before .before .before .loop-test .taken) _ s (c .before .before .sequence .given .1) (c .if1 .taken); bounded = record { records = l .inv .1; torn = l .inv .2; place = omega (arith, slot-count j, l .inv .0) } }
@@ -228,7 +233,8 @@ same-length-15 c = search needs
 
 returns-5 : tie.Need-returns-5 Inv-loop μ-loop
 returns-5 c =
-    let a = c .before .before .before .before .before .before .args in let l = c .before .loop in
+    let a = c .before .before .before .before .before .before .args in
+    let l = c .before .loop in
     let j = a .journal .now in
     record { is = at-end j _ (l .records) (l .place) (length j / 128) (l .torn) (l .store) (l .out) (l .report) (l .inv .6) (c .loop-test .left); bounded = record { records = l .inv .1; torn = l .inv .2; place = omega (arith, slot-count j, l .inv .0) } }
 

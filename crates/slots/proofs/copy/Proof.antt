@@ -37,7 +37,8 @@ loop-less c = search needs
 
 loop-again : tie.Need-loop-again Inv-loop μ-loop
 loop-again c =
-    let a = c .before .before .before .args in let l = c .before .before .loop in
+    let a = c .before .before .before .args in
+    let l = c .before .before .loop in
     (omega arith, sym (wrote-step (l .slot) (a .at) (l .k) (a .input .now) (c .before .loop-test .taken)) ∙ l .inv .1, simp length-set (l .inv .2))
 
 same-length : tie.Need-same-length Inv-loop μ-loop
@@ -45,7 +46,8 @@ same-length c = search needs
 
 returns : tie.Need-returns Inv-loop μ-loop
 returns c =
-    let a = c .before .before .args in let l = c .before .loop in
+    let a = c .before .before .args in
+    let l = c .before .loop in
     sym (wrote-end (l .slot) (a .at + l .k) (l .k) (a .input .now) (c .loop-test .left)) ∙ l .inv .1
 
 pub copy-spec : {M : Type 1} → statement M

@@ -22,7 +22,8 @@ certificate-allowed-requires c κs = search needs
 
 returns : tie.Need-returns
 returns c =
-    let shared-slice-known = c .before .before .before .shared-slice-known in let start = c .before .before .before .before in
+    let shared-slice-known = c .before .before .before .shared-slice-known in
+    let start = c .before .before .before .before in
     rw (c .certificate-allowed .ensures, c .before .all-zero .ensures)
     (new-view-said (settingsOf (start .args .settings)) (start .args .store .now) (shared-slice-known .given) (start .args .at) _ _ _ _ (start .pre .1 .0) (start .pre .1 .1) (start .pre .1 .2) (c .before .before .get .ensures .0))
 

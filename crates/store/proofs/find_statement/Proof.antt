@@ -89,7 +89,8 @@ loop-again-2 c =
 
 returns : tie.Need-returns Inv-loop μ-loop
 returns c =
-    let a = c .before .before .before .before .before .args in let l = c .before .loop in
+    let a = c .before .before .before .before .before .args in
+    let l = c .before .loop in
     sym (l .inv .2 ∙ find-none (statementAt (a .store .now)) (sameStatement (statementOf (a .statement) none)) _ (l .i) (omega arith))
 
 returns-2 : tie.Need-returns-2 Inv-loop μ-loop

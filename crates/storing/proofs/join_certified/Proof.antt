@@ -13,7 +13,8 @@ use Rattle.storing.proofs.join_certified.Tie as tie
 join-found-requires : tie.Need-join-found-requires
 unfolding blockOf
 join-found-requires c κs =
-    let start = c .before .before .before .before in let a = start .args in
+    let start = c .before .before .before .before in
+    let a = start .args in
     let t = blockOf (a .block) in
     let ts = tallies (a .store .now) in
     let d = c .before .if1 .taken in
@@ -25,7 +26,8 @@ same-length c = search needs
 returns : tie.Need-returns
 unfolding blockOf
 returns c =
-    let if1 = c .before .before .before .before .if1 in let start = c .before .before .before .before .before .before .before in
+    let if1 = c .before .before .before .before .if1 in
+    let start = c .before .before .before .before .before .before .before in
     rw (certified-some (authorOf (start .args .voters)) (withVoters (votersOf (start .args .voters)) (blockOf (start .args .block))) (stateOf (start .args .store .now)) (if1 .taken)) (c .before .before .join-found .ensures .left)
 
 returns-2 : tie.Need-returns-2

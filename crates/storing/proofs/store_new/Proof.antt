@@ -35,7 +35,8 @@ join-found-requires c κs =
     let start = c .before .before .before .before .before .before .before .before in
     let b = start .args .store .now in
     let x = statementOf (start .args .x) none in
-    let certificate = c .before .before .before .before .before .before .certificate-of in let joined = c .before .before .before .before .join-certified in
+    let certificate = c .before .before .before .before .before .before .certificate-of in
+    let joined = c .before .before .before .before .join-certified in
     let t = blockOf (certificate .result) in
     let u = blockOf (c .own-block .result) in
     let e = voter-block x 0 (c .own-block .ensures) in (
@@ -50,8 +51,10 @@ append-statement-requires : tie.Need-append-statement-requires
 unfolding blockOf
 append-statement-requires c κs =
     let certificate = c .before .before .before .before .before .before .before .before .before .before .certificate-of in
-    let join-certified = c .before .before .before .before .before .before .before .before .join-certified in let block = c .before .before .before .before .own-block in
-    let joined = c .before .before .before .join-found in let start = c .before .before .before .before .before .before .before .before .before .before .before .before in
+    let join-certified = c .before .before .before .before .before .before .before .before .join-certified in
+    let block = c .before .before .before .before .own-block in
+    let joined = c .before .before .before .join-found in
+    let start = c .before .before .before .before .before .before .before .before .before .before .before .before in
     let x = statementOf (start .args .x) none in
     (joined .ensures .left .form, one-more-fits (start .args .store .now) x (start .pre .1) (blockOf (certificate .result)) (withVoters 0 (blockOf (block .result))) (certificate .ensures) (voter-block x 0 (block .ensures)) (start .pre .2) (join-certified .ensures) (joined .ensures))
 
@@ -63,7 +66,8 @@ unfolding blockOf
 returns c =
     let certificate = c .before .before .before .before .before .before .before .before .before .before .before .before .before .certificate-of in
     let join-certified = c .before .before .before .before .before .before .before .before .before .before .before .join-certified in
-    let block = c .before .before .before .before .before .before .before .own-block in let join-found = c .before .before .before .before .before .before .join-found in
+    let block = c .before .before .before .before .before .before .before .own-block in
+    let join-found = c .before .before .before .before .before .before .join-found in
     let start = c .before .before .before .before .before .before .before .before .before .before .before .before .before .before .before in
     let x = statementOf (start .args .x) none in
     new-stored (start .args .store .now) x (start .pre .1) (blockOf (certificate .result)) (withVoters 0 (blockOf (block .result))) (certificate .ensures) (voter-block x 0 (block .ensures)) (start .pre .2) (join-certified .ensures) (join-found .ensures) (c .before .before .append-statement .ensures)

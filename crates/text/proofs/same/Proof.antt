@@ -30,7 +30,8 @@ shared-slice-read-if2-2 c = search needs
 
 returns-2 : tie.Need-returns-2 Inv-loop μ-loop
 returns-2 c =
-    let at = c .before .before .before .before .loop in let a = c .before .before .before .before .before .before .args in
+    let at = c .before .before .before .before .loop in
+    let a = c .before .before .before .before .before .before .args in
     sym (at .inv .2 ∙ same-stop (a .a .now) (a .b .now) (at .i) (omega arith) (omega arith) (c .if2 .taken))
 
 add-i : tie.Need-add-i Inv-loop μ-loop
@@ -41,12 +42,14 @@ loop-less c = search needs
 
 loop-again : tie.Need-loop-again Inv-loop μ-loop
 loop-again c =
-    let at = c .before .before .before .before .loop in let a = c .before .before .before .before .before .before .args in
+    let at = c .before .before .before .before .loop in
+    let a = c .before .before .before .before .before .before .args in
     (omega arith, at .inv .1, at .inv .2 ∙ same-step (a .a .now) (a .b .now) (at .i) (omega arith) (omega arith) (c .if2 .left))
 
 returns-3 : tie.Need-returns-3 Inv-loop μ-loop
 returns-3 c =
-    let at = c .before .loop in let a = c .before .before .before .args in
+    let at = c .before .loop in
+    let a = c .before .before .before .args in
     sym (at .inv .2 ∙ same-end (a .a .now) (a .b .now) (at .i) (omega arith) (omega arith))
 
 pub same-spec : {M : Type 1} → statement M

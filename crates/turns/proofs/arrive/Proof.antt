@@ -20,7 +20,8 @@ blame-full-requires c κs =
 
 quit-with-set-requires : tie.Need-quit-with-set-requires
 quit-with-set-requires c κs =
-    let pre = c .before .before .before .before .before .before .before .before .before .before .pre in let load = c .before .before .before .before .before .load in
+    let pre = c .before .before .before .before .before .before .before .before .before .before .pre in
+    let load = c .before .before .before .before .before .load in
     (pre .0, view-of-loaded (pre .0) (load .result) (load .ensures), omega (arith, pre .1, statements-some (sizeIn (c .before .before .before .before .before .before .before .before .before .before .args .store .now))))
 
 same-length : tie.Need-same-length
@@ -33,7 +34,8 @@ returns : tie.Need-returns
 returns c =
     let pre = c .before .before .before .before .before .before .before .before .before .before .before .before .before .before .before .pre in
     let load = c .before .before .before .before .before .before .before .before .before .before .load in
-    let blame-full = c .before .before .before .before .before .before .before .before .blame-full in let if1 = c .before .before .before .before .before .before .before .if1 in
+    let blame-full = c .before .before .before .before .before .before .before .before .blame-full in
+    let if1 = c .before .before .before .before .before .before .before .if1 in
     let quit-with-set = c .before .before .before .before .quit-with-set in
     arrives-full (pre .0) (load .result) (load .ensures) (blame-full .result) (blame-full .ensures) (if1 .taken) (quit-with-set .ensures)
 
@@ -47,8 +49,10 @@ statement-at-requires : tie.Need-statement-at-requires
 statement-at-requires c κs =
     let pre = c .before .before .before .before .before .before .before .before .before .before .before .before .before .before .pre in
     let load = c .before .before .before .before .before .before .before .before .before .load in
-    let blame-full = c .before .before .before .before .before .before .before .blame-full in let if1 = c .before .before .before .before .before .before .if1 in
-    let find-pair = c .before .before .before .before .find-pair in let found = c .before .before .i in
+    let blame-full = c .before .before .before .before .before .before .before .blame-full in
+    let if1 = c .before .before .before .before .before .before .if1 in
+    let find-pair = c .before .before .before .before .find-pair in
+    let found = c .before .before .i in
     (form-long _ (pre .0 .form), omega (arith, pair-inside (pre .0) (load .result) (load .ensures) (blame-full .result) (blame-full .ensures) (if1 .left) (find-pair .result) (find-pair .ensures) (found .given .0 .0) (found .given .0 .1 .0) (found .given .1), form-statements _ (pre .0 .form)))
 
 statement-at-requires-2 : tie.Need-statement-at-requires-2
@@ -56,7 +60,8 @@ statement-at-requires-2 c κs =
     let pre = c .before .before .before .before .before .before .before .before .before .before .before .before .before .before .before .before .pre in
     let load = c .before .before .before .before .before .before .before .before .before .before .before .load in
     let blame-full = c .before .before .before .before .before .before .before .before .before .blame-full in
-    let if1 = c .before .before .before .before .before .before .before .before .if1 in let find-pair = c .before .before .before .before .before .before .find-pair in
+    let if1 = c .before .before .before .before .before .before .before .before .if1 in
+    let find-pair = c .before .before .before .before .before .before .find-pair in
     let found = c .before .before .before .before .i in
     (form-long _ (pre .0 .form), omega (arith, pair-inside (pre .0) (load .result) (load .ensures) (blame-full .result) (blame-full .ensures) (if1 .left) (find-pair .result) (find-pair .ensures) (found .given .0 .0) (found .given .0 .1 .0) (found .given .1), form-statements _ (pre .0 .form)))
 
@@ -68,7 +73,8 @@ quit-with-pair-requires c κs =
     let blame-full = c .before .before .before .before .before .before .before .before .before .before .before .before .blame-full in
     let if1 = c .before .before .before .before .before .before .before .before .before .before .before .if1 in
     let find-pair = c .before .before .before .before .before .before .before .before .before .find-pair in
-    let found = c .before .before .before .before .before .before .before .i in let statement-at = c .before .before .before .before .statement-at in
+    let found = c .before .before .before .before .before .before .before .i in
+    let statement-at = c .before .before .before .before .statement-at in
     let statement-at2 = c .before .before .statement-at2 in
     let k = pre .0 in
     let d = pair-inside (pre .0) (load .result) (load .ensures) (blame-full .result) (blame-full .ensures) (if1 .left) (find-pair .result) (find-pair .ensures) (found .given .0 .0) (found .given .0 .1 .0) (found .given .1) in
@@ -104,7 +110,8 @@ returns-2 c =
     let find-pair = c .before .before .before .before .before .before .before .before .before .before .before .before .before .before .find-pair in
     let found = c .before .before .before .before .before .before .before .before .before .before .before .before .i in
     let statement-at = c .before .before .before .before .before .before .before .before .before .statement-at in
-    let statement-at2 = c .before .before .before .before .before .before .before .statement-at2 in let quit-with-pair = c .before .before .before .before .quit-with-pair in
+    let statement-at2 = c .before .before .before .before .before .before .before .statement-at2 in
+    let quit-with-pair = c .before .before .before .before .quit-with-pair in
     arrives-pair (pre .0) (load .result) (load .ensures) (blame-full .result) (blame-full .ensures) (if1 .left) (find-pair .result) (find-pair .ensures) (found .given .0 .0) (found .given .0 .1 .0) (found .given .1) (statement-at .result) (statement-at2 .result) (statement-at .ensures) (statement-at2 .ensures) (quit-with-pair .ensures)
 
 same-length-5 : tie.Need-same-length-5

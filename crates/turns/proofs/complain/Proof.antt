@@ -61,7 +61,8 @@ blaming-requires : tie.Need-blaming-requires
 unfolding messageOf
 blaming-requires c κs =
     let start = c .before .before .before .before .before .before .before .before .before .before .before .before .before .before .before in let args = start .args in
-    let pre = start .pre in let load = c .before .before .before .before .before .before .before .before .before .before .before .load in
+    let pre = start .pre in
+    let load = c .before .before .before .before .before .before .before .before .before .before .before .load in
     let to-all = c .before .before .before .before .before .to-all in
     let k = pre .0 in
     let s = stateOf (args .store .now) in

@@ -38,8 +38,10 @@ same-length c = search needs
 returns : tie.Need-returns
 returns c =
     let start = c .before .before .before .before .before .before .before .before .before .before .before .before .before .before .before in let args = start .args in
-    let pre = start .pre in let load = c .before .before .before .before .before .before .before .before .before .before .before .load in
-    let highest = c .before .before .before .before .before .before .before .highest in let enter = c .before .before .before .before .before .enter in
+    let pre = start .pre in
+    let load = c .before .before .before .before .before .before .before .before .before .before .before .load in
+    let highest = c .before .before .before .before .before .before .before .highest in
+    let enter = c .before .before .before .before .before .enter in
     let leader = c .before .before .leader in
     goes-as-leader (pre .0) (load .result) (load .ensures) (highest .result) (highest .ensures) (leader .result) (leader .ensures) (enter .ensures) (args .out .now) (args .at) (c .if1 .taken)
 
@@ -47,14 +49,16 @@ cast-to-one : tie.Need-cast-to-one
 cast-to-one c =
     let pre = c .before .before .before .before .before .before .before .before .before .before .before .before .before .before .before .before .before .pre in
     let load = c .before .before .before .before .before .before .before .before .before .before .before .before .before .load in
-    let highest = c .before .before .before .before .before .before .before .before .before .highest in let leader = c .before .before .before .before .leader in
+    let highest = c .before .before .before .before .before .before .before .before .before .highest in
+    let leader = c .before .before .before .before .leader in
     record { fits = leader-small (pre .0) (load .result) (load .ensures) (highest .result) (highest .ensures) (leader .result) (leader .ensures) }
 
 to-one-requires : tie.Need-to-one-requires
 unfolding messageOf
 to-one-requires c κs =
     let pre = c .before .before .before .before .before .before .before .before .before .before .before .before .before .before .before .before .before .pre in
-    let highest = c .before .before .before .before .before .before .before .before .before .highest in let leader = c .before .before .before .before .leader in
+    let highest = c .before .before .before .before .before .before .before .before .before .highest in
+    let leader = c .before .before .before .before .leader in
     let t = highest .result in (tt, omega (arith, status-bytes (leader .result) (t .height) (nameOf (t .name)) (t .view) (t .mask), pre .2))
 
 same-length-2 : tie.Need-same-length-2
@@ -70,7 +74,8 @@ returns-2 c =
     let load = c .before .before .before .before .before .before .before .before .before .before .before .before .before .before .before .before .load in
     let highest = c .before .before .before .before .before .before .before .before .before .before .before .before .highest in
     let enter = c .before .before .before .before .before .before .before .before .before .before .enter in
-    let leader = c .before .before .before .before .before .before .before .leader in let if1 = c .before .before .before .before .before .if1 in
+    let leader = c .before .before .before .before .before .before .before .leader in
+    let if1 = c .before .before .before .before .before .if1 in
     goes-with-status (pre .0) (load .result) (load .ensures) (highest .result) (highest .ensures) (leader .result) (leader .ensures) (enter .ensures) (if1 .left) (c .before .before .to-one .ensures)
 
 pub entered-spec : {M : Type 1} → statement M

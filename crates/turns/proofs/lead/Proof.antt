@@ -23,7 +23,8 @@ same-length c = search needs
 
 returns : tie.Need-returns
 returns c =
-    let start = c .before .before .before .before .before .before .before in let load = c .before .before .before .load in
+    let start = c .before .before .before .before .before .before .before in
+    let load = c .before .before .before .load in
     let p = start .pre .0 in
     works-still (start .args .out .now) (start .args .at) (p .form) (lead-never _ (sym (c .before .leads-at .ensures ∙ loaded-now p (load .result) (load .ensures)) ∙ not-true _ (c .if1 .taken)))
 
@@ -57,7 +58,8 @@ returns-2 c =
     let load = c .before .before .before .before .before .before .before .before .before .before .before .before .before .before .load in
     let leads-at = c .before .before .before .before .before .before .before .before .before .before .before .before .leads-at in
     let if1 = c .before .before .before .before .before .before .before .before .before .before .before .if1 in
-    let own-new-view = c .before .before .before .before .before .before .before .before .before .own-new-view in let statement = c .before .before .before .before .statement in
+    let own-new-view = c .before .before .before .before .before .before .before .before .before .own-new-view in
+    let statement = c .before .before .before .before .statement in
     works-is (lead-now _ (sym (leads-at .ensures ∙ loaded-now (pre .0) (load .result) (load .ensures)) ∙ not-false _ (if1 .left)) (own-new-view .result) (own-new-view .ensures .0)) (statement .ensures)
 
 pub lead-spec : {M : Type 1} → statement M

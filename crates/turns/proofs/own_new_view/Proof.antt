@@ -24,7 +24,8 @@ cast-t8 c =
 
 returns : tie.Need-returns
 returns c =
-    let pre = c .before .before .before .before .before .before .before .pre in let load = c .before .before .before .before .before .load in
+    let pre = c .before .before .before .before .before .before .before .pre in
+    let load = c .before .before .before .before .before .load in
     let k = pre .0 in
     let t = c .before .before .before .highest in
     (made-is k (load .result) (load .ensures) (t .result) (t .ensures), made-sendable k (load .result) (load .ensures) (t .result) (t .ensures) (pre .1))

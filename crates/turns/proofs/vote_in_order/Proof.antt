@@ -37,7 +37,8 @@ cast-place c =
 
 statement-at-requires : tie.Need-statement-at-requires Inv-loop μ-loop
 statement-at-requires c κs =
-    let pre = c .before .before .before .before .before .before .before .pre in let loop = c .before .before .before .loop in
+    let pre = c .before .before .before .before .before .before .before .pre in
+    let loop = c .before .before .before .loop in
     (form-long _ (loop .inv .formed .form), omega (arith, (pre .inside (loop .j) (c .before .before .loop-test .taken)), form-statements _ (pre .formed .form), ap mostStatements (loop .inv .size)))
 
 own-block-requires : tie.Need-own-block-requires Inv-loop μ-loop
@@ -51,7 +52,8 @@ voting-requires : tie.Need-voting-requires Inv-loop μ-loop
 voting-requires c κs =
     let start = c .before .before .before .before .before .before .before .before .before .before .before .before .before in let args = start .args in let pre = start .pre in
     let l = c .before .before .before .before .before .before .before .before .before .loop in
-    let loop-test = c .before .before .before .before .before .before .before .before .loop-test in let statement-at = c .before .before .before .before .before .statement-at in
+    let loop-test = c .before .before .before .before .before .before .before .before .loop-test in
+    let statement-at = c .before .before .before .before .before .statement-at in
     let own-block = c .before .before .before .own-block in
     (l .inv .formed, voted-stands (args .store .now) (args .order .now) (args .out .now) (args .at) (args .count) (l .inv) (pre .inside (l .j) (loop-test .taken)) (statement-at .result) (statement-at .ensures), rw (← own-block .ensures) (c .before .before .find-tally .ensures), omega (arith, l .inv .ends, l .inv .long, pre .space, loop-test .taken))
 
@@ -71,7 +73,8 @@ loop-again c =
     let args = start .args in let pre = start .pre in
     let loop = c .before .before .before .before .before .before .before .before .before .before .before .before .before .before .loop in
     let loop-test = c .before .before .before .before .before .before .before .before .before .before .before .before .before .loop-test in
-    let statement-at = c .before .before .before .before .before .before .before .before .before .before .statement-at in let voting = c .before .before .before .before .voting in
+    let statement-at = c .before .before .before .before .before .before .before .before .before .before .statement-at in
+    let voting = c .before .before .before .before .voting in
     voted-next (args .store .now) (args .order .now) (args .out .now) (args .at) (args .count) (loop .inv) (pre .inside (loop .j) (loop-test .taken)) (statement-at .result) (statement-at .ensures) (loop-test .taken) (voting .ensures)
 
 same-length : tie.Need-same-length Inv-loop μ-loop

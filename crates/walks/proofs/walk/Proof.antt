@@ -128,7 +128,8 @@ same-length-2 c =
 returns-2 : tie.Need-returns-2 Inv-loop μ-loop
 returns-2 c =
     let pre = c .before .before .before .before .before .before .before .before .before .before .before .before .before .before .pre in
-    let loop = c .before .before .before .before .before .before .before .loop in let meets = c .before .before .before .before .before .meets in
+    let loop = c .before .before .before .before .before .before .before .loop in
+    let meets = c .before .before .before .before .before .meets in
     let if2 = c .before .before .before .before .if2 in
     walking-meets (loop .inv) (meets .result) (meets .ensures) (if2 .taken) (pre .1) (omega arith) (c .before .before .copy-told .ensures)
 

@@ -39,7 +39,8 @@ returns c =
 returns-2 : tie.Need-returns-2
 unfolding statements
 returns-2 c =
-    let a = c .before .before .args in let w = c .before .before .pre in
+    let a = c .before .before .args in
+    let w = c .before .before .pre in
     record {
       within = w;
       is = unaltered heldOf blank room (a .t1 .items) (a .t1 .count) w (words.sameStatement (statementOf (a .x) none)) (c .before .place-of .result) (c .before .place-of .ensures) (inputs.noted (a .clock)) (c .if1 .left);

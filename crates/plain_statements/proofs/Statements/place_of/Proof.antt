@@ -36,7 +36,8 @@ is-asked-requires c κs = search needs
 returns : tie.Need-returns Inv-loop μ-loop
 unfolding statements
 returns c =
-    let a = c .before .before .before .before .before .args in let l = c .before .before .before .before .loop in
+    let a = c .before .before .before .before .before .args in
+    let l = c .before .before .before .before .loop in
     sym (place-here heldOf blank (asked (a .ask)) (a .t1 .items) (a .t1 .count) (l .i) (long heldOf blank room (a .t1 .items) (a .t1 .count) (c .before .before .before .before .before .pre)) (omega arith) (l .inv .1)
     (asked-held (a .ask) (getD (a .t1 .items) (l .i) blank) ∙ sym (c .before .is-asked .ensures) ∙ c .if1 .taken))
 
@@ -59,7 +60,8 @@ loop-again c =
 returns-2 : tie.Need-returns-2 Inv-loop μ-loop
 unfolding statements
 returns-2 c =
-    let a = c .before .before .args in let l = c .before .loop in
+    let a = c .before .before .args in
+    let l = c .before .loop in
     sym (place-done heldOf blank (asked (a .ask)) (a .t1 .items) (a .t1 .count) (l .i) (l .inv .0) (omega arith) (l .inv .1))
 
 pub place-of-spec : {M : Type 1} → statement M

@@ -40,7 +40,8 @@ same-block-requires c κs = search needs
 returns : tie.Need-returns Inv-loop μ-loop
 unfolding tallies
 returns c =
-    let a = c .before .before .before .before .before .before .args in let l = c .before .before .before .before .before .loop in
+    let a = c .before .before .before .before .before .before .args in
+    let l = c .before .before .before .before .before .loop in
     sym (place-here tallyOf blank (words.ofBlock (certificateOf (a .t))) (a .t1 .items) (a .t1 .count) (l .i) (long tallyOf blank room (a .t1 .items) (a .t1 .count) (c .before .before .before .before .before .before .pre)) (omega arith) (l .inv .1)
     (ap (words.sameBlock (certificateOf (a .t))) (sym (c .before .before .certificate-of .ensures)) ∙ sym (c .before .same-block .ensures) ∙ c .if1 .taken))
 
@@ -63,7 +64,8 @@ loop-again c =
 returns-2 : tie.Need-returns-2 Inv-loop μ-loop
 unfolding tallies
 returns-2 c =
-    let a = c .before .before .args in let l = c .before .loop in
+    let a = c .before .before .args in
+    let l = c .before .loop in
     sym (place-done tallyOf blank (words.ofBlock (certificateOf (a .t))) (a .t1 .items) (a .t1 .count) (l .i) (l .inv .0) (omega arith) (l .inv .1))
 
 pub place-of-spec : {M : Type 1} → statement M
