@@ -2,9 +2,9 @@
 use mathlib.Core.Path.{_≡_, subst, refl, sym, ap, ap₂, _∙_}
 use Prim.Native.Nat.{ℕ, zero, suc, _+_, _-_, _≤_, _<_, _^_}
 use native.Mathlib.Omega.{arith}
-use native.Mathlib.Decide.{decLt, decLe, ℕ-discrete}
+use native.Mathlib.Decide.{decLt, decLe}
 use mathlib.Core.Bool.{Bool, true, false, not, _&&_}
-use mathlib.Core.List.{List, [], _∷_, map, List·Memᴰ, List·Memᴰ·head, List·Memᴰ·tail, List·Memᴰ·not-nil}
+use mathlib.Core.List.{List, [], _∷_, map, List·Memᴰ, List·Memᴰ·not-nil}
 use mathlib.Core.Logic.{_⊎_, inl, inr}
 use mathlib.Core.Option.{Option, none, some}
 use lib.Dec.{ltb, eqb}
@@ -24,7 +24,8 @@ use Rattle.laws.proofs.Truths.{and-2, both, or-2}
 use Rattle.laws.proofs.Searches.{by-mem, first-mem, first-any, first-none}
 use Rattle.agreement.specs.Schedule.{Event, idle, commonTick, tickOf, given, offeredTo, happens, ticks, IsCommon, CommonTicks, settingsOf, at, out, clock, IsSaid, HasMade, Sound, NeverFull, IsLent, ProperBuffers, Sends, InTime, VotersVoted, Genuine, Hands, NoForgery, Offers, OneBlock, OneName, NeverUsedUp, Run, run, HasRoom, Schedule}
 use Rattle.agreement.proofs.Events.{never-idle}
-use Rattle.agreement.specs.Checks.{Premise, settingsGood, fewFaulty, neverFull, commonTicks, properBuffers, inTime, noForgery, oneName, neverUsedUp, premises, place, other, Holds, AllBut, test, verdict, implies, every, some?, sameMessage, maskIn, toAllThat, brought, ifSome, isCommon, givenTo, offeredAs, listed, isSound, hasSaid, votersVoted, hasMade, isGenuine, taken, noneForged, comes, comesInTime, saidInTime, allInTime, allCommon, allRun, allLent, isOneBlock, oneNamed, allHeard}
+use Rattle.agreement.specs.Checks.{Premise, settingsGood, fewFaulty, neverFull, commonTicks, properBuffers, inTime, noForgery, oneName, neverUsedUp, premises, place, other, Holds, AllBut, test, verdict, implies, every, some?, sameMessage, maskIn, toAllThat}
+use Rattle.agreement.specs.Checks.{brought, ifSome, isCommon, givenTo, offeredAs, listed, isSound, hasSaid, votersVoted, hasMade, isGenuine, taken, noneForged, comes, comesInTime, saidInTime, allInTime, allCommon, allRun, allLent, isOneBlock, oneNamed, allHeard}
 
 -- ---- tests
 

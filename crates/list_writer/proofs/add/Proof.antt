@@ -44,7 +44,10 @@ write-record-requires : tie.Need-write-record-requires
 write-record-requires c κs =
     let start = c .before .before .before .before .before .before .before .before .before in let args = start .args in let pre = start .pre in
     let get = c .before .before .before .before .before .get in let put = c .before .before .before .put in
-    let w = within (args .list .now) (pre .0) (pre .1) (get .ensures .0) in let f = input-fits (args .kind) (args .input .now) (pre .2) in (mid-len (16 + c .before .before .before .before .before .get .result * 128) (16 + c .before .before .before .before .before .get .result * 128 + 128) (put .last .0) (omega (arith, w .1, put .kept .0)) ∙ omega arith, omega (arith, w .0), f .0, f .1)
+    let w = within (args .list .now) (pre .0) (pre .1) (get .ensures .0) in
+    let f = input-fits (args .kind) (args .input .now) (pre .2) in
+    let at = 16 + get .result * 128 in
+    (mid-len at (at + 128) (put .last .0) (omega (arith, w .1, put .kept .0)) ∙ omega arith, omega (arith, w .0), f .0, f .1)
 
 same-length : tie.Need-same-length
 same-length c = search needs

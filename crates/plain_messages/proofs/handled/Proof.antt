@@ -1,7 +1,9 @@
 -- `plain_messages::handled` meets its contract. Assumes nothing.
+use Prim.Native.Nat.{_<_}
 use mathlib.Core.Path.{refl, sym, ap, _∙_}
 use native.Mathlib.Omega.{arith}
 use mathlib.Core.Option.{none, some}
+use Rattle.rules.specs.Limits.{maskBits}
 use Rattle.rules.specs.Messages.{vote, blame, blameSet, allowed}
 use Rattle.rules.specs.Inputs as inputs
 use Rattle.rules.specs.Words as words
@@ -29,23 +31,22 @@ statement-requires c κs =
 enum-known-message-2 : tie.Need-enum-known-message-2
 enum-known-message-2 c = search needs
 
-cast-mask-of : tie.Need-cast-mask-of
+-- whoever votes is a station, once the vote is taken apart
+voter-small : (m : tie.After-message2) → m .message2 .given .0 .1 .1 .1 .0 < maskBits
 unfolding messageOf
-cast-mask-of c =
-    let start = c .before .before .before .before in let a = start .args in let pre = start .pre in
-    let k = pre .0 in
-    record { fits = omega (arith, author-small (a .e) k (c .before .message2 .given .0 .1 .1 .1 .0) (allowed-rights (state (a .e) .settings) (vote (c .before .message2 .given .0 .0) (c .before .message2 .given .0 .1 .0) (nameOf (c .before .message2 .given .0 .1 .1 .0)) (c .before .message2 .given .0 .1 .1 .1 .0)) (ap (λ (z : Message). allowed (state (a .e) .settings) (messageOf z)) (sym (c .before .message2 .given .1)) ∙ pre .1) .2)) }
+voter-small m =
+    let start = m .before .before .before in
+    let e = start .args .e in
+    let got = m .message2 .given in
+    let said = vote (got .0 .0) (got .0 .1 .0) (nameOf (got .0 .1 .1 .0)) (got .0 .1 .1 .1 .0) in
+    let may = ap (λ (z : Message). allowed (state e .settings) (messageOf z)) (sym (got .1)) ∙ start .pre .1 in
+    author-small e (start .pre .0) (got .0 .1 .1 .1 .0) (allowed-rights (state e .settings) said may .2)
+
+cast-mask-of : tie.Need-cast-mask-of
+cast-mask-of c = record { fits = omega (arith, voter-small (c .before)) }
 
 mask-of-requires : tie.Need-mask-of-requires
-unfolding messageOf
-mask-of-requires c κs =
-    let start = c .before .before .before .before in let a = start .args in let pre = start .pre in
-    let k = pre .0 in
-    author-small
-    (a .e)
-    k
-    (c .before .message2 .given .0 .1 .1 .1 .0)
-    (allowed-rights (state (a .e) .settings) (vote (c .before .message2 .given .0 .0) (c .before .message2 .given .0 .1 .0) (nameOf (c .before .message2 .given .0 .1 .1 .0)) (c .before .message2 .given .0 .1 .1 .1 .0)) (ap (λ (z : Message). allowed (state (a .e) .settings) (messageOf z)) (sym (c .before .message2 .given .1)) ∙ pre .1) .2)
+mask-of-requires c κs = voter-small (c .before)
 
 tallied-requires : tie.Need-tallied-requires
 tallied-requires c κs =
@@ -56,19 +57,21 @@ tallied-requires c κs =
 enum-known-message-3 : tie.Need-enum-known-message-3
 enum-known-message-3 c = search needs
 
-cast-mask-of-2 : tie.Need-cast-mask-of-2
+-- and so is whoever blames
+blamer-small : (m : tie.After-message3) → m .message3 .given .0 .1 .0 < maskBits
 unfolding messageOf
-cast-mask-of-2 c =
-    let start = c .before .before .before .before in let a = start .args in let pre = start .pre in
-    let k = pre .0 in
-    record { fits = omega (arith, author-small (a .e) k (c .before .message3 .given .0 .1 .0) (allowed-rights (state (a .e) .settings) (blame (c .before .message3 .given .0 .0) (c .before .message3 .given .0 .1 .0)) (ap (λ (z : Message). allowed (state (a .e) .settings) (messageOf z)) (sym (c .before .message3 .given .1)) ∙ pre .1) .1)) }
+blamer-small m =
+    let start = m .before .before .before in
+    let e = start .args .e in
+    let got = m .message3 .given in
+    let may = ap (λ (z : Message). allowed (state e .settings) (messageOf z)) (sym (got .1)) ∙ start .pre .1 in
+    author-small e (start .pre .0) (got .0 .1 .0) (allowed-rights (state e .settings) (blame (got .0 .0) (got .0 .1 .0)) may .1)
+
+cast-mask-of-2 : tie.Need-cast-mask-of-2
+cast-mask-of-2 c = record { fits = omega (arith, blamer-small (c .before)) }
 
 mask-of-requires-2 : tie.Need-mask-of-requires-2
-unfolding messageOf
-mask-of-requires-2 c κs =
-    let start = c .before .before .before .before in let a = start .args in let pre = start .pre in
-    let k = pre .0 in
-    author-small (a .e) k (c .before .message3 .given .0 .1 .0) (allowed-rights (state (a .e) .settings) (blame (c .before .message3 .given .0 .0) (c .before .message3 .given .0 .1 .0)) (ap (λ (z : Message). allowed (state (a .e) .settings) (messageOf z)) (sym (c .before .message3 .given .1)) ∙ pre .1) .1)
+mask-of-requires-2 c κs = blamer-small (c .before)
 
 blaming-requires : tie.Need-blaming-requires
 unfolding messageOf

@@ -95,7 +95,8 @@ returns-2 c =
     let b = start .args .store .now in
     let x = statementOf (start .args .x) none in
     c .new-plan .ensures
-    ∙ new-planned b x (start .pre .1) (blockOf (certificate .result)) (blockOf (block .result)) (certificate .ensures) (block .ensures) (own .result) (own .ensures) (is-new b x (found .result) (found .ensures) (enum-told .given .1)) (certified .result) (certified .ensures) _ _ _ _ _ _ (most-statements-in .ensures) (c .before .most-tallies-in .ensures) (loaded-statements (load .result) b (load .ensures)) (loaded-tallies (load .result) b (load .ensures)) (needed .ensures) (needed2 .ensures)
+    ∙ new-planned b x (start .pre .1) (blockOf (certificate .result)) (blockOf (block .result)) (certificate .ensures) (block .ensures) (own .result) (own .ensures)
+    (is-new b x (found .result) (found .ensures) (enum-told .given .1)) (certified .result) (certified .ensures) _ _ _ _ _ _ (most-statements-in .ensures) (c .before .most-tallies-in .ensures) (loaded-statements (load .result) b (load .ensures)) (loaded-tallies (load .result) b (load .ensures)) (needed .ensures) (needed2 .ensures)
 
 pub planned-spec : {M : Type 1} → statement M
 planned-spec =

@@ -68,7 +68,22 @@ returns c =
     ap phaseNumber (after-phase-of .phase-of .ensures) ∙ phase-number _ ∙ after-get-four .get-four .ensures in
     let t = after-get-certificate .get-certificate .ensures in
     record {
-      header = rw (p, after-get .get .ensures .0, after-get2 .get2 .ensures .0, after-get3 .get3 .ensures .0, after-get-four2 .get-four2 .ensures, after-get-four3 .get-four3 .ensures, after-get-four4 .get-four4 .ensures, ap (λ (x : Certificate). x .view) t, ap (λ (x : Certificate). x .height) t, ap (λ (x : Certificate). x .name) t, ap (λ (x : Certificate). x .mask) t, after-get-count .get-count .ensures .0, c .before .get-count2 .ensures .0, c .get-count3 .ensures .0);
+      header = rw (
+        p,
+        after-get .get .ensures .0,
+        after-get2 .get2 .ensures .0,
+        after-get3 .get3 .ensures .0,
+        after-get-four2 .get-four2 .ensures,
+        after-get-four3 .get-four3 .ensures,
+        after-get-four4 .get-four4 .ensures,
+        ap (λ (x : Certificate). x .view) t,
+        ap (λ (x : Certificate). x .height) t,
+        ap (λ (x : Certificate). x .name) t,
+        ap (λ (x : Certificate). x .mask) t,
+        after-get-count .get-count .ensures .0,
+        c .before .get-count2 .ensures .0,
+        c .get-count3 .ensures .0,
+      );
       size = after-size-in .size-in .ensures;
     }
 
