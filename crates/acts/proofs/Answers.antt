@@ -5,7 +5,7 @@ use mathlib.Core.List.{List, [], _∷_, _++_}
 use mathlib.Core.Option.{none, some}
 use Rattle.rules.specs.Lists.{iff, first, any}
 use Rattle.rules.specs.Messages.{toAll}
-use Rattle.rules.specs.Words.{Statement, message, sameStatement, conflict, ownBlock, certificate, sameBlock, ofBlock, joinCertificate, State, moment}
+use Rattle.rules.specs.Words.{Statement, message, sameStatement, conflict, ownBlock, certificate, ofBlock, joinCertificate, State, moment}
 use Rattle.rules.specs.Inputs.{Work, saying, withPhase, withTables, isIn, quit, voting, stored, statement, handled}
 use Rattle.rules.specs.Refusals.{hasRoom}
 use Rattle.laws.proofs.Tests.{by-bool, by-option, eqb-self}

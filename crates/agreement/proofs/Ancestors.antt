@@ -1,8 +1,8 @@
 -- G6: behind a sound vote stand sound stations that sent to all, no later, a propose of the block and of each of its ancestors. Assumes nothing.
 use mathlib.Core.Path.{_≡_, subst, subst₂, refl, sym, _∙_}
-use Prim.Native.Nat.{ℕ, zero, suc, _+_, _-_, _≤_, _<_}
+use Prim.Native.Nat.{ℕ, zero, suc, _-_, _≤_, _<_}
 use native.Mathlib.Omega.{arith}
-use mathlib.Core.Bool.{true, false}
+use mathlib.Core.Bool.{false}
 use mathlib.Core.Logic.{_⊎_, inl, inr}
 use Rattle.rules.specs.Messages.{toAll}
 use Rattle.rules.specs.Words.{Statement, message}

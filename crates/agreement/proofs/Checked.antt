@@ -2,9 +2,9 @@
 use mathlib.Core.Path.{_≡_, subst, refl, sym, ap, ap₂, _∙_}
 use Prim.Native.Nat.{ℕ, zero, suc, _+_, _-_, _≤_, _<_, _^_}
 use native.Mathlib.Omega.{arith}
-use native.Mathlib.Decide.{decLt, decLe, ℕ-discrete}
-use mathlib.Core.Bool.{Bool, true, false, not, _&&_, _||_}
-use mathlib.Core.List.{List, [], _∷_, map, List·Memᴰ, List·Memᴰ·head, List·Memᴰ·tail, List·Memᴰ·not-nil}
+use native.Mathlib.Decide.{decLt, decLe}
+use mathlib.Core.Bool.{Bool, true, false, not, _&&_}
+use mathlib.Core.List.{List, [], _∷_, map, List·Memᴰ, List·Memᴰ·not-nil}
 use mathlib.Core.Logic.{_⊎_, inl, inr}
 use mathlib.Core.Option.{Option, none, some}
 use lib.Dec.{ltb, eqb}
@@ -12,19 +12,20 @@ use lib.ListN.{length, getD, List·getD-eq-default}
 use borrow.Author.Tests.{eqb-true, eq-eqb, not-true, leb-true, lt-ltb, ltb-true}
 use Rattle.rules.specs.Limits.{Size}
 use Rattle.rules.specs.Lists.{first, any, all}
-use Rattle.rules.specs.Sizes.{goodSettings, faults, bit, count}
+use Rattle.rules.specs.Sizes.{faults, bit, count}
 use Rattle.rules.specs.Messages.{Message, newView, propose, vote, blame, blameSet, status, table, rowOf, kind, values, read, write, allowed, Effect, toAll, toOne, committed}
 use Rattle.rules.specs.Words.{State}
 use Rattle.rules.specs.Inputs.{saying, offered}
 use Rattle.rules.specs.Refusals.{done, running, step}
 use Rattle.rules.specs.Script.{sameList}
-use Rattle.laws.proofs.Tests.{by-bool, by-option, no-some, no-bool}
+use Rattle.laws.proofs.Tests.{by-bool, by-option, no-bool}
 use Rattle.laws.proofs.Bytes.{Bytes, none as no-bytes, one}
 use Rattle.laws.proofs.Truths.{and-2, both, or-2}
 use Rattle.laws.proofs.Searches.{by-mem, first-mem, first-any, first-none}
-use Rattle.agreement.specs.Schedule.{Event, idle, commonTick, tickOf, given, offeredTo, happens, ticks, IsCommon, CommonTicks, settingsOf, at, out, clock, IsSaid, HasVoted, HasBlamed, HasMade, Sound, NeverFull, IsLent, ProperBuffers, Sends, InTime, VotersVoted, Genuine, Hands, NoForgery, Offers, OneBlock, OneName, NeverUsedUp, Run, run, HasRoom, Schedule}
+use Rattle.agreement.specs.Schedule.{Event, idle, commonTick, tickOf, given, offeredTo, happens, ticks, IsCommon, CommonTicks, settingsOf, at, out, clock, IsSaid, HasMade, Sound, NeverFull, IsLent, ProperBuffers, Sends, InTime, VotersVoted, Genuine, Hands, NoForgery, Offers, OneBlock, OneName, NeverUsedUp, Run, run, HasRoom, Schedule}
 use Rattle.agreement.proofs.Events.{never-idle}
-use Rattle.agreement.specs.Checks.{Premise, settingsGood, fewFaulty, neverFull, commonTicks, properBuffers, inTime, noForgery, oneName, neverUsedUp, premises, place, other, Holds, AllBut, test, verdict, implies, every, some?, sameMessage, maskIn, toAllThat, brought, ifSome, isCommon, givenTo, offeredAs, listed, isSound, hasSaid, votersVoted, hasMade, isGenuine, taken, noneForged, comes, comesInTime, saidInTime, allInTime, allCommon, allRun, allLent, isOneBlock, oneNamed, allHeard}
+use Rattle.agreement.specs.Checks.{Premise, settingsGood, fewFaulty, neverFull, commonTicks, properBuffers, inTime, noForgery, oneName, neverUsedUp, premises, place, other, Holds, AllBut, test, verdict, implies, every, some?, sameMessage, maskIn, toAllThat}
+use Rattle.agreement.specs.Checks.{brought, ifSome, isCommon, givenTo, offeredAs, listed, isSound, hasSaid, votersVoted, hasMade, isGenuine, taken, noneForged, comes, comesInTime, saidInTime, allInTime, allCommon, allRun, allLent, isOneBlock, oneNamed, allHeard}
 
 -- ---- tests
 

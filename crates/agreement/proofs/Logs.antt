@@ -12,7 +12,7 @@ use lib.Seq.{drop-append-seam}
 use Rattle.rules.specs.Sizes.{Settings}
 use Rattle.rules.specs.Messages.{Effect, toAll, toOne, committed}
 use Rattle.rules.specs.Words.{Statement, State, inView, fresh}
-use Rattle.rules.specs.Inputs.{withClock, withLog, due, chain, commits, reports}
+use Rattle.rules.specs.Inputs.{withClock, withLog, due, chain, reports}
 use Rattle.rules.specs.Refusals.{running}
 use Rattle.laws.proofs.Searches.{All, to-all}
 use Rattle.laws.proofs.Statements.{once-first}

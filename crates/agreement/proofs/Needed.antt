@@ -3,11 +3,10 @@ use mathlib.Core.Path.{_≡_, subst, refl, sym, ap, _∙_}
 use Prim.Native.Nat.{ℕ, suc, _+_, _≤_, _<_}
 use native.Mathlib.Omega.{arith}
 use mathlib.Core.Bool.{true, false}
-use mathlib.Core.Logic.{_⊎_, inl, inr}
 use mathlib.Core.Option.{some, Option·some-injective}
 use Rattle.rules.specs.Limits.{Size}
 use Rattle.rules.specs.Sizes.{Settings, bit}
-use Rattle.rules.specs.Messages.{Message, newView, propose, vote, blame, blameSet, status, viewOf, read, write, allowed}
+use Rattle.rules.specs.Messages.{Message, newView, propose, vote, blame, blameSet, status, read, write, allowed}
 use Rattle.rules.specs.Words.{Certificate}
 use Rattle.rules.specs.Refusals.{Outcome, running, ahead, usedUp, step}
 use Rattle.laws.proofs.Tests.{by-bool, no-some}
@@ -16,7 +15,7 @@ use Rattle.laws.proofs.Moves.{carried}
 use Rattle.laws.proofs.Held.{step-taken, step-used}
 use Rattle.laws.proofs.Views.{not-ahead}
 use Rattle.laws.proofs.Proper.{Parented}
-use Rattle.agreement.specs.Schedule.{Event, commonTick, given, happens, ticks, IsCommon, at, clock, HasVoted, Sound, GoodSettings, SoundRun, ProperBuffers, Sends, Speaks, Genuine, OneBlock, Premises, Run, run, CommonTicks, InTime, NeverUsedUp}
+use Rattle.agreement.specs.Schedule.{Event, given, happens, ticks, at, clock, HasVoted, Sound, GoodSettings, SoundRun, ProperBuffers, Speaks, Genuine, OneBlock, Premises, Run, run, CommonTicks, InTime, NeverUsedUp}
 use Rattle.agreement.proofs.Events.{happens-given}
 use Rattle.agreement.proofs.Whole.{settings-alike, settings-at, sent-allowed}
 use Rattle.agreement.proofs.Clock.{last-of, clock-alike, one-tick}

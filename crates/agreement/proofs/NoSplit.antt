@@ -14,7 +14,7 @@ use Rattle.rules.specs.Inputs.{saying}
 use Rattle.rules.specs.Refusals.{done, running}
 use Rattle.laws.proofs.Tests.{by-bool, no-bool}
 use Rattle.laws.proofs.Splits.{Split, dueCommits, step-split, offer-split, tick-split}
-use Rattle.agreement.specs.Schedule.{Event, idle, commonTick, tickOf, given, offeredTo, happens, ticks, IsCommon, until, at, clock, Sound, NeverFull, SoundRun, RunsTo, Sends, Premises, Run, run}
+use Rattle.agreement.specs.Schedule.{Event, idle, commonTick, tickOf, given, offeredTo, happens, ticks, IsCommon, until, at, clock, Sound, NeverFull, SoundRun, RunsTo, Premises, Run, run}
 use Rattle.agreement.proofs.Clock.{clock-suc, one-tick}
 use Rattle.agreement.proofs.Group.{Reaches, Group}
 use Rattle.agreement.proofs.Logs.{commits-agree}

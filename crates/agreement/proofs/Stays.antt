@@ -21,7 +21,7 @@ use Rattle.laws.proofs.Moves.{counted, logAfter}
 use Rattle.laws.proofs.Kept.{true-in, moves-fixed, moves-kept, VoteKept, moves-vote}
 use Rattle.laws.proofs.Orderly.{propose-high}
 use Rattle.laws.proofs.Held.{held-stored}
-use Rattle.laws.proofs.Votes.{Cast, Stands}
+use Rattle.laws.proofs.Votes.{Cast}
 use Rattle.laws.proofs.Commits.{commits-some, Due, facts-due}
 use Rattle.agreement.specs.Schedule.{Event, commonTick, ticks, at, run, IsSaid, lineage}
 use Rattle.agreement.proofs.Lineage.{up, propose-facts, chain-whole}

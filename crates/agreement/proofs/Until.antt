@@ -4,7 +4,7 @@ use mathlib.Core.Path.{_≡_, subst, refl, sym, ap, _∙_}
 use Prim.Native.Nat.{ℕ, zero, suc, _+_, _≤_, _<_}
 use native.Mathlib.Omega.{arith}
 use native.Mathlib.Decide.{decLt, decLe}
-use mathlib.Core.Bool.{true, false}
+use mathlib.Core.Bool.{false}
 use mathlib.Core.List.{List, [], _++_, List·Memᴰ, List·Memᴰ·not-nil}
 use mathlib.Core.Logic.{inl, inr}
 use mathlib.Core.Option.{some}
@@ -16,7 +16,7 @@ use Rattle.rules.specs.Words.{State}
 use Rattle.rules.specs.Inputs.{saying, offered}
 use Rattle.rules.specs.Refusals.{done, step}
 use Rattle.laws.proofs.Tests.{by-bool}
-use Rattle.agreement.specs.Schedule.{Event, idle, commonTick, tickOf, given, offeredTo, happens, ticks, IsCommon, until, at, out, clock, IsSaid, CommonTicks, RoomTo, IsLent, ProperBuffers, Sends, Speaks, InTime, NeverUsedUp, Hands, NoForgery, Offers, OneName, Premises, Schedule, reportsIn, reported, Run, run}
+use Rattle.agreement.specs.Schedule.{Event, idle, given, offeredTo, happens, ticks, IsCommon, until, at, out, clock, IsSaid, CommonTicks, RoomTo, IsLent, ProperBuffers, Sends, Speaks, InTime, NeverUsedUp, Hands, NoForgery, Offers, OneName, Premises, Schedule, reportsIn, reported, Run, run}
 use Rattle.agreement.proofs.Events.{Happening, never-idle}
 use Rattle.agreement.proofs.Alike.{genuine-on}
 

@@ -1,10 +1,8 @@
 // Writing a flat relay envelope: all messages are looked at first, so that a refusal writes nothing.
 ghost use mathlib.Core.Path.{_≡_};
-ghost use Prim.Native.Nat.{ℕ, _+_, _*_, _≤_};
-ghost use lib.ListN.{length};
+ghost use Prim.Native.Nat.{_+_, _*_};
 ghost use Rattle.outgoing.specs.Wrote.{wrote};
 ghost use Rattle.slots.specs.Slots.{written};
-ghost use Rattle.envelope.specs.Places.{Place};
 ghost use Rattle.bundle.specs.Writing.{isMessageAt, bundled, writing};
 ghost use Rattle.bundle.specs.Meaning.{totalOf, bundleIn, MayWrite};
 

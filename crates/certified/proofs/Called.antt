@@ -1,6 +1,6 @@
 -- The call by its cases: refused for the lengths, refused for the store, or the number that is kept. Assumes nothing.
 use Prim.Native.Nat.{ℕ, _*_, _^_}
-use mathlib.Core.Path.{_≡_, refl, sym, ap, _∙_}
+use mathlib.Core.Path.{_≡_, sym, ap, _∙_}
 use mathlib.Core.Bool.{Bool, true, false, not, _&&_, and-false}
 use mathlib.Core.List.{List}
 use lib.ListN.{length}

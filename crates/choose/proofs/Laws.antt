@@ -1,8 +1,8 @@
 -- Which report is taken, case by case; and a report's bytes: the four of its kind, then its certificate part. Assumes nothing.
-use Prim.Native.Nat.{ℕ, zero, suc, _+_, _-_, _<_, _≤_, _%_}
-use mathlib.Core.Path.{_≡_, refl, sym, ap, subst, _∙_}
+use Prim.Native.Nat.{ℕ, suc, _+_, _-_, _<_}
+use mathlib.Core.Path.{_≡_, refl, sym, ap, _∙_}
 use mathlib.Core.Bool.{Bool, true, false, _&&_, _||_}
-use mathlib.Core.List.{List, [], _∷_, _++_}
+use mathlib.Core.List.{List, [], _∷_}
 use mathlib.Core.Option.{Option, none, some, Option·some-injective}
 use native.Mathlib.Nat.{zero-add}
 use native.Mathlib.Omega.{arith}
@@ -23,11 +23,11 @@ use denote.Enum.Declared.{tagOf}
 use Rattle.wire.proofs.Message.{the-type}
 use Rattle.wire.specs.declared.Message as messages
 use Rattle.wire.specs.declared.Message.the-variants.{Stated, Vote, Blame, BlameSet, Status}
-use Rattle.wire.specs.Meaning.{messageOf, statementOf}
+use Rattle.wire.specs.Meaning.{messageOf}
 use Rattle.laws.proofs.Lengths.{length-write}
 use Rattle.groups.specs.Groups.{group}
 use Rattle.choose.specs.Meaning.{Rank}
-use Rattle.choose.specs.Choose.{reported, report, taken, takenOf, Part, certificatePart, emptyPart, chosen}
+use Rattle.choose.specs.Choose.{reported, report, taken, takenOf, Part, certificatePart, chosen}
 
 -- ---- which one is taken
 

@@ -2,12 +2,11 @@
 use mathlib.Core.Path.{_≡_, refl}
 use Prim.Native.Nat.{ℕ, suc}
 use mathlib.Core.Bool.{Bool, _&&_}
-use mathlib.Core.List.{List, [], _∷_, _++_, map}
-use mathlib.Core.Option.{some}
+use mathlib.Core.List.{List, [], _∷_, _++_}
 use lib.ListN.{take, drop}
 use lib.Dec.{eqb}
 use Rattle.rules.specs.Limits.{lastViewSmall}
-use Rattle.rules.specs.Messages.{Message, vote, blame, status, write, read}
+use Rattle.rules.specs.Messages.{vote, blame, status, write, read}
 use Rattle.rules.specs.Script.{failing, sameList}
 use Rattle.choose.specs.Choose.{Part, takenOf, chosen}
 

@@ -13,10 +13,10 @@ use Rattle.rules.specs.Words.{fresh}
 use Rattle.laws.proofs.Tests.{by-bool}
 use Rattle.laws.proofs.Searches.{All}
 use Rattle.fields.specs.Places.{Bytes}
-use Rattle.agreement.specs.Schedule.{Event, idle, commonTick, tickOf, given, offeredTo, settingsOf, IsLent, at, happens}
+use Rattle.agreement.specs.Schedule.{Event, idle, commonTick, tickOf, given, offeredTo, settingsOf, IsLent, at}
 use Rattle.store.specs.Layout.{storeLength}
 use Rattle.store.specs.Decode.{encode}
-use Rattle.calls.specs.Calls.{Called, tickCalled, offerCalled, stepCalled, answered}
+use Rattle.calls.specs.Calls.{Called, answered}
 use Rattle.promises.specs.Run.{untouched, calls, storeAt}
 use Rattle.promises.proofs.Carried.{store-carried, bytes-at, call-with, out-kept}
 use Rattle.journal.specs.Journal.{slotCount}

@@ -17,14 +17,14 @@ use Rattle.journal.proofs.Places.{length-slot, count-with, slot-here, slot-befo
 use Rattle.cuts.proofs.Stored.{length-storing, stored-some, stored-whole}
 
 -- slots in use, with so many records in them, and blank ones behind
-record Ready (j : List ℕ) (ls : List Slot) (c p n : ℕ) : Type 0 where
+record InUse (j : List ℕ) (ls : List Slot) (c p n : ℕ) : Type 0 where
   count : slotCount j ≡ p + n
   before : slotsFrom j 0 p ≡ ls
   behind : slotsFrom j p n ≡ replicate n blank
   numbers : (ss : List Slot) → roomFrom 0 0 (ls ++ ss) ≡ roomFrom c p ss
   few : c ≤ p
 
-module _ {j : List ℕ} {ls : List Slot} {c p n : ℕ} (r : Ready j ls c p n) where
+module _ {j : List ℕ} {ls : List Slot} {c p n : ℕ} (r : InUse j ls c p n) where
   slots-are : slotsOf j ≡ ls ++ replicate n blank
   unfolding slotsOf
   slots-are =
@@ -36,7 +36,7 @@ module _ {j : List ℕ} {ls : List Slot} {c p n : ℕ} (r : Ready j ls c p n) wh
   room-is = ap (roomFrom 0 0) slots-are ∙ r .numbers (replicate n blank)
 
 -- the slot that is next
-module _ {j : List ℕ} {ls : List Slot} {c p n : ℕ} (r : Ready j ls c p (suc n)) where
+module _ {j : List ℕ} {ls : List Slot} {c p n : ℕ} (r : InUse j ls c p (suc n)) where
   next-within : p < slotCount j
   next-within = omega (arith, r .count)
 
@@ -57,7 +57,7 @@ module _ {j : List ℕ} {ls : List Slot} {c p n : ℕ} (r : Ready j ls c p (suc 
     unfolding slotsFrom
     last e = ap (_∷ []) (ap (λ (y : ℕ). judged (slotAt j′ y)) (let z : 0 + p ≡ p = omega arith in z) ∙ ap judged (slot-here j p s next-within m) ∙ e)
 
-    filled : {x : Slot} (d : ℕ) → judged s ≡ x → d ≤ suc p → ((ss : List Slot) → roomFrom c p (x ∷ ss) ≡ roomFrom d (suc p) ss) → Ready j′ (ls ++ x ∷ []) d (suc p) n
+    filled : {x : Slot} (d : ℕ) → judged s ≡ x → d ≤ suc p → ((ss : List Slot) → roomFrom c p (x ∷ ss) ≡ roomFrom d (suc p) ss) → InUse j′ (ls ++ x ∷ []) d (suc p) n
     filled {x} d e f g =
         record {
           count = count-with j p s next-within m ∙ r .count ∙ omega arith;
@@ -69,11 +69,11 @@ module _ {j : List ℕ} {ls : List Slot} {c p n : ℕ} (r : Ready j ls c p (suc 
           few = f;
         }
 
-    filled-torn : judged s ≡ torn → Ready j′ (ls ++ torn ∷ []) c (suc p) n
+    filled-torn : judged s ≡ torn → InUse j′ (ls ++ torn ∷ []) c (suc p) n
     unfolding roomFrom
     filled-torn e = filled c e (omega (arith, r .few)) (λ ss. refl)
 
-    filled-whole : (k : ℕ) (bs : List ℕ) → judged s ≡ whole c k bs → Ready j′ (ls ++ whole c k bs ∷ []) (suc c) (suc p) n
+    filled-whole : (k : ℕ) (bs : List ℕ) → judged s ≡ whole c k bs → InUse j′ (ls ++ whole c k bs ∷ []) (suc c) (suc p) n
     unfolding roomFrom
     filled-whole k bs e =
         filled (suc c) e (omega (arith, r .few)) (λ ss. ap (λ (b : Bool). elim b [ true ↦ roomFrom (suc c) (suc p) ss | false ↦ nowhere ]) (eqb-self c))
@@ -97,7 +97,7 @@ unfolding trying
 trying-is a j x e = ap (λ y. tryIn y a j) e
 
 -- one try into the next slot
-module _ (a : Try) (w : Proper a) {j : List ℕ} {ls : List Slot} (c p n : ℕ) (r : Ready j ls c p (suc n)) (h : slotCount j < 2 ^ 32) where
+module _ (a : Try) (w : Proper a) {j : List ℕ} {ls : List Slot} (c p n : ℕ) (r : InUse j ls c p (suc n)) (h : slotCount j < 2 ^ 32) where
   abbrev rec : List ℕ
   rec = recordBytes c (a .kind) (a .input)
 
@@ -138,11 +138,11 @@ unfolding laid
 lays c a ts n e f =
     ap₂ (λ (x y : Bool). elim x [ true ↦ laid c ts (suc n) | false ↦ elim y [ true ↦ whole c (a .kind) (a .input) ∷ laid (suc c) ts n | false ↦ torn ∷ laid c ts n ] ]) e f
 
-tried-nowhere : (a : Try) {j : List ℕ} {ls : List Slot} {c p : ℕ} → Ready j ls c p zero → trying a j ≡ j
+tried-nowhere : (a : Try) {j : List ℕ} {ls : List Slot} {c p : ℕ} → InUse j ls c p zero → trying a j ≡ j
 unfolding roomFrom tryIn
 tried-nowhere a {j} r = trying-is a j nowhere (room-is r)
 
-laid-all : (ts : List Try) → All Proper ts → {j : List ℕ} {ls : List Slot} (c p n : ℕ) → Ready j ls c p n → slotCount j < 2 ^ 32 → slotsOf (tryAll ts j) ≡ ls ++ laid c ts n
+laid-all : (ts : List Try) → All Proper ts → {j : List ℕ} {ls : List Slot} (c p n : ℕ) → InUse j ls c p n → slotCount j < 2 ^ 32 → slotsOf (tryAll ts j) ≡ ls ++ laid c ts n
 unfolding tryAll laid
 laid-all [] w c p n r h = slots-are r
 laid-all (a ∷ ts) w {j} {ls} c p zero r h =
@@ -167,7 +167,7 @@ laid-all (a ∷ ts) w {j} {ls} c p (suc n) r h =
 
 -- ---- from zeroed slots
 
-start : (j : List ℕ) → Zeroed j → Ready j [] 0 0 (slotCount j)
+start : (j : List ℕ) → Zeroed j → InUse j [] 0 0 (slotCount j)
 unfolding slotsFrom slotsOf
 start j z = record { count = omega arith; before = refl; behind = z; numbers = λ ss. refl; few = omega arith }
 

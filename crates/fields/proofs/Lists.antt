@@ -6,8 +6,8 @@ use native.Mathlib.Omega.{arith}
 use native.Mathlib.Nat.{add-zero, zero-add, suc-add, add-assoc, eq-or-lt-of-le}
 use native.Mathlib.Numerals.{add-one}
 use mathlib.Core.Logic.{⊎-elim}
-use lib.ListN.{length, getD, take, drop, set, List·getD-append, length-drop, length-set, take-append-drop}
-use lib.Seq.{getD-take, getD-drop, getD-append-add, getD-set-same, take-set-le, drop-set-lt, drop-drop, length-take-le, ext-getD}
+use lib.ListN.{length, getD, take, drop, set, List·getD-append, length-drop, length-set}
+use lib.Seq.{getD-take, getD-drop, getD-append-add, getD-set-same, take-set-le, drop-set-lt, length-take-le, ext-getD}
 use Rattle.fields.specs.Places.{Bytes, number, put}
 use Rattle.fields.proofs.Laws.{number-ext, number-split, same-bytes, getD-put-above, length-put}
 

@@ -4,7 +4,7 @@ use mathlib.Core.Path.{_≡_, refl, sym, ap, ap₂, _∙_}
 use mathlib.Core.Bool.{Bool, true, false, _&&_}
 use mathlib.Core.List.{List, [], _∷_}
 use native.Mathlib.Omega.{arith}
-use native.Mathlib.Nat.{zero-add, mul-zero, mul-le-mul-left}
+use native.Mathlib.Nat.{zero-add, mul-zero}
 use lib.ListN.{length, replicate}
 use lib.Dec.{leb, eqb}
 use borrow.Author.Tests.{leb-true, ltb-true, eq-eqb, ne-eqb}
@@ -20,7 +20,7 @@ use Rattle.laws.proofs.Tests.{by-bool, and-left, and-right}
 use Rattle.laws.proofs.Bytes.{pow-pos}
 use Rattle.fields.specs.Places.{number, put, Bytes}
 use Rattle.fields.specs.Records.{fields, puts, Fit}
-use Rattle.fields.proofs.Laws.{number-put-same, number-split, length-put, bytes-put}
+use Rattle.fields.proofs.Laws.{number-put-same, length-put, bytes-put}
 use Rattle.store.specs.Layout.{headerFormat, Table, statementTable, tallyTable, logTable, blameBase, storeLength, sizeIn, countOf}
 use Rattle.store.specs.Decode.{statementAt, tallyFor, blameFor, nameFor, kindAt, blames, blamesFor, kinds, rows, statements, tallies, stateFrom, stateOf, headerValues, Left, encode}
 use Rattle.fresh.specs.Fresh.{answer, freshly}

@@ -9,11 +9,10 @@ use lib.ListN.{length, take, drop}
 use lib.Dec.{eqb}
 use borrow.Author.Tests.{eq-eqb, ne-eqb}
 use Rattle.slots.specs.Slots as slots
-use Rattle.slots.specs.Slots.{slotLength, judged, whole}
+use Rattle.slots.specs.Slots.{slotLength, judged}
 use Rattle.slot_reader.specs.Meaning.{slotOf, Judged}
 use Rattle.slot_reader.specs.declared.Slot.{Slot}
 use Rattle.slot_reader.specs.declared.Slot.the-variants.{Blank, Torn, Bad, Whole}
-use Rattle.journal.specs.Journal as journal
 use Rattle.journal.specs.Journal.{slotCount, slotAt, slotsFrom, slotsOf, roomFrom, roomIn, nowhere}
 use Rattle.journal.specs.Meaning.{roomOf, Found}
 use Rattle.journal.specs.declared.Room.the-variants.{Free, Nowhere}

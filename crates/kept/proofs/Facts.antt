@@ -4,8 +4,8 @@ use Prim.Native.Nat.{ℕ, zero, suc, _+_, _-_, _^_, _≤_, _<_}
 use native.Mathlib.Omega.{arith}
 use mathlib.Core.Bool.{false}
 use mathlib.Core.List.{List, [], _∷_, List·Memᴰ as Mem}
-use mathlib.Core.Option.{none, some, Option·some-injective}
-use lib.ListN.{length, getD}
+use mathlib.Core.Option.{some, Option·some-injective}
+use lib.ListN.{length}
 use Rattle.rules.specs.Limits.{firstView, lastView, lastHeight, mostStations, mostStatements, lastViewLarge}
 use Rattle.rules.specs.Lists.{first}
 use Rattle.rules.specs.Words.{Statement, Tally, State}
@@ -18,7 +18,6 @@ use Rattle.kept.proofs.Lists.{all-mem}
 use Rattle.kept.proofs.Tallies.{TallyGood, tally-parts, opener-lt, reached-le, CertificateGood, lock-parts}
 use Rattle.kept.proofs.Statements.{Stated, voted-le, stored-stated}
 use Rattle.kept.proofs.Phases.{Clocks, clocks-parts}
-use Rattle.kept.proofs.Blames.{blames-mask, blames-length}
 use Rattle.kept.proofs.Logs.{proposes, proposes-length, linked-length, chain-linked}
 
 module _ {s : State} (f : Formed s) where

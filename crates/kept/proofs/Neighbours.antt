@@ -1,6 +1,6 @@
 -- No author's votes alone fill the tallies: a vote opens at most its author's share, and what is left is the room of statements and
 -- statuses. Assumes nothing.
-use mathlib.Core.Path.{_≡_, refl, sym, _∙_}
+use mathlib.Core.Path.{_≡_, refl}
 use Prim.Native.Nat.{ℕ, zero, suc, _+_, _-_, _*_, _≤_, _<_}
 use native.Mathlib.Omega.{arith}
 use native.Mathlib.Decide.{decLt}
@@ -9,14 +9,14 @@ use mathlib.Core.List.{List, [], _∷_}
 use mathlib.Core.Option.{none, some}
 use lib.ListN.{length}
 use borrow.Author.Tests.{eq-eqb, ne-eqb}
-use Rattle.rules.specs.Limits.{small, large, mostTallies, mostOpened}
+use Rattle.rules.specs.Limits.{mostTallies, mostOpened}
 use Rattle.rules.specs.Lists.{all, keep}
 use Rattle.rules.specs.Sizes.{Settings}
 use Rattle.rules.specs.Words.{Opener, Tally, isAuthor, openedBy, State}
 use Rattle.rules.specs.WellFormed.{tallyGood, fewOpened}
 use Rattle.laws.proofs.Tests.{by-bool}
 use Rattle.laws.proofs.Truths.{and-2}
-use Rattle.kept.specs.Parts.{Formed, WellFormed}
+use Rattle.kept.specs.Parts.{Formed}
 use Rattle.kept.proofs.Tallies.{tally-parts, opener-lt}
 use Rattle.kept.proofs.Openers.{few-each}
 use Rattle.kept.proofs.Facts.{sizes-of}

@@ -7,7 +7,7 @@ use lib.Dec.{leb}
 use borrow.Author.Tests.{leb-true, le-leb}
 use Rattle.rules.specs.Limits.{firstView, lastView, lastClock}
 use Rattle.rules.specs.Lists.{within}
-use Rattle.rules.specs.Words.{Cause, Certificate, Tally, certificateOf, opened, ofBlock, Phase, inView, waiting, stopped, State}
+use Rattle.rules.specs.Words.{Cause, Certificate, opened, Phase, inView, waiting, stopped, State}
 use Rattle.rules.specs.Inputs.{withPhase, withClock, entering}
 use Rattle.rules.specs.WellFormed.{clocksInOrder, lockGood, statementGood, tallyGood}
 use Rattle.laws.proofs.Truths.{and-3}

@@ -9,7 +9,7 @@ use lib.Dec.{leb}
 use borrow.Author.Tests.{leb-true, le-leb}
 use Rattle.rules.specs.Sizes.{Settings, leader}
 use Rattle.rules.specs.Messages.{newView, propose, allowed, viewAllowed, blockAllowed}
-use Rattle.rules.specs.Words.{Statement, message, sameStatement, Certificate, Tally, reachedAt, certificateOf, opened, ofBlock, ownBlock, certificate, State}
+use Rattle.rules.specs.Words.{Statement, message, sameStatement, Tally, opened, ownBlock, certificate, State}
 use Rattle.rules.specs.Inputs.{noted}
 use Rattle.rules.specs.WellFormed.{isName, statementGood, openerGood, tallyGood, talliesThere}
 use Rattle.laws.proofs.Tests.{by-bool, by-option, no-bool}

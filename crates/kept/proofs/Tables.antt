@@ -8,7 +8,7 @@ use mathlib.Core.Option.{none}
 use lib.Dec.{eqb}
 use Rattle.rules.specs.Lists.{any, all, alter}
 use Rattle.rules.specs.Sizes.{only}
-use Rattle.rules.specs.Words.{Statement, message, sameStatement, Certificate, Opener, Tally, Moment, certificateOf, ofBlock, ownBlock, certificate, sameBlock, join, joinCertificate, State, moment}
+use Rattle.rules.specs.Words.{Statement, message, sameStatement, Certificate, Opener, Tally, Moment, ofBlock, ownBlock, certificate, join, joinCertificate, State, moment}
 use Rattle.rules.specs.Inputs.{withTables, withBlames, withLog, noted, votedFor, certificateJoined, stored, isBlock}
 use Rattle.rules.specs.WellFormed.{statementGood, talliesThere, linked}
 use Rattle.laws.proofs.Tests.{by-bool}

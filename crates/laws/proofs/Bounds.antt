@@ -1,5 +1,5 @@
 -- What holds of the limits in both columns: the bounds that fields and buffers are made for. Assumes nothing.
-use Prim.Native.Nat.{ℕ, _*_, _+_, _≤_}
+use Prim.Native.Nat.{_*_, _+_, _≤_}
 use lib.Dec.{lit≤}
 use Rattle.rules.specs.Limits.{Size, small, large, lastView, mostStatements, mostTallies, leastOut, lastViewLarge, mostStatementsLarge, mostTalliesLarge}
 

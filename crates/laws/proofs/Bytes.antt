@@ -1,11 +1,11 @@
 -- A number's bytes and back, once for every width. Assumes nothing.
-use mathlib.Core.Path.{_≡_, refl, sym, ap, ap₂, _∙_}
-use Prim.Native.Nat.{ℕ, zero, suc, _+_, _*_, _/_, _%_, _^_, _≤_, _<_}
+use mathlib.Core.Path.{_≡_, refl, ap, ap₂, _∙_}
+use Prim.Native.Nat.{ℕ, zero, suc, _+_, _*_, _/_, _%_, _^_, _<_}
 use native.Mathlib.Nat.{pow-suc, mod-lt, div-lt-iff-lt-mul, mul-comm, div-add-mod'}
 use native.Mathlib.Omega.{arith}
 use mathlib.Core.List.{List, [], _∷_, _++_}
 use lib.ListN.{length}
-use lib.Arith.{digits-div, digits-mod, digits-lt, lt-one}
+use lib.Arith.{digits-div, digits-mod, digits-lt}
 use Rattle.rules.specs.Lists.{be, unbe}
 
 -- every element is a byte

@@ -12,7 +12,7 @@ use Rattle.rules.specs.Limits.{firstView, lastView}
 use Rattle.rules.specs.Lists.{first, any, keep}
 use Rattle.rules.specs.Sizes.{Settings, leader, only, bit, quorum}
 use Rattle.rules.specs.Messages.{Message, newView, propose, vote, blame, blameSet, status, read, allowed, Effect, toAll, toOne, committed}
-use Rattle.rules.specs.Words.{Statement, message, sameStatement, conflict, Certificate, Opener, Tally, certificateOf, ownBlock, joinCertificate, voters, State, moment}
+use Rattle.rules.specs.Words.{Statement, message, sameStatement, conflict, Certificate, ownBlock, joinCertificate, voters, State, moment}
 use Rattle.rules.specs.Inputs.{saying, _▸_, withPhase, withTables, withBlames, withLog, entering, isIn, quit, belowLock, votedFor, ballot, voting, certificateJoined, stored, statement, tallied, blamesOf, blamed, blameFull, blaming, handled, reports, report, current, inOrder, votingAll}
 use Rattle.rules.specs.Refusals.{done, refused, stopping, hasRoom, ifRoom, running, ahead, usedUp, heard, step}
 use Rattle.laws.proofs.Tests.{by-bool, by-option, no-bool}

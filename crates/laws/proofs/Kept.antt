@@ -16,7 +16,7 @@ use Rattle.rules.specs.Limits.{lastView, lastClock}
 use Rattle.rules.specs.Lists.{first}
 use Rattle.rules.specs.Sizes.{Settings, only, bit, joined, quorum}
 use Rattle.rules.specs.Messages.{Effect}
-use Rattle.rules.specs.Words.{Statement, sameStatement, Certificate, Opener, Tally, certificateOf, ownBlock, certificate, join, joinCertificate, voters, Phase, inView, waiting, stopped, State, moment}
+use Rattle.rules.specs.Words.{Statement, sameStatement, Certificate, ownBlock, certificate, join, joinCertificate, voters, Phase, inView, waiting, stopped, State, moment}
 use Rattle.rules.specs.Inputs.{Work, saying, _▸_, withPhase, withClock, withTables, withBlames, withLog, entering, isIn, quit, belowLock, votedFor, stored, blamesOf, blamed, blameFull, due, commits, logging, complain, lead, entersNow, entered, current, pair, inOrder, votingAll, arrive, enter, ticked}
 use Rattle.rules.specs.Refusals.{hasRoom, ifRoom, running, tick}
 use Rattle.laws.proofs.Tests.{by-bool, by-option, no-bool}

@@ -7,7 +7,7 @@ use mathlib.Core.Logic.{_⊎_, inl, inr}
 use Rattle.rules.specs.Limits.{maskBits}
 use Rattle.rules.specs.Sizes.{Settings, bit, count}
 use Rattle.rules.specs.Messages.{Effect}
-use Rattle.rules.specs.Words.{Certificate, Opener, Tally, certificateOf, voters, State}
+use Rattle.rules.specs.Words.{Certificate, voters, State}
 use Rattle.rules.specs.Inputs.{withPhase, withTables, withBlames, withLog, entering, votedFor, stored, blamed, nextLock, current, inOrder}
 use Rattle.laws.proofs.Tallies.{Above, sound-quorum, count-quorum, highest-above}
 use Rattle.laws.proofs.Moves.{Outside, arrived, Move, joins, stores, passes, casts, clashes, accuses, fills, complains, entersFull, entersPair, enters, Moves, here, more}

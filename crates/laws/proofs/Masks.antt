@@ -1,13 +1,13 @@
 -- Masks and quorums, once for every n = 2f+1: joining loses nobody and counts nobody twice, a quorum has a station outside
 -- any f, two quorums share one. Assumes nothing.
-use mathlib.Core.Path.{_≡_, refl, sym, ap, _∙_}
-use Prim.Native.Nat.{ℕ, zero, suc, _+_, _*_, _/_, _%_, _^_, _≤_, _<_, min, max}
+use mathlib.Core.Path.{_≡_, refl, sym, ap}
+use Prim.Native.Nat.{ℕ, zero, suc, _+_, _/_, _%_, _^_, _≤_, _<_, min, max}
 use native.Mathlib.Nat.{pow-suc, div-div-eq-div-mul, mul-comm, pow-le-pow-right, div-eq-of-lt}
 use native.Mathlib.Omega.{arith}
 use native.Mathlib.Decide.{decLt}
 use mathlib.Core.Bool.{true}
 use lib.Arith.{digits-div, digits-mod, lt-one}
-use lib.Bits.{bitOr, bitAnd, or-step, and-step, or-lt, or-shr, and-shr, or-self}
+use lib.Bits.{bitOr, bitAnd, or-step, and-step, or-lt, or-shr, and-shr}
 use lib.Count.{onesIn, ones, ones-step}
 use borrow.Author.Tests.{ltb-true}
 use Rattle.rules.specs.Limits.{maskBits}

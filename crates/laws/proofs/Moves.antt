@@ -12,8 +12,9 @@ use Rattle.rules.specs.Limits.{lastClock}
 use Rattle.rules.specs.Lists.{first, any}
 use Rattle.rules.specs.Sizes.{only}
 use Rattle.rules.specs.Messages.{Message, newView, propose, vote, blame, blameSet, status, read, allowed, Effect, toAll}
-use Rattle.rules.specs.Words.{Statement, message, sameStatement, conflict, Certificate, Opener, Tally, certificateOf, certificate, joinCertificate, waiting, State, moment}
-use Rattle.rules.specs.Inputs.{Work, saying, _▸_, withPhase, withClock, withTables, withLog, entering, isIn, quit, belowLock, votedFor, ballot, voting, certificateJoined, stored, statement, tallied, blamesOf, blamed, blameFull, blaming, handled, offered, due, commits, reports, logging, overdue, complain, leadsNow, ownNewView, lead, entersNow, nextLock, report, entered, current, pair, inOrder, votingAll, arrive, enter, ticked}
+use Rattle.rules.specs.Words.{Statement, message, sameStatement, conflict, Certificate, Opener, certificate, joinCertificate, waiting, State, moment}
+use Rattle.rules.specs.Inputs.{Work, saying, _▸_, withPhase, withClock, withTables, withLog, entering, isIn, quit, belowLock, votedFor, ballot, voting, certificateJoined, stored, statement, tallied, blamesOf, blamed, blameFull, blaming}
+use Rattle.rules.specs.Inputs.{handled, offered, due, commits, reports, logging, overdue, complain, leadsNow, ownNewView, lead, entersNow, nextLock, report, entered, current, pair, inOrder, votingAll, arrive, enter, ticked}
 use Rattle.rules.specs.Refusals.{Outcome, done, refused, hasRoom, ifRoom, running, step, offer, tick}
 use Rattle.laws.proofs.Tests.{by-bool, by-option, no-some, no-bool}
 use Rattle.laws.proofs.Answers.{by-step, by-offer}

@@ -15,7 +15,7 @@ use Rattle.rules.specs.Limits.{firstView, lastView}
 use Rattle.rules.specs.Lists.{first, any, keep, alter}
 use Rattle.rules.specs.Sizes.{Settings, joined, quorum}
 use Rattle.rules.specs.Messages.{vote, blameSet, Effect, toAll}
-use Rattle.rules.specs.Words.{Statement, message, sameStatement, conflict, Certificate, Opener, Tally, certificateOf, certificate, below, inView, waiting, State, fresh}
+use Rattle.rules.specs.Words.{Statement, message, sameStatement, conflict, Certificate, Tally, certificate, below, inView, waiting, State, fresh}
 use Rattle.rules.specs.Inputs.{Work, saying, _▸_, withPhase, withClock, withTables, withBlames, withLog, entering, isIn, belowLock, noted, votedFor, ballot, voting, stored, blamesOf, blamed, blameFull, entersNow, report, current, pair, inOrder, votingAll}
 use Rattle.laws.proofs.Bounds.{views-some}
 use Rattle.laws.proofs.Tests.{by-bool, no-some, no-bool}

@@ -1,18 +1,17 @@
 -- What is read is what was written: read bs ≡ some m → bs ≡ write m. Assumes nothing.
-use mathlib.Core.Path.{_≡_, refl, sym, ap, ap₂, _∙_, subst}
-use Prim.Native.Nat.{ℕ, zero, suc, _+_, _*_, _/_, _%_, _^_, _≤_, _<_}
+use mathlib.Core.Path.{_≡_, refl, sym, ap, ap₂, _∙_}
+use Prim.Native.Nat.{ℕ, zero, suc, _+_, _≤_}
 use native.Mathlib.Omega.{arith}
-use mathlib.Core.Bool.{Bool, true, false}
-use mathlib.Core.List.{List, [], _∷_, _++_, append-assoc}
+use mathlib.Core.List.{List, [], _∷_, _++_}
 use mathlib.Core.Option.{Option, none, some, Option·map, map-eq-some-iff, Option·some-injective}
-use lib.ListN.{length, take, drop, getD, length-append, take-append-drop}
+use lib.ListN.{length, take, drop, getD, take-append-drop}
 use lib.Seq.{length-take-le}
 use lib.Dec.{leb, eqb}
 use borrow.Author.Tests.{eqb-true, leb-true}
 use Rattle.rules.specs.Lists.{be, unbe}
-use Rattle.rules.specs.Messages.{Message, newView, propose, vote, blame, blameSet, status, field, width, Row, rowOf, tagsOf, kind, values, writes, write, after, readField, reads, body, read}
+use Rattle.rules.specs.Messages.{Message, field, width, Row, rowOf, tagsOf, kind, values, writes, write, after, readField, reads, body, read}
 use Rattle.laws.proofs.Tests.{by-bool, by-option, no-some}
-use Rattle.laws.proofs.Bytes.{Bytes, bytes-split, length-unbe, unbe-be}
+use Rattle.laws.proofs.Bytes.{Bytes, bytes-split, unbe-be}
 use Rattle.laws.proofs.Written.{reads-cons, writes-cons, write-eq, read-eq}
 
 after-inv : (ps bs r : List ℕ) → after ps bs ≡ some r → bs ≡ ps ++ r

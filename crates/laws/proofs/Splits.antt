@@ -7,9 +7,9 @@ use mathlib.Core.List.{List}
 use mathlib.Core.Option.{Option, none}
 use lib.Dec.{eqb}
 use Rattle.rules.specs.Limits.{lastClock}
-use Rattle.rules.specs.Messages.{read, allowed, Effect}
+use Rattle.rules.specs.Messages.{Effect}
 use Rattle.rules.specs.Words.{full, split, clock, stopped, State}
-use Rattle.rules.specs.Inputs.{Work, saying, _▸_, withPhase, withClock, withTables, withBlames, withLog, entering, votedFor, stored, blamed, handled, offered, due, commits, logging, complain, lead, enter, current, inOrder}
+use Rattle.rules.specs.Inputs.{Work, saying, _▸_, withPhase, withClock, withTables, withBlames, withLog, entering, votedFor, stored, blamed, handled, due, commits, logging, complain, lead, enter, current, inOrder}
 use Rattle.rules.specs.Refusals.{done, refused, hasRoom, ifRoom, running, step, offer, tick}
 use Rattle.laws.proofs.Tests.{by-bool, by-option, no-bool}
 use Rattle.laws.proofs.Answers.{by-step, by-offer}

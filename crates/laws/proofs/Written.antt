@@ -1,18 +1,16 @@
 -- The wire form, there and back, once over the table. Assumes nothing.
-use mathlib.Core.Path.{_≡_, refl, sym, ap, ap₂, _∙_}
-use Prim.Native.Nat.{ℕ, zero, suc, _+_, _*_, _/_, _%_, _^_, _≤_, _<_}
+use mathlib.Core.Path.{_≡_, refl, ap, _∙_}
+use Prim.Native.Nat.{ℕ, _+_, _^_, _<_}
 use native.Mathlib.Omega.{arith}
-use mathlib.Core.Bool.{Bool, true, false}
 use mathlib.Core.List.{List, [], _∷_, _++_, append-assoc}
-use mathlib.Core.Option.{Option, none, some, Option·map}
-use lib.ListN.{length, take, drop, getD, length-append}
+use mathlib.Core.Option.{Option, some, Option·map}
+use lib.ListN.{length, length-append}
 use lib.Seq.{take-at, drop-at}
-use lib.Dec.{leb}
 use borrow.Author.Tests.{le-leb}
 use Rattle.rules.specs.Lists.{be, unbe}
-use Rattle.rules.specs.Messages.{InWidth, Fitting, Message, newView, propose, vote, blame, blameSet, status, field, width, Row, table, rowOf, tagsOf, kind, values, writes, write, after, readField, reads, body, read}
+use Rattle.rules.specs.Messages.{InWidth, Fitting, Message, newView, propose, vote, blame, blameSet, status, field, width, tagsOf, kind, values, writes, write, after, readField, reads, body, read}
 use Rattle.laws.proofs.Tests.{eqb-self}
-use Rattle.laws.proofs.Bytes.{Bytes, length-unbe, be-unbe}
+use Rattle.laws.proofs.Bytes.{length-unbe, be-unbe}
 
 after-self : (ps r : List ℕ) → after ps (ps ++ r) ≡ some r
 unfolding after

@@ -1,10 +1,9 @@
 -- The inputs of a list, slot by slot. Assumes nothing.
-use Prim.Native.Nat.{ℕ, suc, _+_, _-_, _*_, _/_, _<_, _≤_}
-use mathlib.Core.Path.{_≡_, refl, sym, ap, ap₂, _∙_, subst}
-use mathlib.Core.Bool.{Bool, true, false, _&&_}
-use mathlib.Core.List.{List, [], _∷_, _++_}
+use Prim.Native.Nat.{ℕ, _+_, _-_, _*_, _<_, _≤_}
+use mathlib.Core.Path.{_≡_, sym, ap, ap₂, _∙_, subst}
+use mathlib.Core.Bool.{true}
+use mathlib.Core.List.{List, [], _∷_}
 use native.Mathlib.Omega.{arith}
-use native.Mathlib.Numerals.{add-one}
 use lib.ListN.{length, take, drop}
 use lib.Seq.{take-add, take-all, drop-at, take-take, drop-drop, length-take-le}
 use lib.Dec.{leb, eqb}
@@ -12,7 +11,7 @@ use borrow.Author.Tests.{leb-true, leb-false}
 use Rattle.laws.proofs.Tests.{by-bool, and-left}
 use Rattle.fields.specs.Places.{number}
 use Rattle.slots.specs.Slots as slots
-use Rattle.slots.specs.Slots.{slotLength, mostInput, isInput, recordBytes, sequenceIn, kindIn, inputIn, isRecord, judged, blank, torn, bad, whole}
+use Rattle.slots.specs.Slots.{slotLength, mostInput, isInput, recordBytes, sequenceIn, kindIn, inputIn, isRecord, judged, whole}
 use Rattle.slot_reader.specs.Meaning.{inputPlace, slotOf, Within, Judged}
 use Rattle.slot_reader.specs.declared.Slot.{Slot}
 use Rattle.slot_reader.specs.declared.Slot.the-variants.{Blank, Torn, Bad, Whole}
@@ -20,9 +19,7 @@ use Rattle.slot_reader.proofs.OneForm.{whole-only}
 use Rattle.journal.specs.Journal.{slotCount, slotAt, slotsFrom, slotsOf}
 use Rattle.journal.proofs.Rooms.{slots-step, slots-end}
 use Rattle.lent_list.specs.Lists.{headLength, recordsIn, slotsIn, hasLength, inputOf, inputsIn, inputsOf, inputsAfter}
-use Rattle.lent_list.specs.Meaning as meaning
 use Rattle.lent_list.specs.Meaning.{part, heldOf, Stands}
-use Rattle.lent_list.specs.declared.Held.{Held}
 use Rattle.lent_list.specs.declared.Held.the-variants.{Input, Nothing}
 use Rattle.lent_list.proofs.Lengths.{lengths}
 use Rattle.lent_list.proofs.Placed.{part-held}

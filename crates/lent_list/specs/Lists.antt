@@ -10,7 +10,7 @@ use Rattle.rules.specs.Lists.{unbe}
 use Rattle.rules.specs.Sizes.{Settings, goodSettings}
 use Rattle.fields.specs.Places.{number, put}
 use Rattle.slots.specs.Slots.{slotLength, recordBytes, Slot, blank, torn, bad, whole}
-use Rattle.journal.specs.Journal.{slotCount, slotAt, withSlot, slotsFrom, slotsOf}
+use Rattle.journal.specs.Journal.{slotCount, withSlot, slotsFrom, slotsOf}
 
 -- what a host hands over: a tick, an offered name, a message; a name and a message are any bytes
 pub data Input : Type 0 where

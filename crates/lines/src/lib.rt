@@ -3,7 +3,6 @@ use fields::Name;
 use kinds::Heard;
 use parts::Flaw;
 use parts::Place;
-ghost use mathlib.Core.Path.{_≡_};
 ghost use Prim.Native.Nat.{_≤_};
 ghost use mathlib.Core.List.{[]};
 ghost use lib.ListN.{length, drop};

@@ -1,5 +1,5 @@
 -- What is told of the lowest logged names, name by name. Assumes nothing.
-use Prim.Native.Nat.{ℕ, zero, suc, _+_, _-_, _<_, _≤_}
+use Prim.Native.Nat.{ℕ, zero, suc, _+_, _-_, _<_}
 use mathlib.Core.Path.{_≡_, refl, sym, ap, _∙_}
 use mathlib.Core.Bool.{Bool, true, false, not, _&&_, false≢true}
 use mathlib.Core.List.{List}
@@ -15,7 +15,7 @@ use Rattle.laws.proofs.Searches.{first-any}
 use Rattle.store.specs.Layout.{statementTable, logTable, countOf}
 use Rattle.store.specs.Decode.{nth, statementAt}
 use Rattle.chains.specs.Chains.{places}
-use Rattle.linked.specs.Told.{nameBelow, Settles, Told}
+use Rattle.linked.specs.Told.{nameBelow, Told}
 use Rattle.linked.specs.Links.{soughtAt, Foremosts, Settling, Lowest}
 use Rattle.linked.proofs.Heights.{place-left, block-is}
 

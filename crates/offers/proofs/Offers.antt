@@ -1,23 +1,20 @@
 -- An offer, in 01's order: not to be taken, or the propose above the top of the view. Assumes nothing.
 use Prim.Native.Nat.{ℕ, _+_, _<_, _≤_}
-use mathlib.Core.Path.{_≡_, refl, sym, ap, ap₂, _∙_}
+use mathlib.Core.Path.{_≡_, refl, sym, ap, _∙_}
 use mathlib.Core.Bool.{Bool, true, false, not, _&&_, and-false}
 use mathlib.Core.List.{List}
 use mathlib.Core.Option.{none, some}
-use native.Mathlib.Omega.{arith}
 use lib.Dec.{eqb, ltb}
 use borrow.Author.Tests.{lt-ltb, le-ltb, not-true, not-false}
 use Rattle.rules.specs.Limits.{lastHeight}
-use Rattle.rules.specs.Lists.{any, be}
-use Rattle.rules.specs.Sizes as sizes
-use Rattle.rules.specs.Sizes.{leader, quorum}
+use Rattle.rules.specs.Lists.{any}
+use Rattle.rules.specs.Sizes.{quorum}
 use Rattle.rules.specs.Messages as messages
 use Rattle.rules.specs.Words.{Statement, message, Certificate, ownBlock, voters, State}
-use Rattle.rules.specs.Inputs.{isIn, leads, isOpened, isUsed, top, extendable, above, offered}
+use Rattle.rules.specs.Inputs.{leads, isOpened, isUsed, top, extendable, above, offered}
 use Rattle.fields.specs.Names.{nameOf}
 use Rattle.fields.specs.declared.Name.{Name}
 use Rattle.settings.specs.Made.{settingsOf}
-use Rattle.kept.proofs.Facts.{sizes-of}
 use Rattle.wire.specs.Meaning.{statementOf}
 use Rattle.wire.specs.declared.Statement as code
 use Rattle.wire.proofs.Statements.{propose-said}
@@ -30,8 +27,6 @@ use Rattle.store.specs.declared.Station.{Station}
 use Rattle.store.proofs.Loaded.{loaded-settings, loaded-view}
 use Rattle.search.specs.Lookups.{opens}
 use Rattle.search.specs.Finds.{foundIn, Finds}
-use Rattle.acts.specs.Works.{Formed}
-use Rattle.acts.proofs.Works.{formed-parts}
 use Rattle.offers.specs.Offers.{mayOffer, extension}
 
 -- ---- the rule

@@ -1,7 +1,7 @@
 -- A list of three slots, evaluated: fresh, ticked until it is full, and with a wrong number in a record. Assumes nothing.
 use Prim.Native.Nat.{ℕ, zero, suc, _*_, _^_}
 use mathlib.Core.Path.{_≡_, refl}
-use mathlib.Core.List.{List, [], _∷_}
+use mathlib.Core.List.{List, []}
 use lib.ListN.{take, set, replicate}
 use Rattle.rules.specs.Limits.{leastOutSmall}
 use Rattle.fields.specs.Places.{number, put}

@@ -40,7 +40,7 @@ use Rattle.plain_acts.specs.declared.Work.{Work}
 use Rattle.plain_acts.specs.Works.{Worked}
 use Rattle.plain_messages.proofs.Laws.{certifies}
 use Rattle.plain_orders.specs.Picks.{isOf}
-use Rattle.plain_arrivals.specs.Votable.{Votable, Votables, votesLong, Ready}
+use Rattle.plain_arrivals.specs.Votable.{Votable, Votables, votesLong, OneFree}
 use Rattle.plain_arrivals.proofs.Laws.{then-worked, given-count, held-linked}
 
 -- ---- a stored statement may be voted on
@@ -55,7 +55,7 @@ stored-votable {s} f x m =
       there = and-2 (any (ofBlock (ownBlock x 0)) (s .tallies)) _ there .0;
     }
 
-module _ (e : Engine) (k : Ready e) where
+module _ (e : Engine) (k : OneFree e) where
   pub ready-view : e .view ≤ lastViewSmall
   unfolding state lastView
   ready-view =
@@ -130,13 +130,13 @@ entered-formed {s} f e =
     entering-formed f (s .view + 1) (nextLock s) (omega arith) (omega arith)
     (highest-good (s .settings) (s .clock) (s .view + 1) (s .tallies) (omega arith) (f .tables .tallies))
 
-module _ (e : Engine) (k : Ready e) (o : List ℕ) (at : ℕ) where
+module _ (e : Engine) (k : OneFree e) (o : List ℕ) (at : ℕ) where
   pub stays : entersNow (state e) ≡ false → Worked (enter (state e)) o at (record { engine = e; at = at }) o
   unfolding enter inputs.saying outgoing
   stays q = rw (q, enter) (record { now = record { sized = k .sized; is = refl }; says = says-none o at })
 
   module _ (q : entersNow (state e) ≡ true) {w : Work} {o₁ : List ℕ} (d : Worked (entered (state e)) o at w o₁) where
-    pub entered-ready : Ready (w .engine)
+    pub entered-ready : OneFree (w .engine)
     unfolding entered inputs.saying inputs.entering state
     entered-ready =
         record {

@@ -27,7 +27,7 @@ abbrev pub votesLong : ℕ
 votesLong = 160 * statementRoom.room + 40
 
 -- a station in a formed state whose tallies have room for one more
-pub record Ready (e : Engine) : Type 0 where
+pub record OneFree (e : Engine) : Type 0 where
   pub sized : Sized e
   pub formed : Formed (state e)
   pub free : e .tallies .count < tallyRoom.room

@@ -12,7 +12,7 @@ ghost use Rattle.plain_statements.specs.Meaning.{statements, room};
 ghost use Rattle.plain_tallies.specs.Meaning as tallyRoom;
 ghost use Rattle.plain_tables.specs.Meaning.{state, Sized};
 ghost use Rattle.plain_acts.specs.Works.{Worked};
-ghost use Rattle.plain_arrivals.specs.Votable.{Votables, votesLong, Ready};
+ghost use Rattle.plain_arrivals.specs.Votable.{Votables, votesLong, OneFree};
 
 // "Votes on stored statements of it by the rules above", one after the other.
 fn voting_all(xs: Statements, e: Engine, out: &mut [u8], at: usize) -> Work
@@ -36,7 +36,7 @@ fn voting_all(xs: Statements, e: Engine, out: &mut [u8], at: usize) -> Work
 // "Quits if the new view's blame mask is full, or if two stored statements of it conflict (if both causes hold, the set only); else
 // votes on stored statements of it by the rules above".
 fn arrive(e: Engine, out: &mut [u8], at: usize) -> Work
-    requires { ⌜ (Ready e) × (at + votesLong ≤ length (now out)) ⌝ }
+    requires { ⌜ (OneFree e) × (at + votesLong ≤ length (now out)) ⌝ }
     ensures { λ r. ⌜ Worked (inputs.arrive (state e)) (now (out .entry)) at r (now (out .exit)) ⌝ }
 {
     let view = e.view;
@@ -64,7 +64,7 @@ fn arrive(e: Engine, out: &mut [u8], at: usize) -> Work
 
 // A waiting station enters the next view, if it is time, and does there what is to be done.
 pub fn enter(e: Engine, out: &mut [u8], at: usize) -> Work
-    requires { ⌜ (Ready e) × (at + 200 + votesLong ≤ length (now out)) ⌝ }
+    requires { ⌜ (OneFree e) × (at + 200 + votesLong ≤ length (now out)) ⌝ }
     ensures { λ r. ⌜ Worked (inputs.enter (state e)) (now (out .entry)) at r (now (out .exit)) ⌝ }
 {
     if !plain_entries::enters_now(e) {

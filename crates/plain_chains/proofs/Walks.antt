@@ -1,11 +1,11 @@
 -- The walk from a block down to height 1; a whole chain is no longer than the statements are many. Assumes nothing.
 use Prim.Native.Nat.{ℕ, zero, suc, _+_, _-_, _<_, _≤_}
-use mathlib.Core.Path.{_≡_, refl, sym, ap, _∙_}
-use mathlib.Core.Bool.{Bool, true, false, not, _&&_}
+use mathlib.Core.Path.{_≡_, sym, ap, _∙_}
+use mathlib.Core.Bool.{Bool, true}
 use mathlib.Core.List.{List, [], _∷_}
 use mathlib.Core.Option.{Option, none, some}
 use native.Mathlib.Omega.{arith}
-use lib.Dec.{eqb, leb}
+use lib.Dec.{leb}
 use lib.ListN.{length, set, drop, length-set}
 use borrow.Author.Tests.{leb-true, le-leb, lt-leb}
 use Rattle.fields.specs.Names.{nameOf}
@@ -14,7 +14,6 @@ use Rattle.rules.specs.Lists.{first, keep}
 use Rattle.rules.specs.Words.{Statement}
 use Rattle.rules.specs.Inputs.{isBlock, chainTo, chain}
 use Rattle.laws.proofs.Tests.{by-option, no-some}
-use Rattle.laws.proofs.Truths.{and-2, both}
 use Rattle.laws.proofs.Searches.{first-any, first-mem}
 use Rattle.kept.proofs.Lists.{keep-length, keep-fewer-by}
 use Rattle.kept.proofs.Logs.{block-parts}

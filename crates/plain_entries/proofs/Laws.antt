@@ -1,9 +1,8 @@
 -- When a view is entered, and what is said and left then. Assumes nothing.
-use Prim.Native.Nat.{ℕ, _+_, _≤_, _<_}
+use Prim.Native.Nat.{ℕ, _+_}
 use mathlib.Core.Path.{_≡_, refl, sym, ap, subst, _∙_}
-use mathlib.Core.Bool.{Bool, true, false, _&&_}
+use mathlib.Core.Bool.{false, _&&_}
 use mathlib.Core.List.{List, [], _∷_}
-use native.Mathlib.Omega.{arith}
 use lib.Dec.{ltb, eqb}
 use borrow.Author.Tests.{eq-eqb, ne-eqb}
 use Rattle.rules.specs.Limits.{lastView}
@@ -21,7 +20,7 @@ use Rattle.plain_tallies.specs.Meaning.{tallies}
 use Rattle.plain_tables.specs.declared.Cause.{Cause}
 use Rattle.plain_tables.specs.declared.Phase.the-variants.{InView, Waiting, Stopped}
 use Rattle.plain_tables.specs.declared.Engine.{Engine}
-use Rattle.plain_tables.specs.Meaning.{state, Sized, Gives}
+use Rattle.plain_tables.specs.Meaning.{state, Sized}
 use Rattle.plain_tables.proofs.Laws.{given}
 use Rattle.plain_acts.specs.Works.{Worked}
 use Rattle.plain_entries.specs.Entries.{nextView}

@@ -1,8 +1,8 @@
 -- The leader's moment, its new-view, and that it may be sent. Assumes nothing.
-use Prim.Native.Nat.{ℕ, _+_, _*_, _<_}
-use mathlib.Core.Path.{_≡_, refl, sym, ap, subst, _∙_}
+use Prim.Native.Nat.{ℕ, _+_, _*_}
+use mathlib.Core.Path.{_≡_, refl, ap, subst, _∙_}
 use mathlib.Core.Bool.{Bool, true, false, _&&_}
-use mathlib.Core.List.{List, []}
+use mathlib.Core.List.{List}
 use native.Mathlib.Omega.{arith}
 use lib.Dec.{eqb}
 use borrow.Author.Tests.{eq-eqb, lt-ltb}
@@ -11,10 +11,9 @@ use Rattle.rules.specs.Messages as messages
 use Rattle.rules.specs.Messages.{newView, allowed, outgoing}
 use Rattle.rules.specs.Words as words
 use Rattle.rules.specs.Words.{State, highest, message}
-use Rattle.rules.specs.Inputs as inputs
 use Rattle.rules.specs.Inputs.{leads, leadsNow, ownNewView, lead, handled, saying}
 use Rattle.laws.proofs.Truths.{and-2, both}
-use Rattle.laws.proofs.Allowed.{sizes, view-within}
+use Rattle.laws.proofs.Allowed.{view-within}
 use Rattle.kept.specs.Parts.{Formed}
 use Rattle.kept.proofs.Tallies.{highest-good}
 use Rattle.kept.proofs.Ticks.{leads-own}

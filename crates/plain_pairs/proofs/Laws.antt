@@ -1,9 +1,9 @@
 -- A pair that conflicts, as the loops meet it. Assumes nothing.
 use Prim.Native.Nat.{ℕ, _+_, _<_, _≤_}
 use mathlib.Core.Path.{_≡_, refl, sym, ap, _∙_}
-use mathlib.Core.Bool.{Bool, true, false}
-use mathlib.Core.List.{List, [], _∷_}
-use mathlib.Core.Option.{Option, none, some}
+use mathlib.Core.Bool.{Bool}
+use mathlib.Core.List.{List, _∷_}
+use mathlib.Core.Option.{none, some}
 use lib.ListN.{length, getD, drop}
 use Rattle.rules.specs.Lists.{first}
 use Rattle.rules.specs.Words.{Statement, conflict, sameStatement, against}

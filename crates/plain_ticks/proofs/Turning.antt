@@ -31,7 +31,7 @@ use Rattle.plain_acts.specs.Works.{Worked}
 use Rattle.plain_messages.specs.Whole.{Whole}
 use Rattle.plain_messages.proofs.Laws.{view-small, few-tallies}
 use Rattle.plain_logs.proofs.Saying.{counted}
-use Rattle.plain_arrivals.specs.Votable.{votesLong, Ready}
+use Rattle.plain_arrivals.specs.Votable.{votesLong, OneFree}
 use Rattle.plain_arrivals.proofs.Laws.{then-worked, given-count, voting-count}
 use Rattle.plain_ticks.specs.Ticks.{Keepable, turning}
 
@@ -130,7 +130,7 @@ module _ (e : Engine) (k : Whole e) (o : List ℕ) (at : ℕ) {w : Work} {o₁ :
   pub complained-space : Worked (complain (state e)) o at w o₁ → at + 37 + 200 + 200 + votesLong ≤ length o → w .at + 200 + 200 + votesLong ≤ length o₁
   complained-space d h = omega (arith, d .says .ends, says-length (d .says), complain-bytes (state e))
 
-  pub led-ready : Worked (lead (state e)) o at w o₁ → Ready (w .engine)
+  pub led-ready : Worked (lead (state e)) o at w o₁ → OneFree (w .engine)
   unfolding state
   led-ready d =
       record {

@@ -1,12 +1,11 @@
 -- Theorem B of the calls on the schedule `twoViews`, evaluated: from stores and out buffers of zeros station 1, sound, writes a propose
 -- of height 3 and its vote, stays 2D+1 ticks, and has the block and both its ancestors in the log of its store. Assumes nothing.
-use Prim.Native.Nat.{ℕ, suc, _+_, _*_}
+use Prim.Native.Nat.{ℕ, _+_, _*_}
 use native.Mathlib.Omega.{arith}
 use mathlib.Core.Path.{_≡_, subst, refl, sym, ap, _∙_}
 use mathlib.Core.List.{List, [], _∷_, IsPrefix, List·Memᴰ, List·Memᴰ·head, List·Memᴰ·tail}
-use lib.ListN.{length, replicate, length-replicate}
+use lib.ListN.{replicate, length-replicate}
 use Rattle.rules.specs.Limits.{small, leastOut}
-use Rattle.rules.specs.Sizes.{bit}
 use Rattle.rules.specs.Messages.{propose, vote, Effect, toAll}
 use Rattle.rules.specs.Words.{inView, State}
 use Rattle.agreement.specs.Schedule.{Event, commonTick, at, out, Run, IsSaid, Sound, Schedule, lineage}

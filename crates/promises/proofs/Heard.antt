@@ -3,13 +3,13 @@ use Prim.Native.Nat.{ℕ, zero, suc, _+_, _≤_, _<_, _^_}
 use native.Mathlib.Omega.{arith}
 use mathlib.Core.Path.{_≡_, refl, sym, ap, ap₂, _∙_}
 use mathlib.Core.List.{List, [], _∷_, _++_, append-assoc}
-use mathlib.Core.Option.{Option, none, some, Option·map}
-use lib.ListN.{length, take, drop, length-append}
+use mathlib.Core.Option.{Option, some, Option·map}
+use lib.ListN.{length, length-append}
 use lib.Seq.{take-at, drop-at}
 use borrow.Author.Tests.{eq-eqb}
 use Rattle.rules.specs.Lists.{be, unbe}
 use Rattle.rules.specs.Sizes.{Settings}
-use Rattle.rules.specs.Messages.{Message, field, read, write, Effect, toAll, toOne, committed, effect, outgoing}
+use Rattle.rules.specs.Messages.{Message, field, write, Effect, toAll, toOne, committed, effect, outgoing}
 use Rattle.laws.proofs.Bytes.{length-unbe, be-unbe}
 use Rattle.kept.specs.Said.{Each, Sayable}
 use Rattle.laws.proofs.Lengths.{length-write, size-most, bytes-cons, weight}

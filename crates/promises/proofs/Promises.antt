@@ -1,9 +1,8 @@
 -- Demand 3 of the calls, with every premise and every conclusion about stores and bytes: whatever bytes the stores and out buffers of
 -- sound stations hold at first, the logs in the stores agree, the committed fields written are those logs, a vote that lasts is in the
 -- log, and no message of a sound station is refused by a sound station. Assumes nothing.
-use Prim.Native.Nat.{ℕ, zero, suc, _+_, _*_, _≤_, _<_, _^_}
-use native.Mathlib.Omega.{arith}
-use mathlib.Core.Path.{_≡_, subst, subst₂, refl, sym, ap, ap₂, _∙_}
+use Prim.Native.Nat.{ℕ, suc, _+_, _*_, _<_, _^_}
+use mathlib.Core.Path.{_≡_, subst, subst₂, refl, sym, ap, _∙_}
 use mathlib.Core.Bool.{true, false}
 use mathlib.Core.List.{List, IsPrefix}
 use mathlib.Core.Logic.{inl, inr}

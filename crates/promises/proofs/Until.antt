@@ -14,7 +14,6 @@ use Rattle.agreement.specs.Schedule.{Event, commonTick, given, until, HasRoom, 
 use Rattle.agreement.proofs.Alike.{premises-alike}
 use Rattle.agreement.proofs.Until.{until-before, schedule-until}
 use Rattle.store.specs.Decode.{names, stateOf}
-use Rattle.fresh.specs.Fresh.{freshly}
 use Rattle.promises.specs.Heard.{heard}
 use Rattle.promises.specs.Run.{calls, written, storeAt, saidAt, wroteBy, callsRun, Lends}
 use Rattle.promises.proofs.Promises.{same-states, same-words, to-calls, stores-run, stores-agree, stores-linked, stores-reported, store-commits, store-takes}

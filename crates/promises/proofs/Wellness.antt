@@ -12,7 +12,7 @@ use Rattle.rules.specs.WellFormed.{wellFormed}
 use Rattle.laws.proofs.Bytes.{Bytes}
 use Rattle.fields.specs.Places as places
 use Rattle.kept.proofs.Calls.{step-whole, offer-whole, tick-whole}
-use Rattle.store.specs.Decode.{decode, encode}
+use Rattle.store.specs.Decode.{decode}
 use Rattle.oneform.proofs.Held.{decoded-bytes}
 use Rattle.oneform.proofs.OneForm.{encoded}
 use Rattle.calls.specs.Calls.{called, stepCalled, tickCalled}

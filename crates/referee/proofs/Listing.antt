@@ -1,14 +1,14 @@
 -- A list that holds some inputs: that it has its length and its form, that it gives those inputs back, that a fresh list holds none
 -- and a list with one input more holds that one more. Assumes nothing.
-use Prim.Native.Nat.{ℕ, zero, suc, _+_, _-_, _*_, _/_, _%_, _^_, _<_, _≤_}
-use mathlib.Core.Path.{_≡_, refl, sym, ap, ap₂, _∙_, subst}
+use Prim.Native.Nat.{ℕ, zero, suc, _+_, _-_, _*_, _^_, _<_, _≤_}
+use mathlib.Core.Path.{_≡_, refl, sym, ap, ap₂, _∙_}
 use mathlib.Core.Bool.{Bool, true, false, _&&_}
 use mathlib.Core.List.{List, [], _∷_, _++_, append-nil}
 use native.Mathlib.Omega.{arith}
 use native.Mathlib.Nat.{add-zero, zero-add}
-use lib.ListN.{length, take, drop, getD, replicate, length-append, length-replicate, length-drop}
-use lib.Seq.{length-take-le, take-at, drop-at}
-use lib.Dec.{leb, ltb, eqb, lit<, lit≤}
+use lib.ListN.{length, take, getD, replicate, length-append, length-replicate, length-drop}
+use lib.Seq.{length-take-le, drop-at}
+use lib.Dec.{lit≤}
 use borrow.Author.Tests.{eq-eqb, leb-true, leb-false, le-leb, lt-ltb}
 use Rattle.rules.specs.Limits.{small}
 use Rattle.rules.specs.Lists.{unbe}
@@ -20,12 +20,12 @@ use Rattle.fields.specs.Places.{number, put}
 use Rattle.fields.proofs.Laws.{length-put, number-put-before, number-put-after, number-put-same}
 use Rattle.fields.proofs.Lists.{number-drop, number-take, number-piece, number-append-left, number-append-right}
 use Rattle.wire.proofs.Reading.{be-number}
-use Rattle.slots.specs.Slots.{slotLength, isInput, recordBytes, isBlank, judged, Slot, blank, torn, bad, whole}
+use Rattle.slots.specs.Slots.{slotLength, isInput, recordBytes, isBlank, judged, Slot, blank, whole}
 use Rattle.slots.proofs.Inputs.{input-fits}
 use Rattle.slots.proofs.Records.{length-record}
 use Rattle.slot_reader.proofs.OneForm.{judged-blank, reads-back}
 use Rattle.journal.specs.Journal.{slotCount, slotAt, withSlot, slotsFrom, slotsOf}
-use Rattle.journal.proofs.Places.{length-with, count-with, slot-here, slot-before, slot-behind, slots-same, slots-split}
+use Rattle.journal.proofs.Places.{length-with, slot-here, slot-before, slot-behind, slots-same, slots-split}
 use Rattle.lent_list.specs.Lists.{Input, tick, offer, message, kindOf, bytesOf, inputOf, headLength, mostSlots, recordsIn, slotsIn, hasLength, settingsIn, countIn, isPlaced, arePlaced, hasForm, inputsIn, inputsOf, freshList, isFull, added}
 use Rattle.lent_list.proofs.Lengths.{lengths}
 use Rattle.lent_list.proofs.Made.{settings-fit}

@@ -1,15 +1,14 @@
 -- 02, request 13: the plain engine "gives the same answers, output and log as the working station on every sequence that its lent
 -- list can hold", call by call from fresh. Stated of the exported calls: a list against a store. Assumes nothing.
 use Prim.Native.Nat.{ℕ, zero, suc, _*_, _/_, _^_, _<_, _≤_}
-use mathlib.Core.Path.{_≡_, refl, sym, ap, ap₂, _∙_, subst}
-use mathlib.Core.Bool.{Bool, true, false, _&&_}
+use mathlib.Core.Path.{_≡_, refl, sym, ap, _∙_, subst}
+use mathlib.Core.Bool.{Bool, true, false}
 use mathlib.Core.List.{List, [], _∷_, _++_}
 use mathlib.Core.Logic.{⊎-elim}
 use mathlib.Core.Option.{Option, none, some}
 use native.Mathlib.Omega.{arith}
 use native.Mathlib.Nat.{eq-or-lt-of-le}
 use lib.ListN.{length, length-append}
-use lib.Dec.{leb, eqb}
 use borrow.Author.Tests.{eq-eqb, le-leb}
 use Rattle.rules.specs.Limits.{Size, small, leastOut}
 use Rattle.rules.specs.Sizes.{Settings, goodSettings}
@@ -17,7 +16,7 @@ use Rattle.rules.specs.Words.{State, fresh}
 use Rattle.laws.proofs.Bytes.{Bytes}
 use Rattle.laws.proofs.Tests.{by-bool, no-bool}
 use Rattle.kept.proofs.WellFormed.{whole, fresh-formed}
-use Rattle.store.specs.Layout.{storeLength, sizeIn}
+use Rattle.store.specs.Layout.{storeLength}
 use Rattle.store.specs.Decode.{stateOf, encode}
 use Rattle.fresh.specs.Fresh.{freshly, answer}
 use Rattle.store.proofs.Forms.{sized}

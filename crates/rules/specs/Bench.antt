@@ -1,7 +1,7 @@
 -- 01, 'Examples on the bench': those marked (P), one for each of the 'Slips we have seen proposed', and the corners of
 -- every other clause, evaluated together under a single claim. Assumes nothing.
 use mathlib.Core.Path.{_≡_, refl}
-use Prim.Native.Nat.{ℕ, suc}
+use Prim.Native.Nat.{suc}
 use mathlib.Core.Bool.{Bool}
 use mathlib.Core.List.{List, [], _∷_, _++_}
 use lib.ListN.{length, take}

@@ -8,10 +8,10 @@ use lib.Dec.{eqb}
 use Rattle.rules.specs.Limits.{lastClock, small, large, mostStatements, mostTallies, mostOpened, lastViewSmall, lastViewLarge, mostStatementsSmall}
 use Rattle.rules.specs.Lists.{unbe, all}
 use Rattle.rules.specs.Sizes.{Settings}
-use Rattle.rules.specs.Messages.{Message, newView, propose, vote, blame, blameSet, status, write, read, allowed, Effect, toAll, toOne, committed, effect}
+use Rattle.rules.specs.Messages.{Message, newView, propose, vote, blame, blameSet, status, write, allowed, toAll, toOne, committed, effect}
 use Rattle.rules.specs.Words.{Statement, conflict, Tally, openedBy, certificateOf, reachedAt, opened, genesis, voters, reachedOf, Phase, inView, waiting, stopped, full, State, fresh}
-use Rattle.rules.specs.Inputs.{withPhase, withClock, withTables, withBlames, withLog, entering}
-use Rattle.rules.specs.Refusals.{Outcome, step, tick, result}
+use Rattle.rules.specs.Inputs.{withPhase, withClock, withTables, entering}
+use Rattle.rules.specs.Refusals.{step, tick, result}
 use Rattle.rules.specs.WellFormed.{wellFormed}
 use Rattle.rules.specs.Script.{Line, Expected, _⇒_, idle, holds, ticks, hears, hearsBytes, isOffered, bytes, says, refuses, sameList, goes, made, group, station, block, other, child}
 

@@ -7,9 +7,9 @@ use lib.ListN.{length, drop, getD, set}
 use lib.Dec.{leb, ltb, eqb}
 use Rattle.rules.specs.Limits.{lastView, lastHeight}
 use Rattle.rules.specs.Lists.{first, any, keep, alter, sorted}
-use Rattle.rules.specs.Sizes.{Settings, leader, only, holds, joined, quorum}
+use Rattle.rules.specs.Sizes.{leader, only, holds, joined, quorum}
 use Rattle.rules.specs.Messages.{Message, newView, propose, vote, blame, blameSet, status, Effect, toAll, toOne, committed}
-use Rattle.rules.specs.Words.{Statement, message, sameStatement, conflict, Certificate, Opener, Tally, ownBlock, certificate, sameBlock, join, joinCertificate, voters, below, highest, Phase, inView, waiting, stopped, State, moment}
+use Rattle.rules.specs.Words.{Statement, message, sameStatement, conflict, Certificate, Opener, Tally, ownBlock, certificate, join, joinCertificate, voters, below, highest, Phase, inView, waiting, stopped, State, moment}
 
 -- a state on the way, and what was said so far
 pub record Work : Type 0 where

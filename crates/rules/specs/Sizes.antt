@@ -1,7 +1,7 @@
 -- 01, 'Sizes of a group': settings and when they are good, the leader, the quorum, masks. Assumes nothing.
-use Prim.Native.Nat.{ℕ, suc, _+_, _/_, _%_, _^_}
+use Prim.Native.Nat.{ℕ, _/_, _%_, _^_}
 use mathlib.Core.Bool.{Bool, _&&_}
-use lib.Dec.{leb, ltb, eqb}
+use lib.Dec.{ltb, eqb}
 use lib.Bits.{bitOr}
 use lib.Count.{onesIn}
 use Rattle.rules.specs.Limits.{Size, leastStations, mostStations, leastDelay, mostDelay, maskBits}

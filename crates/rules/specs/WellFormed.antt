@@ -1,5 +1,5 @@
 -- 01, 'When the desk says no': which states a station can be in. The parts are numbered as docs/STORE.md lists them. Assumes nothing.
-use Prim.Native.Nat.{ℕ, zero, suc, _+_, _^_}
+use Prim.Native.Nat.{ℕ, zero, suc, _^_}
 use mathlib.Core.Bool.{Bool, true, false, not, _&&_, _||_}
 use mathlib.Core.List.{List, [], _∷_}
 use mathlib.Core.Option.{Option, none, some}
@@ -9,7 +9,7 @@ use Rattle.rules.specs.Limits.{lastView, mostStatements, mostTallies, mo
 use Rattle.rules.specs.Lists.{any, all, distinct, within}
 use Rattle.rules.specs.Sizes.{Settings, goodSettings, holds, quorum}
 use Rattle.rules.specs.Messages.{viewAllowed, blockAllowed, certificateAllowed, allowed}
-use Rattle.rules.specs.Words.{Statement, message, sameStatement, Opener, Tally, certificateOf, openedBy, ownBlock, certificate, sameBlock, Phase, inView, waiting, stopped, State}
+use Rattle.rules.specs.Words.{Statement, message, sameStatement, Opener, Tally, certificateOf, openedBy, ownBlock, certificate, sameBlock, inView, waiting, stopped, State}
 use Rattle.rules.specs.Inputs.{isBlock}
 
 -- a name is 32 bytes; a mask has no bit at n or above

@@ -1,10 +1,10 @@
 -- "The checker must accept it": the slip that is written of any logged block, out of any well-formed store, is accepted, and its
 -- entries are the chain of the log. Assumes nothing.
-use Prim.Native.Nat.{ℕ, zero, suc, _+_, _-_, _*_, _%_, _^_, _<_, _≤_}
+use Prim.Native.Nat.{ℕ, zero, suc, _+_, _-_, _%_, _^_, _<_, _≤_}
 use mathlib.Core.Path.{_≡_, refl, sym, ap, ap₂, subst, _∙_}
 use mathlib.Core.Bool.{Bool, true, false, not, _&&_}
-use mathlib.Core.List.{List, [], _∷_, _++_, map}
-use mathlib.Core.Option.{Option, none, some, Option·some-injective}
+use mathlib.Core.List.{List, [], _∷_, map}
+use mathlib.Core.Option.{Option, some, Option·some-injective}
 use native.Mathlib.Omega.{arith}
 use native.Mathlib.Nat.{add-zero, zero-add}
 use lib.ListN.{length, getD}
@@ -17,9 +17,8 @@ use Rattle.rules.specs.Sizes.{Settings, goodSettings, leader, quorum}
 use Rattle.rules.specs.Words.{Statement, message, State}
 use Rattle.rules.specs.WellFormed.{isName, statementGood, linked, wellFormed}
 use Rattle.laws.proofs.Allowed.{sizes, le-within, name-lt}
-use Rattle.laws.proofs.Searches.{first-any, first-none, first-mem}
+use Rattle.laws.proofs.Searches.{first-none}
 use Rattle.laws.proofs.Tests.{by-bool, by-option, no-bool, no-some, and-left, and-right}
-use Rattle.laws.proofs.Truths.{and-2}
 use Rattle.kept.specs.Parts.{WellFormed}
 use Rattle.kept.proofs.WellFormed.{parts}
 use Rattle.kept.proofs.Logs.{linked-cons}

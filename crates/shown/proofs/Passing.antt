@@ -1,19 +1,19 @@
 -- "Such a slip always passes": the bytes of a slip of a name are accepted, with the number of its entries. Assumes nothing.
-use Prim.Native.Nat.{ℕ, zero, suc, _+_, _-_, _*_, _^_, _<_, _≤_}
-use mathlib.Core.Path.{_≡_, refl, sym, ap, ap₂, subst, _∙_}
-use mathlib.Core.Bool.{Bool, true, false, not, _&&_}
-use mathlib.Core.List.{List, [], _∷_, _++_, append-assoc, append-nil}
-use mathlib.Core.Option.{Option, none, some}
+use Prim.Native.Nat.{ℕ, suc, _+_, _-_, _^_, _<_}
+use mathlib.Core.Path.{_≡_, refl, sym, ap, ap₂, _∙_}
+use mathlib.Core.Bool.{true, false, not, _&&_}
+use mathlib.Core.List.{List, [], _∷_, _++_, append-assoc}
+use mathlib.Core.Option.{none, some}
 use native.Mathlib.Omega.{arith}
 use native.Mathlib.Nat.{add-zero, zero-add}
 use lib.ListN.{length, take, drop, length-append}
-use lib.Seq.{take-at, drop-append-add, drop-append-seam}
-use lib.Dec.{eqb, leb}
-use borrow.Author.Tests.{eqb-true, eq-eqb, le-leb, not-true}
+use lib.Seq.{take-at, drop-append-add}
+use lib.Dec.{eqb}
+use borrow.Author.Tests.{eqb-true, eq-eqb, not-true}
 use Rattle.fields.specs.Places.{number}
 use Rattle.fields.proofs.Lists.{number-append-right, number-append-left}
-use Rattle.rules.specs.Lists.{be, unbe}
-use Rattle.rules.specs.Messages.{Message, propose, field, width, write, Fitting, read, allowed, size}
+use Rattle.rules.specs.Lists.{unbe}
+use Rattle.rules.specs.Messages.{propose, field, write, Fitting, read, allowed, size}
 use Rattle.rules.specs.Sizes.{Settings, goodSettings}
 use Rattle.rules.specs.Words.{Statement, message}
 use Rattle.laws.proofs.Allowed.{sizes}
@@ -25,7 +25,7 @@ use Rattle.wire.specs.Fields.{head, isField}
 use Rattle.wire.proofs.Reading.{field-test, be-number}
 use Rattle.laws.proofs.Lengths.{length-write, length-field}
 use Rattle.slip_entries.specs.Entries.{entryBytes, proposeOf, proposeIn, entryAt, parentIn}
-use Rattle.slip.specs.Slips.{isEntry, certifies, follows, isChain, isSlip, entriesBytes, slipBytes, nameEnd, entryPlace, Verdict, accepted, judgeFrom, topHeight, judged}
+use Rattle.slip.specs.Slips.{isEntry, certifies, follows, isChain, isSlip, entriesBytes, slipBytes, entryPlace, accepted, judgeFrom, topHeight, judged}
 use Rattle.slip_entries.proofs.Parents.{parent-here}
 use Rattle.slip.proofs.Judging.{top-here}
 

@@ -1,35 +1,34 @@
 -- What an accepted slip shows: its bytes are those of a slip of its name, a chain from genesis with a certificate for each entry
 -- below the top; and a slip has one form. Assumes nothing.
-use Prim.Native.Nat.{ℕ, zero, suc, _+_, _-_, _*_, _^_, _<_, _≤_}
+use Prim.Native.Nat.{ℕ, zero, suc, _+_, _-_, _≤_}
 use mathlib.Core.Path.{_≡_, refl, sym, ap, ap₂, _∙_}
-use mathlib.Core.Bool.{Bool, true, false, not, _&&_}
-use mathlib.Core.List.{List, [], _∷_, _++_, append-assoc, map}
-use mathlib.Core.Option.{Option, none, some, Option·some-injective}
+use mathlib.Core.Bool.{Bool, true, false}
+use mathlib.Core.List.{List, [], _∷_, _++_}
+use mathlib.Core.Option.{some}
 use native.Mathlib.Omega.{arith}
 use native.Mathlib.Nat.{zero-add}
-use lib.ListN.{length, take, drop, length-append, take-append-drop}
-use lib.Seq.{drop-drop, drop-length, drop-append-seam}
+use lib.ListN.{length, take, drop, take-append-drop}
+use lib.Seq.{drop-drop, drop-length}
 use lib.Dec.{eqb, leb}
 use borrow.Author.Tests.{eqb-true, eq-eqb}
 use Rattle.fields.specs.Places.{number, Bytes}
 use Rattle.fields.proofs.Lists.{bytes-take, bytes-drop}
 use Rattle.rules.specs.Lists.{unbe}
-use Rattle.rules.specs.Messages.{Message, propose, field, write, read, allowed}
-use Rattle.rules.specs.Sizes.{Settings, goodSettings, quorum}
-use Rattle.rules.specs.Words.{Statement, message, Certificate, certificate, sameBlock}
+use Rattle.rules.specs.Messages.{propose, field, write}
+use Rattle.rules.specs.Sizes.{Settings, quorum}
+use Rattle.rules.specs.Words.{Statement, message, certificate, sameBlock}
 use Rattle.laws.proofs.Allowed.{allowed-rights, mask-parts, genesis-zero}
 use Rattle.laws.proofs.Bytes.{length-unbe}
 use Rattle.laws.proofs.ReadBack.{write-read}
 use Rattle.laws.proofs.Tests.{by-bool, by-option, no-bool, and-left, and-right, eqb-self}
 use Rattle.wire.specs.Fields.{head, isField}
 use Rattle.wire.proofs.Reading.{field-room}
-use Rattle.laws.proofs.Lengths.{length-field}
 use Rattle.slip_entries.specs.Entries.{entryBytes, entryAt, parentIn}
 use Rattle.slip.specs.Slips.{isEntry, certifies, follows, isChain, isSlip, entriesBytes, slipBytes, nameEnd, entryPlace, Verdict, accepted, refused, judgeFrom, topHeight, judged}
 use Rattle.slip_entries.proofs.Reading.{bytes-all, piece, propose-read, entry-framed, entry-room}
-use Rattle.slip_entries.proofs.Parents.{Leads, leads}
-use Rattle.slip.proofs.Judging.{countOf, top-here, top-unread}
-use Rattle.shown.proofs.Passing.{Named, bare, message-is, shape, length-entry, entries-cons, slip-cons, entry-parts, entry-back, fits, chain-entry, chain-last, chain-next}
+use Rattle.slip_entries.proofs.Parents.{leads}
+use Rattle.slip.proofs.Judging.{countOf, top-unread}
+use Rattle.shown.proofs.Passing.{message-is, shape, slip-cons, entry-parts, chain-entry, chain-last, chain-next}
 
 isAccepted : Verdict → Bool
 isAccepted (accepted k) = true

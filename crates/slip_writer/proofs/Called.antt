@@ -1,8 +1,8 @@
 -- The call by its cases: refused for the lengths, refused for the store, a name that isn't logged, or its slip. Assumes nothing.
 use Prim.Native.Nat.{ℕ, suc, _+_, _*_, _^_, _≤_, _<_}
-use mathlib.Core.Path.{_≡_, refl, sym, ap, ap₂, _∙_}
+use mathlib.Core.Path.{_≡_, refl, sym, ap, _∙_}
 use mathlib.Core.Bool.{Bool, true, false, not, _&&_, and-false}
-use mathlib.Core.List.{List, []}
+use mathlib.Core.List.{List}
 use mathlib.Core.Option.{Option, none, some}
 use native.Mathlib.Omega.{arith}
 use native.Mathlib.Nat.{zero-add}
@@ -12,13 +12,12 @@ use borrow.Author.Tests.{eqb-true, eq-eqb, ne-eqb, le-leb, lt-leb, not-true, not
 use Rattle.rules.specs.Limits.{leastOut}
 use Rattle.rules.specs.Lists.{be}
 use Rattle.rules.specs.WellFormed.{wellFormed}
-use Rattle.rules.specs.Words.{State}
 use Rattle.laws.proofs.Tests.{and-left}
 use Rattle.fields.specs.Places.{number, Bytes}
 use Rattle.wire.proofs.Reading.{be-number}
 use Rattle.outgoing.specs.Wrote.{Says}
 use Rattle.outgoing.proofs.Writing.{wrote-prefix}
-use Rattle.store.specs.Layout.{storeLength, sizeIn, logTable, countOf}
+use Rattle.store.specs.Layout.{storeLength, sizeIn}
 use Rattle.store.specs.Decode.{statements, names, stateFrom, stateOf, hasForm, Form}
 use Rattle.store.specs.Searches.{firstFrom}
 use Rattle.store.specs.declared.Found.{Found}

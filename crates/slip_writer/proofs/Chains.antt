@@ -23,9 +23,9 @@ use Rattle.wire.specs.Meaning.{statementOf}
 use Rattle.wire.specs.declared.Statement as code
 use Rattle.outgoing.specs.Wrote.{Says}
 use Rattle.laws.proofs.Lengths.{length-field, length-write}
-use Rattle.outgoing.proofs.Writing.{says-none, says-both, says-length, put-says, field-says}
+use Rattle.outgoing.proofs.Writing.{says-none, says-both, put-says, field-says}
 use Rattle.store.specs.Layout.{statementTable, logTable, countOf}
-use Rattle.store.specs.Decode.{rows, statementAt, nameAt, statements, names}
+use Rattle.store.specs.Decode.{statementAt, nameAt, statements, names}
 use Rattle.store.specs.Searches.{pick, firstFrom}
 use Rattle.store.specs.declared.Found.{Found}
 use Rattle.store.specs.declared.Found.the-variants.{At, Nothing}

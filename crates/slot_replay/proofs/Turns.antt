@@ -17,7 +17,7 @@ use Rattle.fields.specs.Places.{put}
 use Rattle.outgoing.specs.Wrote.{wrote}
 use Rattle.outgoing.proofs.Writing.{wrote-append, put-wrote}
 use Rattle.slots.specs.Slots as slots
-use Rattle.slots.specs.Slots.{slotLength, mostInput, judged, torn, whole}
+use Rattle.slots.specs.Slots.{slotLength, mostInput, judged, torn}
 use Rattle.slot_reader.specs.Meaning.{inputPlace, slotOf, Within}
 use Rattle.slot_reader.specs.declared.Slot.{Slot}
 use Rattle.slot_reader.specs.declared.Slot.the-variants.{Blank, Torn, Bad, Whole}

@@ -144,13 +144,23 @@ module _ (b : List ℕ) (bytes : Bytes b) (i : ℕ) (s : Station) where
   pub bad-vote : vote ≡ false → false ≡ good
   bad-vote q = either (λ said. ap (λ (x : Bool). x && said) (lost (viewAllowed g view && block && led) vote q))
 
+  -- the tests of both kinds alike, passed
+  pub record Passed : Type 0 where
+    pub view-good : viewAllowed g view ≡ true
+    pub block-good : block ≡ true
+    pub leader-good : led ≡ true
+    pub vote-good : vote ≡ true
+
   -- and where the rest is good it is as good as what it says
-  module _ (v : viewAllowed g view ≡ true) (k : block ≡ true) (l : led ≡ true) (o : vote ≡ true) where
+  module _ (p : Passed) where
+    as-said : (said : Bool) → said ≡ (viewAllowed g view && block && led && vote && said)
+    as-said said = kept (viewAllowed g view) block led vote said (p .view-good) (p .block-good) (p .leader-good) (p .vote-good)
+
     pub as-new-view : kindAt b i ≡ 1 → newViewSaid g b to ≡ good
-    as-new-view e = kept (viewAllowed g view) block led vote (newViewSaid g b to) v k l o ∙ new-view-is e
+    as-new-view e = as-said (newViewSaid g b to) ∙ new-view-is e
 
     pub as-propose : (kindAt b i ≡ 1 → ⊥) → proposeSaid g b to ≡ good
-    as-propose d = kept (viewAllowed g view) block led vote (proposeSaid g b to) v k l o ∙ propose-is d
+    as-propose d = as-said (proposeSaid g b to) ∙ propose-is d
 
 pub good-certifies : (s : words.State) (x : words.Statement) → statementGood s x ≡ true → Certifies x
 unfolding statementGood message

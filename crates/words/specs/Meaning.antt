@@ -1,5 +1,5 @@
 -- What the code's certificate means in the words of the rules, and when a statement's numbers fit it. Assumes nothing.
-use Prim.Native.Nat.{ℕ, _^_, _<_}
+use Prim.Native.Nat.{_^_, _<_}
 use mathlib.Core.Path.{_≡_}
 use mathlib.Core.Bool.{Bool, true, false, _&&_}
 use Rattle.rules.specs.Words as words

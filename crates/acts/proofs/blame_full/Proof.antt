@@ -29,7 +29,8 @@ quorum-requires c κs = search needs
 
 returns : tie.Need-returns
 returns c =
-    c .quorum .ensures ∙ ap (quorum (settingsOf (c .before .before .before .load .result .settings))) (c .before .blame-at .ensures) ∙ blame-quorum (c .before .before .before .load .result) (c .before .before .before .before .before .args .store .now) (c .before .before .before .load .ensures) (c .before .before .before .before .before .args .view) (c .before .before .before .before .before .pre .1)
+    let start = c .before .before .before .before .before in let args = start .args in let pre = start .pre in let load = c .before .before .before .load in
+    c .quorum .ensures ∙ ap (quorum (settingsOf (load .result .settings))) (c .before .blame-at .ensures) ∙ blame-quorum (load .result) (args .store .now) (load .ensures) (args .view) (pre .1)
 
 pub blame-full-spec : {M : Type 1} → statement M
 blame-full-spec =

@@ -23,22 +23,29 @@ same-length c = search needs
 
 returns : tie.Need-returns
 returns c =
-    goes-on-outside (stateOf (c .before .before .before .before .before .before .before .before .before .args .store .now)) (c .before .before .before .before .before .before .before .before .before .args .view) (c .before .before .before .before .before .before .before .before .before .args .mask) (c .before .before .before .before .before .join-blame .ensures) (c .before .before .before .before .before .before .before .before .before .args .out .now) (c .before .before .before .before .before .before .before .before .before .args .at) (sym (c .before .is-in .ensures) ∙ not-true _ (c .if1 .taken))
+    let args = c .before .before .before .before .before .before .before .before .before .args in let join-blame = c .before .before .before .before .before .join-blame in
+    goes-on-outside (stateOf (args .store .now)) (args .view) (args .mask) (join-blame .ensures) (args .out .now) (args .at) (sym (c .before .is-in .ensures) ∙ not-true _ (c .if1 .taken))
 
 blame-full-requires : tie.Need-blame-full-requires
 blame-full-requires c κs =
-    (c .before .before .before .before .before .before .join-blame .ensures .form, view-blamed _ (c .before .before .before .before .before .before .before .before .before .before .args .view) (c .before .before .before .before .before .before .before .before .before .before .args .mask) (c .before .before .before .before .before .before .join-blame .ensures) (c .before .before .before .before .before .before .before .before .before .before .pre .1))
+    let start = c .before .before .before .before .before .before .before .before .before .before in let args = start .args in let pre = start .pre in
+    let join-blame = c .before .before .before .before .before .before .join-blame in
+    (join-blame .ensures .form, view-blamed _ (args .view) (args .mask) (join-blame .ensures) (pre .1))
 
 same-length-2 : tie.Need-same-length-2
 same-length-2 c = search needs
 
 returns-2 : tie.Need-returns-2
 returns-2 c =
-    goes-on-with-few (stateOf (c .before .before .before .before .before .before .before .before .before .before .before .before .args .store .now)) (c .before .before .before .before .before .before .before .before .before .before .before .before .args .view) (c .before .before .before .before .before .before .before .before .before .before .before .before .args .mask) (c .before .before .before .before .before .before .before .before .join-blame .ensures) (c .before .before .before .before .before .before .before .before .before .before .before .before .args .out .now) (c .before .before .before .before .before .before .before .before .before .before .before .before .args .at) (sym (c .before .blame-full .ensures) ∙ not-true _ (c .if2 .taken))
+    let args = c .before .before .before .before .before .before .before .before .before .before .before .before .args in
+    let join-blame = c .before .before .before .before .before .before .before .before .join-blame in
+    goes-on-with-few (stateOf (args .store .now)) (args .view) (args .mask) (join-blame .ensures) (args .out .now) (args .at) (sym (c .before .blame-full .ensures) ∙ not-true _ (c .if2 .taken))
 
 quit-with-set-requires : tie.Need-quit-with-set-requires
 quit-with-set-requires c κs =
-    (left-formed (c .before .before .before .before .before .before .before .before .before .before .join-blame .ensures) (blamed-formed (formed-parts (c .before .before .before .before .before .before .before .before .before .before .before .before .before .before .pre .0) .formed) (c .before .before .before .before .before .before .before .before .before .before .before .before .before .before .args .view) (c .before .before .before .before .before .before .before .before .before .before .before .before .before .before .args .mask) (c .before .before .before .before .before .before .before .before .before .before .before .before .before .before .pre .1) (c .before .before .before .before .before .before .before .before .before .before .before .before .before .before .pre .2)), view-blamed _ (c .before .before .before .before .before .before .before .before .before .before .before .before .before .before .args .view) (c .before .before .before .before .before .before .before .before .before .before .before .before .before .before .args .mask) (c .before .before .before .before .before .before .before .before .before .before .join-blame .ensures) (c .before .before .before .before .before .before .before .before .before .before .before .before .before .before .pre .1), c .before .before .before .before .before .before .before .before .before .before .before .before .before .before .pre .3)
+    let start = c .before .before .before .before .before .before .before .before .before .before .before .before .before .before in let args = start .args in
+    let pre = start .pre in let join-blame = c .before .before .before .before .before .before .before .before .before .before .join-blame in
+    (left-formed (join-blame .ensures) (blamed-formed (formed-parts (pre .0) .formed) (args .view) (args .mask) (pre .1) (pre .2)), view-blamed _ (args .view) (args .mask) (join-blame .ensures) (pre .1), pre .3)
 
 same-length-3 : tie.Need-same-length-3
 same-length-3 c = search needs
@@ -48,7 +55,13 @@ same-length-4 c = search needs
 
 returns-3 : tie.Need-returns-3
 returns-3 c =
-    quits-with-set (stateOf (c .before .before .before .before .before .before .before .before .before .before .before .before .before .before .before .before .before .before .before .args .store .now)) (c .before .before .before .before .before .before .before .before .before .before .before .before .before .before .before .before .before .before .before .args .view) (c .before .before .before .before .before .before .before .before .before .before .before .before .before .before .before .before .before .before .before .args .mask) (c .before .before .before .before .before .before .before .before .before .before .before .before .before .before .before .join-blame .ensures) (sym (c .before .before .before .before .before .before .before .before .before .before .before .is-in .ensures) ∙ not-false _ (c .before .before .before .before .before .before .before .before .before .before .if1 .left)) (sym (c .before .before .before .before .before .before .before .before .blame-full .ensures) ∙ not-false _ (c .before .before .before .before .before .before .before .if2 .left)) (c .before .before .before .before .quit-with-set .ensures)
+    let args = c .before .before .before .before .before .before .before .before .before .before .before .before .before .before .before .before .before .before .before .args in
+    let join-blame = c .before .before .before .before .before .before .before .before .before .before .before .before .before .before .before .join-blame in
+    let is-in = c .before .before .before .before .before .before .before .before .before .before .before .is-in in
+    let if1 = c .before .before .before .before .before .before .before .before .before .before .if1 in
+    let blame-full = c .before .before .before .before .before .before .before .before .blame-full in let if2 = c .before .before .before .before .before .before .before .if2 in
+    let quit-with-set = c .before .before .before .before .quit-with-set in
+    quits-with-set (stateOf (args .store .now)) (args .view) (args .mask) (join-blame .ensures) (sym (is-in .ensures) ∙ not-false _ (if1 .left)) (sym (blame-full .ensures) ∙ not-false _ (if2 .left)) (quit-with-set .ensures)
 
 pub blaming-spec : {M : Type 1} → statement M
 blaming-spec =

@@ -23,7 +23,8 @@ returns c =
 
 returns-2 : tie.Need-returns-2
 returns-2 c =
-    not-in-view (c .before .load .result) (c .before .before .before .args .store .now) (c .before .load .ensures) (c .before .before .before .args .view) (λ p. let z = ap (tagOf the-type) p in ⊎-elim (λ w. omega arith) (λ w. omega arith) (c .match .keys2))
+    let args = c .before .before .before .args in
+    not-in-view (c .before .load .result) (args .store .now) (c .before .load .ensures) (args .view) (λ p. let z = ap (tagOf the-type) p in ⊎-elim (λ w. omega arith) (λ w. omega arith) (c .match .keys2))
 
 pub is-in-spec : {M : Type 1} → statement M
 is-in-spec = tie.close (tie.spec load-requires enum-told returns returns-2)

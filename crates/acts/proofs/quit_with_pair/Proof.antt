@@ -17,7 +17,8 @@ quit-requires c κs = search needs
 send-both-requires : tie.Need-send-both-requires
 unfolding messageOf
 send-both-requires c κs =
-    (c .before .before .before .before .before .before .before .pre .1, c .before .before .before .before .before .before .before .pre .2, omega (arith, pair-bytes (statementOf (c .before .before .before .before .before .before .before .args .first) none) (statementOf (c .before .before .before .before .before .before .before .args .second) none), c .before .before .before .before .before .before .before .pre .3))
+    let start = c .before .before .before .before .before .before .before in let args = start .args in let pre = start .pre in
+    (pre .1, pre .2, omega (arith, pair-bytes (statementOf (args .first) none) (statementOf (args .second) none), pre .3))
 
 same-length : tie.Need-same-length
 same-length c = search needs
@@ -28,7 +29,8 @@ same-length-2 c = search needs
 returns : tie.Need-returns
 unfolding messageOf
 returns c =
-    works-quit (stateOf (c .before .before .before .before .before .before .before .before .before .before .args .store .now)) (toAll (message (statementOf (c .before .before .before .before .before .before .before .before .before .before .args .first) none)) ∷ toAll (message (statementOf (c .before .before .before .before .before .before .before .before .before .before .args .second) none)) ∷ []) (c .before .before .before .before .before .before .quit .ensures) (c .before .before .send-both .ensures)
+    let args = c .before .before .before .before .before .before .before .before .before .before .args in let quit = c .before .before .before .before .before .before .quit in
+    works-quit (stateOf (args .store .now)) (toAll (message (statementOf (args .first) none)) ∷ toAll (message (statementOf (args .second) none)) ∷ []) (quit .ensures) (c .before .before .send-both .ensures)
 
 pub quit-with-pair-spec : {M : Type 1} → statement M
 quit-with-pair-spec =

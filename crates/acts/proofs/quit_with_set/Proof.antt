@@ -28,7 +28,9 @@ quit-requires c κs = search needs
 to-all-requires : tie.Need-to-all-requires
 unfolding messageOf
 to-all-requires c κs =
-    (tt, omega (arith, set-bytes (c .before .before .before .before .before .before .before .before .before .args .view) (c .before .before .before .before .before .blame-at .result), c .before .before .before .before .before .before .before .before .before .pre .2))
+    let start = c .before .before .before .before .before .before .before .before .before in let args = start .args in let pre = start .pre in
+    let blame-at = c .before .before .before .before .before .blame-at in
+    (tt, omega (arith, set-bytes (args .view) (blame-at .result), pre .2))
 
 same-length : tie.Need-same-length
 same-length c = search needs

@@ -14,14 +14,16 @@ to-all-requires c κs =
 
 to-all-requires-2 : tie.Need-to-all-requires-2
 to-all-requires-2 c κs =
-    (c .before .before .before .before .before .before .pre .1, omega (arith, two-lengths (toAll (messageOf (c .before .before .before .before .before .before .args .first))) (toAll (messageOf (c .before .before .before .before .before .before .args .second))), c .before .before .before .before .before .before .pre .2, c .before .before .before .to-all .ensures .ends, says-length (c .before .before .before .to-all .ensures)))
+    let start = c .before .before .before .before .before .before in let args = start .args in let pre = start .pre in let to-all = c .before .before .before .to-all in
+    (pre .1, omega (arith, two-lengths (toAll (messageOf (args .first))) (toAll (messageOf (args .second))), pre .2, to-all .ensures .ends, says-length (to-all .ensures)))
 
 same-length : tie.Need-same-length
 same-length c = search needs
 
 returns : tie.Need-returns
 returns c =
-    says-two (toAll (messageOf (c .before .before .before .before .before .before .before .before .before .args .first))) (toAll (messageOf (c .before .before .before .before .before .before .before .before .before .args .second))) (c .before .before .before .before .before .before .to-all .ensures) (c .before .before .to-all2 .ensures)
+    let args = c .before .before .before .before .before .before .before .before .before .args in let to-all = c .before .before .before .before .before .before .to-all in
+    says-two (toAll (messageOf (args .first))) (toAll (messageOf (args .second))) (to-all .ensures) (c .before .before .to-all2 .ensures)
 
 pub send-both-spec : {M : Type 1} → statement M
 send-both-spec = tie.close (tie.spec to-all-requires to-all-requires-2 same-length returns)

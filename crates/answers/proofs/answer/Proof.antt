@@ -40,14 +40,19 @@ enum-known-i c = search needs
 
 statement-at-requires : tie.Need-statement-at-requires
 statement-at-requires c κs =
-    (form-long _ (c .before .before .before .before .before .before .before .before .before .before .before .pre .0 .form), omega (arith, conflict-within (c .before .before .before .before .before .before .before .before .before .before .before .args .store .now) (statementOf (c .before .before .before .before .before .before .before .before .before .before .before .args .x) none) (c .before .before .before .before .find-conflict .result) (c .before .before .before .before .find-conflict .ensures) _ (c .before .before .i .given .1), form-statements _ (c .before .before .before .before .before .before .before .before .before .before .before .pre .0 .form)))
+    let start = c .before .before .before .before .before .before .before .before .before .before .before in let args = start .args in let pre = start .pre in
+    let find-conflict = c .before .before .before .before .find-conflict in
+    (form-long _ (pre .0 .form), omega (arith, conflict-within (args .store .now) (statementOf (args .x) none) (find-conflict .result) (find-conflict .ensures) _ (c .before .before .i .given .1), form-statements _ (pre .0 .form)))
 
 quit-with-pair-requires : tie.Need-quit-with-pair-requires
 quit-with-pair-requires c κs =
-    let b = c .before .before .before .before .before .before .before .before .before .before .before .before .before .before .args .store .now in
+    let start = c .before .before .before .before .before .before .before .before .before .before .before .before .before .before in let args = start .args in
+    let pre = start .pre in let find-conflict = c .before .before .before .before .before .before .before .find-conflict in let i = c .before .before .before .before .before .i in
+    let statement-at = c .before .before .statement-at in
+    let b = args .store .now in
     let g = stateOf b .settings in
-    let w = conflict-within b (statementOf (c .before .before .before .before .before .before .before .before .before .before .before .before .before .before .args .x) none) (c .before .before .before .before .before .before .before .find-conflict .result) (c .before .before .before .before .before .before .before .find-conflict .ensures) _ (c .before .before .before .before .before .i .given .1) in
-    (c .before .before .before .before .before .before .before .before .before .before .before .before .before .before .pre .0, sendable-linked g (c .before .before .statement-at .result) (place-sendable (c .before .before .before .before .before .before .before .before .before .before .before .before .before .before .pre .0) (record { within = w; is = c .before .before .statement-at .ensures })), sendable-linked g (c .before .before .before .before .before .before .before .before .before .before .before .before .before .before .args .x) (place-sendable (c .before .before .before .before .before .before .before .before .before .before .before .before .before .before .pre .0) (c .before .before .before .before .before .before .before .before .before .before .before .before .before .before .pre .1)), c .before .before .before .before .before .before .before .before .before .before .before .before .before .before .pre .3)
+    let w = conflict-within b (statementOf (args .x) none) (find-conflict .result) (find-conflict .ensures) _ (i .given .1) in
+    (pre .0, sendable-linked g (statement-at .result) (place-sendable (pre .0) (record { within = w; is = statement-at .ensures })), sendable-linked g (args .x) (place-sendable (pre .0) (pre .1)), pre .3)
 
 enum-told : tie.Need-enum-told
 enum-told c = search needs
@@ -64,13 +69,20 @@ same-length-3 c = search needs
 returns-2 : tie.Need-returns-2
 unfolding statementOf
 returns-2 c =
-    let b = c .before .before .before .before .before .before .before .before .before .before .before .before .before .before .before .before .before .before .before .args .store .now in
-    let x = statementOf (c .before .before .before .before .before .before .before .before .before .before .before .before .before .before .before .before .before .before .before .args .x) none in
-    let w = conflict-within b x (c .before .before .before .before .before .before .before .before .before .before .before .before .find-conflict .result) (c .before .before .before .before .before .before .before .before .before .before .before .before .find-conflict .ensures) _ (c .before .before .before .before .before .before .before .before .before .before .i .given .1) in
-    let o = conflict-at b x (c .before .before .before .before .before .before .before .before .before .before .before .before .find-conflict .result) (c .before .before .before .before .before .before .before .before .before .before .before .before .find-conflict .ensures) _ (c .before .before .before .before .before .before .before .before .before .before .i .given .1) in
+    let start = c .before .before .before .before .before .before .before .before .before .before .before .before .before .before .before .before .before .before .before in
+    let args = start .args in let pre = start .pre in
+    let is-in = c .before .before .before .before .before .before .before .before .before .before .before .before .before .before .before .is-in in
+    let if1 = c .before .before .before .before .before .before .before .before .before .before .before .before .before .before .if1 in
+    let find-conflict = c .before .before .before .before .before .before .before .before .before .before .before .before .find-conflict in
+    let i = c .before .before .before .before .before .before .before .before .before .before .i in
+    let statement-at = c .before .before .before .before .before .before .before .statement-at in let quit-with-pair = c .before .before .before .before .quit-with-pair in
+    let b = args .store .now in
+    let x = statementOf (args .x) none in
+    let w = conflict-within b x (find-conflict .result) (find-conflict .ensures) _ (i .given .1) in
+    let o = conflict-at b x (find-conflict .result) (find-conflict .ensures) _ (i .given .1) in
     works-is
-    (ap (λ (m : Message). inputs.quit (toAll m ∷ toAll (message x) ∷ []) (stateOf b)) (place-message (c .before .before .before .before .before .before .before .before .before .before .before .before .before .before .before .before .before .before .before .pre .0) (record { within = w; is = c .before .before .before .before .before .before .before .statement-at .ensures }))
-    ∙ sym (answered-quits x (stateOf b) _ (sym (c .before .before .before .before .before .before .before .before .before .before .before .before .before .before .before .is-in .ensures) ∙ not-false _ (c .before .before .before .before .before .before .before .before .before .before .before .before .before .before .if1 .left)) o)) (c .before .before .before .before .quit-with-pair .ensures)
+    (ap (λ (m : Message). inputs.quit (toAll m ∷ toAll (message x) ∷ []) (stateOf b)) (place-message (pre .0) (record { within = w; is = statement-at .ensures }))
+    ∙ sym (answered-quits x (stateOf b) _ (sym (is-in .ensures) ∙ not-false _ (if1 .left)) o)) (quit-with-pair .ensures)
 
 same-length-4 : tie.Need-same-length-4
 same-length-4 c = search needs
@@ -81,9 +93,14 @@ same-length-5 c = search needs
 returns-3 : tie.Need-returns-3
 unfolding statementOf
 returns-3 c =
-    let b = c .before .before .before .before .before .before .before .before .before .before .before .before .before .before .before .before .args .store .now in
-    let x = statementOf (c .before .before .before .before .before .before .before .before .before .before .before .before .before .before .before .before .args .x) none in
-    works-is (sym (answered-votes x (stateOf b) (sym (c .before .before .before .before .before .before .before .before .before .before .before .before .is-in .ensures) ∙ not-false _ (c .before .before .before .before .before .before .before .before .before .before .before .if1 .left)) (conflict-none b x (c .before .before .before .before .before .before .before .before .before .find-conflict .result) (c .before .before .before .before .before .before .before .before .before .find-conflict .ensures) (c .before .before .before .before .before .before .before .enum-told .given .1)))) (c .before .before .before .before .voting .ensures)
+    let args = c .before .before .before .before .before .before .before .before .before .before .before .before .before .before .before .before .args in
+    let is-in = c .before .before .before .before .before .before .before .before .before .before .before .before .is-in in
+    let if1 = c .before .before .before .before .before .before .before .before .before .before .before .if1 in
+    let find-conflict = c .before .before .before .before .before .before .before .before .before .find-conflict in
+    let enum-told = c .before .before .before .before .before .before .before .enum-told in let voting = c .before .before .before .before .voting in
+    let b = args .store .now in
+    let x = statementOf (args .x) none in
+    works-is (sym (answered-votes x (stateOf b) (sym (is-in .ensures) ∙ not-false _ (if1 .left)) (conflict-none b x (find-conflict .result) (find-conflict .ensures) (enum-told .given .1)))) (voting .ensures)
 
 pub answer-spec : {M : Type 1} → statement M
 answer-spec =

@@ -45,17 +45,20 @@ load-requires c κs =
 
 store-new-requires : tie.Need-store-new-requires
 store-new-requires c κs =
+    let plan = c .before .before .before .before .plan in
     let start = c .before .before .before .before .before .before .before .before in
-    (start .pre .0 .form, start .pre .1, plan-tells (statementOf (start .args .x) none) (stateOf (start .args .store .now)) (New _ _) (sym (c .before .before .before .before .plan .given .1) ∙ start .pre .3), clocks-of (formed-parts (start .pre .0) .formed) .last)
+    (start .pre .0 .form, start .pre .1, plan-tells (statementOf (start .args .x) none) (stateOf (start .args .store .now)) (New _ _) (sym (plan .given .1) ∙ start .pre .3), clocks-of (formed-parts (start .pre .0) .formed) .last)
 
 answer-requires : tie.Need-answer-requires
 answer-requires c κs =
+    let plan = c .before .before .before .before .before .before .before .before .before .plan in
+    let load = c .before .before .before .before .before .before .load in
+    let store-new = c .before .before .before .before .store-new in
     let start = c .before .before .before .before .before .before .before .before .before .before .before .before .before in
     let b = start .args .store .now in
     let x = statementOf (start .args .x) none in
-    let new = plan-tells x (stateOf b) (New _ _) (sym (c .before .before .before .before .before .before .before .before .before .plan .given .1) ∙ start .pre .3) in
-    let load = c .before .before .before .before .before .before .load in
-    let stored = c .before .before .before .before .store-new .ensures in
+    let new = plan-tells x (stateOf b) (New _ _) (sym (plan .given .1) ∙ start .pre .3) in
+    let stored = store-new .ensures in
     (left-formed (stored .left) (stored-formed (formed-parts (start .pre .0) .formed) x (start .pre .1) (code-unvoted (start .args .x)) (new .isNew)), stored-stands b (start .args .x) (load .result .statements) (loaded-statements (load .result) b (load .ensures)) (stored .left), stored .place, start .pre .4)
 
 enum-told-2 : tie.Need-enum-told-2

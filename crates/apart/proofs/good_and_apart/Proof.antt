@@ -55,10 +55,11 @@ repeated-requires c κs =
 returns-2 : tie.Need-returns-2 Inv-loop μ-loop
 unfolding tallies
 returns-2 c =
-    let start = c .before .before .before .before .before .before .before .before .before in
     let loop = c .before .before .before .before .before .loop in
+    let loop-test = c .before .before .before .before .loop-test in
+    let start = c .before .before .before .before .before .before .before .before .before in
     let good = all (tallyGood (settingsOf (start .args .settings)) (start .args .clock)) (tallies (start .args .store .now)) in
-    let twice = distinct-not (tallyAt (start .args .store .now)) sameTally (loop .i - 1) _ _ (start .pre .0 .is) (omega (arith, loop .inv .0, c .before .before .before .before .loop-test .taken)) (sym (c .before .repeated .ensures .is) ∙ c .if2 .taken) in
+    let twice = distinct-not (tallyAt (start .args .store .now)) sameTally (loop .i - 1) _ _ (start .pre .0 .is) (omega (arith, loop .inv .0, loop-test .taken)) (sym (c .before .repeated .ensures .is) ∙ c .if2 .taken) in
     record { is = sym (ap (good &&_) twice ∙ and-false good); hang = λ e. no-bool (sym e) }
 
 loop-less : tie.Need-loop-less Inv-loop μ-loop

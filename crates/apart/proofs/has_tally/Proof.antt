@@ -1,3 +1,4 @@
+-- `apart::has_tally` meets its contract. Assumes nothing.
 use Rattle.apart.proofs.Hanging.{has-start, has-is}
 use Rattle.chains.specs.Chains.{chainOf}
 use Rattle.form.proofs.Forms.{few-tallies}
@@ -7,51 +8,43 @@ use mathlib.Core.Path.{ap, _∙_}
 use borrow.Author.Needs.{needs}
 use Rattle.apart.proofs.has_tally.Statement.{statement}
 use Rattle.apart.proofs.has_tally.Tie as tie
-use Rattle.apart.proofs.has_tally.Reads as reads
-use Rattle.apart.proofs.has_tally.Lts as lts
-use Rattle.chains.proofs.chain_of.Reads as chain-of-reads
-use Rattle.chains.proofs.walked.Reads as walked-reads
-use Rattle.store.proofs.tallies_in.Reads as tallies-in-reads
 
--- src/apart.rt:89:9
 tallies-in-requires : tie.Need-tallies-in-requires
 tallies-in-requires c κs = search needs
 
--- src/apart.rt:90:9
 chain-of-requires : tie.Need-chain-of-requires
 chain-of-requires c κs = search needs
 
--- src/apart.rt:91:16
 mul-left : tie.Need-mul-left
 mul-left c = search needs
 
--- src/apart.rt:91:16
 element-copy-out-left : tie.Need-element-copy-out-left
 element-copy-out-left c = search needs
 
--- src/apart.rt:91:16
 cast-left : tie.Need-cast-left
 cast-left c =
+    let shared-slice-known = c .before .before .before .shared-slice-known in
     let start = c .before .before .before .before in
     let q = c .before .chain-of .ensures .0 ∙ ap chainOf (start .pre .1 .mixes) in
-    let walk = has-start (start .args .store .now) (c .before .before .before .shared-slice-known .given) _ (c .before .before .tallies-in .ensures) (start .pre .1 .salt) (start .args .count) (start .pre .0 .is) (start .args .key) (start .args .at) (start .pre .1 .hang) _ q (c .before .chain-of .ensures .1) in
+    let walk = has-start (start .args .store .now) (shared-slice-known .given) _ (c .before .before .tallies-in .ensures) (start .pre .1 .salt) (start .args .count) (start .pre .0 .is) (start .args .key) (start .args .at) (start .pre .1 .hang) _ q (c .before .chain-of .ensures .1) in
     record { fits = omega (arith, walk .within, few-tallies (start .pre .0)) }
 
--- src/apart.rt:92:5
 walked-requires : tie.Need-walked-requires
 walked-requires c κs =
+    let shared-slice-known = c .before .before .before .shared-slice-known in let tallies-in = c .before .before .tallies-in in
     let start = c .before .before .before .before in
     let q = c .before .chain-of .ensures .0 ∙ ap chainOf (start .pre .1 .mixes) in
-    let walk = has-start (start .args .store .now) (c .before .before .before .shared-slice-known .given) _ (c .before .before .tallies-in .ensures) (start .pre .1 .salt) (start .args .count) (start .pre .0 .is) (start .args .key) (start .args .at) (start .pre .1 .hang) _ q (c .before .chain-of .ensures .1) in
+    let walk = has-start (start .args .store .now) (shared-slice-known .given) _ (tallies-in .ensures) (start .pre .1 .salt) (start .args .count) (start .pre .0 .is) (start .args .key) (start .args .at) (start .pre .1 .hang) _ q (c .before .chain-of .ensures .1) in
     let k = start .pre .0 in
-    (lit≤ tt, omega (arith, k .long, k .room, c .before .before .tallies-in .ensures), few-tallies k, start .pre .2, walk)
+    (lit≤ tt, omega (arith, k .long, k .room, tallies-in .ensures), few-tallies k, start .pre .2, walk)
 
--- src/apart.rt:77:1
 returns : tie.Need-returns
 returns c =
+    let shared-slice-known = c .before .before .before .before .shared-slice-known in let tallies-in = c .before .before .before .tallies-in in
+    let chain-of = c .before .before .chain-of in
     let start = c .before .before .before .before .before in
-    let q = c .before .before .chain-of .ensures .0 ∙ ap chainOf (start .pre .1 .mixes) in
-    let has = has-is (start .args .store .now) (c .before .before .before .before .shared-slice-known .given) _ (c .before .before .before .tallies-in .ensures) (start .pre .1 .salt) (start .args .count) (start .pre .0 .is) (start .args .key) (start .args .at) (start .pre .1 .hang) _ q (c .before .before .chain-of .ensures .1) in
+    let q = chain-of .ensures .0 ∙ ap chainOf (start .pre .1 .mixes) in
+    let has = has-is (start .args .store .now) (shared-slice-known .given) _ (tallies-in .ensures) (start .pre .1 .salt) (start .args .count) (start .pre .0 .is) (start .args .key) (start .args .at) (start .pre .1 .hang) _ q (chain-of .ensures .1) in
     has _ (c .walked .ensures)
 
 pub has-tally-spec : {M : Type 1} → statement M

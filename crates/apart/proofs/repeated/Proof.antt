@@ -33,17 +33,22 @@ add-has-block c = search needs
 
 has-block-requires : tie.Need-has-block-requires
 has-block-requires c κs =
+    let shared-slice-known = c .before .before .before .before .before .before .shared-slice-known in let tallies-in = c .before .before .before .before .before .tallies-in in
+    let get = c .before .before .before .before .get in let with-words = c .before .before .before .with-words in let chain-of = c .before .before .chain-of in
     let start = c .before .before .before .before .before .before .before in
-    let q = c .before .before .chain-of .ensures .0 ∙ ap chainOf (c .before .before .before .with-words .ensures) in
-    let walk = met-start (start .args .store .now) (c .before .before .before .before .before .before .shared-slice-known .given) _ (c .before .before .before .before .before .tallies-in .ensures) (start .args .salt) (start .args .count) (start .args .i) _ (c .before .before .before .before .get .ensures .0) (start .pre .2) (start .pre .1) _ q (c .before .before .chain-of .ensures .1) in
+    let q = chain-of .ensures .0 ∙ ap chainOf (with-words .ensures) in
+    let walk = met-start (start .args .store .now) (shared-slice-known .given) _ (tallies-in .ensures) (start .args .salt) (start .args .count) (start .args .i) _ (get .ensures .0) (start .pre .2) (start .pre .1) _ q (chain-of .ensures .1) in
     let k = start .pre .0 in
-    (c .before .before .chain-of .ensures .1, lit≤ tt, omega (arith, k .long, k .room, c .before .before .before .before .before .tallies-in .ensures), few-tallies k, omega (arith, k .long, k .room, start .pre .1, c .before .before .before .before .before .tallies-in .ensures), walk)
+    (chain-of .ensures .1, lit≤ tt, omega (arith, k .long, k .room, tallies-in .ensures), few-tallies k, omega (arith, k .long, k .room, start .pre .1, tallies-in .ensures), walk)
 
 returns : tie.Need-returns
 returns c =
+    let shared-slice-known = c .before .before .before .before .before .before .before .before .shared-slice-known in
+    let tallies-in = c .before .before .before .before .before .before .before .tallies-in in let get = c .before .before .before .before .before .before .get in
+    let with-words = c .before .before .before .before .before .with-words in let chain-of = c .before .before .before .before .chain-of in
     let start = c .before .before .before .before .before .before .before .before .before in
-    let q = c .before .before .before .before .chain-of .ensures .0 ∙ ap chainOf (c .before .before .before .before .before .with-words .ensures) in
-    let met = met-is (start .args .store .now) (c .before .before .before .before .before .before .before .before .shared-slice-known .given) _ (c .before .before .before .before .before .before .before .tallies-in .ensures) (start .args .salt) (start .args .count) (start .args .i) _ (c .before .before .before .before .before .before .get .ensures .0) (start .pre .2) (start .pre .1) _ q (c .before .before .before .before .chain-of .ensures .1) in
+    let q = chain-of .ensures .0 ∙ ap chainOf (with-words .ensures) in
+    let met = met-is (start .args .store .now) (shared-slice-known .given) _ (tallies-in .ensures) (start .args .salt) (start .args .count) (start .args .i) _ (get .ensures .0) (start .pre .2) (start .pre .1) _ q (chain-of .ensures .1) in
     record { is = sym (c .if1 .taken) ∙ c .before .has-block .ensures ∙ met; hangs = λ e. no-bool e }
 
 sub-hang : tie.Need-sub-hang
@@ -56,11 +61,17 @@ hang-requires c κs =
 
 returns-2 : tie.Need-returns-2
 returns-2 c =
+    let shared-slice-known = c .before .before .before .before .before .before .before .before .before .before .before .shared-slice-known in
+    let tallies-in = c .before .before .before .before .before .before .before .before .before .before .tallies-in in
+    let get = c .before .before .before .before .before .before .before .before .before .get in
+    let with-words = c .before .before .before .before .before .before .before .before .with-words in
+    let chain-of = c .before .before .before .before .before .before .before .chain-of in let has-block = c .before .before .before .before .has-block in
+    let if1 = c .before .before .before .if1 in
     let start = c .before .before .before .before .before .before .before .before .before .before .before .before in
-    let q = c .before .before .before .before .before .before .before .chain-of .ensures .0 ∙ ap chainOf (c .before .before .before .before .before .before .before .before .with-words .ensures) in
-    let met = met-is (start .args .store .now) (c .before .before .before .before .before .before .before .before .before .before .before .shared-slice-known .given) _ (c .before .before .before .before .before .before .before .before .before .before .tallies-in .ensures) (start .args .salt) (start .args .count) (start .args .i) _ (c .before .before .before .before .before .before .before .before .before .get .ensures .0) (start .pre .2) (start .pre .1) _ q (c .before .before .before .before .before .before .before .chain-of .ensures .1) in
-    let hangs = met-hangs (start .args .store .now) (c .before .before .before .before .before .before .before .before .before .before .before .shared-slice-known .given) _ (c .before .before .before .before .before .before .before .before .before .before .tallies-in .ensures) (start .args .salt) (start .args .count) (start .args .i) _ (c .before .before .before .before .before .before .before .before .before .get .ensures .0) (start .pre .2) (start .pre .1) _ q (c .before .before .before .before .before .before .before .chain-of .ensures .1) in
-    record { is = sym (c .before .before .before .if1 .left) ∙ c .before .before .before .before .has-block .ensures ∙ met; hangs = λ e. rw (c .hang .ensures .0, c .hang .ensures .1) (hangs (few-tallies (start .pre .0))) }
+    let q = chain-of .ensures .0 ∙ ap chainOf (with-words .ensures) in
+    let met = met-is (start .args .store .now) (shared-slice-known .given) _ (tallies-in .ensures) (start .args .salt) (start .args .count) (start .args .i) _ (get .ensures .0) (start .pre .2) (start .pre .1) _ q (chain-of .ensures .1) in
+    let hangs = met-hangs (start .args .store .now) (shared-slice-known .given) _ (tallies-in .ensures) (start .args .salt) (start .args .count) (start .args .i) _ (get .ensures .0) (start .pre .2) (start .pre .1) _ q (chain-of .ensures .1) in
+    record { is = sym (if1 .left) ∙ has-block .ensures ∙ met; hangs = λ e. rw (c .hang .ensures .0, c .hang .ensures .1) (hangs (few-tallies (start .pre .0))) }
 
 pub repeated-spec : {M : Type 1} → statement M
 repeated-spec =

@@ -35,7 +35,9 @@ add-result c = search needs
 
 returns : tie.Need-returns
 returns c =
-    new-key _ (c .before .before .before .before .shared-slice-known .given) _ (c .before .before .before .before .before .pre .2) (sym (c .before .before .before .kind-at .ensures) ∙ c .before .before .if1 .taken) _ _ (c .before .get .ensures .0) (c .height-at .ensures)
+    let pre = c .before .before .before .before .before .pre in let shared-slice-known = c .before .before .before .before .shared-slice-known in
+    let kind-at = c .before .before .before .kind-at in
+    new-key _ (shared-slice-known .given) _ (pre .2) (sym (kind-at .ensures) ∙ c .before .before .if1 .taken) _ _ (c .before .get .ensures .0) (c .height-at .ensures)
 
 get-requires-2 : tie.Need-get-requires-2
 get-requires-2 c κs = search needs

@@ -1,3 +1,4 @@
+-- `backed::own_block` meets its contract. Assumes nothing.
 use Rattle.backed.proofs.Keys.{own-keyed}
 use Rattle.store.specs.Layout.{statementTable, placeOf}
 use Rattle.rules.specs.Limits.{small}
@@ -10,38 +11,26 @@ use borrow.Author.Tests.{eqb-true, leb-true}
 use lib.Dec.{leb, eqb}
 use Prim.Native.Nat.{ℕ, _+_, _^_, _≤_}
 use mathlib.Core.Bool.{_&&_}
-use mathlib.Core.Path.{_≡_, refl, sym, ap, _∙_}
+use mathlib.Core.Path.{_≡_, sym, ap, _∙_}
 use borrow.Author.Needs.{needs}
 use Rattle.backed.proofs.own_block.Statement.{statement}
 use Rattle.backed.proofs.own_block.Tie as tie
-use Rattle.backed.proofs.own_block.Reads as reads
-use Rattle.backed.proofs.own_block.Lts as lts
-use Rattle.chains.proofs.stirred.Reads as stirred-reads
-use Rattle.chains.proofs.with_words.Reads as with-words-reads
-use Rattle.fields.proofs.same.Reads as same-reads
-use Rattle.backed.proofs.own_key.Reads as own-key-reads
 
--- src/there.rt:96:27
 mul-at : tie.Need-mul-at
 mul-at c = search needs
 
--- src/there.rt:96:14
 add-at : tie.Need-add-at
 add-at c = search needs
 
--- src/there.rt:96:14
 add-at-2 : tie.Need-add-at-2
 add-at-2 c = search needs
 
--- src/there.rt:97:9
 own-key-requires : tie.Need-own-key-requires
 own-key-requires c κs = search needs
 
--- src/there.rt:100:11
 same-requires : tie.Need-same-requires
 same-requires c κs = search needs
 
--- src/there.rt:102:9
 returns : tie.Need-returns
 returns c =
     let start = c .before .before .before .before .before in
@@ -64,15 +53,12 @@ returns c =
       has = λ e. found .has more _ (record { key-is = sym keys ∙ keyed .key-is; name-is = sym names ∙ keyed .name-is; small = keyed .small });
     }
 
--- src/there.rt:108:43
 stirred-requires : tie.Need-stirred-requires
 stirred-requires c κs = search needs
 
--- src/there.rt:108:9
 with-words-requires : tie.Need-with-words-requires
 with-words-requires c κs = search needs
 
--- src/there.rt:92:1
 returns-2 : tie.Need-returns-2
 returns-2 c =
     let a = c .before .before .before .before .before .before .before .args in

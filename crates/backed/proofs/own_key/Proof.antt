@@ -1,45 +1,35 @@
+-- `backed::own_key` meets its contract. Assumes nothing.
 use Rattle.backed.proofs.Keys.{propose-own}
 use Rattle.fields.proofs.Laws.{number-lt}
 use Rattle.rules.specs.Limits.{small}
 use Rattle.store.specs.Layout.{statementTable, placeOf}
 use native.Mathlib.Omega.{arith}
-use mathlib.Core.Path.{_≡_, sym, _∙_}
+use mathlib.Core.Path.{_∙_}
 use borrow.Author.Needs.{needs}
 use Rattle.backed.proofs.own_key.Statement.{statement}
 use Rattle.backed.proofs.own_key.Tie as tie
-use Rattle.backed.proofs.own_key.Reads as reads
-use Rattle.backed.proofs.own_key.Lts as lts
-use Rattle.fields.proofs.get.Reads as get-reads
-use Rattle.store.proofs.kind_at.Reads as kind-at-reads
 
--- src/there.rt:85:8
 kind-at-requires : tie.Need-kind-at-requires
 kind-at-requires c κs = search needs
 
--- src/there.rt:86:48
 mul-get : tie.Need-mul-get
 mul-get c = search needs
 
--- src/there.rt:86:35
 add-get : tie.Need-add-get
 add-get c = search needs
 
--- src/there.rt:86:9
 get-requires : tie.Need-get-requires
 get-requires c κs = search needs
 
--- src/there.rt:86:9
 returns : tie.Need-returns
 returns c = search needs
 
--- src/there.rt:88:5
 add-result : tie.Need-add-result
 add-result c =
     let start = c .before .before .before in
     let own = propose-own (start .args .store .now) (c .before .before .shared-slice-known .given) (start .args .i) (start .pre .2) (λ e. c .if1 .left (c .before .kind-at .ensures ∙ e)) _ (start .pre .3) in
     record { fits = omega (arith, own, number-lt (start .args .store .now) (c .before .before .shared-slice-known .given) (placeOf statementTable small (start .args .i)) 8) }
 
--- src/there.rt:81:1
 returns-2 : tie.Need-returns-2
 returns-2 c =
     let start = c .before .before .before in

@@ -28,16 +28,18 @@ load-requires c κs =
 
 below-lock-requires : tie.Need-below-lock-requires
 below-lock-requires c κs =
-    sendable-certifies (stateOf (c .before .before .before .before .before .args .store .now) .settings) (c .before .before .before .before .before .args .x) (place-sendable (c .before .before .before .before .before .pre .0) (c .before .before .before .before .before .pre .1))
+    let start = c .before .before .before .before .before in let args = start .args in let pre = start .pre in
+    sendable-certifies (stateOf (args .store .now) .settings) (args .x) (place-sendable (pre .0) (pre .1))
 
 same-length : tie.Need-same-length
 same-length c = search needs
 
 returns : tie.Need-returns
 returns c =
-    let b = c .before .before .before .before .before .before .before .args .store .now in
-    works-is (voting-below (statementOf (c .before .before .before .before .before .before .before .args .x) none) (stateOf b) (sym (loaded-below (c .before .before .before .before .before .before .before .pre .0) (c .before .before .before .load .result) (c .before .before .before .load .ensures) (statementOf (c .before .before .before .before .before .before .before .args .x) none)) ∙ sym (c .before .below-lock .ensures) ∙ c .if1 .taken))
-    (works-none (c .before .before .before .before .before .before .before .args .out .now) (c .before .before .before .before .before .before .before .args .at) (record { form = c .before .before .before .before .before .before .before .pre .0 .form; is = refl }))
+    let start = c .before .before .before .before .before .before .before in let args = start .args in let pre = start .pre in let load = c .before .before .before .load in
+    let b = args .store .now in
+    works-is (voting-below (statementOf (args .x) none) (stateOf b) (sym (loaded-below (pre .0) (load .result) (load .ensures) (statementOf (args .x) none)) ∙ sym (c .before .below-lock .ensures) ∙ c .if1 .taken))
+    (works-none (args .out .now) (args .at) (record { form = pre .0 .form; is = refl }))
 
 note-vote-requires : tie.Need-note-vote-requires
 note-vote-requires c κs =
@@ -50,11 +52,11 @@ own-block-requires c κs = search needs
 
 join-found-requires : tie.Need-join-found-requires
 join-found-requires c κs =
-    let p = c .before .before .before .before .before .before .before .before .before .before .before .before .before .before .pre in
+    let start = c .before .before .before .before .before .before .before .before .before .before .before .before .before .before in let args = start .args in let p = start .pre in
     let load = c .before .before .before .before .before .before .before .before .before .before .load in
-    let x = statementOf (c .before .before .before .before .before .before .before .before .before .before .before .before .before .before .args .x) none in
     let vote = c .before .before .before .before .note-vote in
     let block = c .own-block in
+    let x = statementOf (args .x) none in
     let m = only (load .result .settings .own) in
     let own = own-small (p .0) (load .result) (load .ensures) in
     (vote .ensures .form, place-room (p .0) (p .1) _ _ m (withVoters m (blockOf (block .result))) (voter-block x m (block .ensures)) (vote .ensures), place-found (p .0) (p .1) _ _ (blockOf (block .result)) _ (block .ensures) (p .2) (vote .ensures), place-clock (p .0) (p .1) _ (vote .ensures), own)
@@ -67,9 +69,10 @@ cast-t24 c =
 send-both-requires : tie.Need-send-both-requires
 unfolding messageOf
 send-both-requires c κs =
+    let load = c .before .before .before .before .before .before .before .before .before .before .before .before .before .before .before .load in
     let start = c .before .before .before .before .before .before .before .before .before .before .before .before .before .before .before .before .before .before .before in
     let a = start .args in
-    (sendable-linked (stateOf (a .store .now) .settings) (a .x) (place-sendable (start .pre .0) (start .pre .1)), tt, omega (arith, ballot-bytes (statementOf (a .x) none) (a .x .view) (a .x .height) (nameOf (a .x .name)) (c .before .before .before .before .before .before .before .before .before .before .before .before .before .before .before .load .result .settings .own), start .pre .3))
+    (sendable-linked (stateOf (a .store .now) .settings) (a .x) (place-sendable (start .pre .0) (start .pre .1)), tt, omega (arith, ballot-bytes (statementOf (a .x) none) (a .x .view) (a .x .height) (nameOf (a .x .name)) (load .result .settings .own), start .pre .3))
 
 same-length-2 : tie.Need-same-length-2
 same-length-2 c = search needs
@@ -79,19 +82,22 @@ same-length-3 c = search needs
 
 returns-2 : tie.Need-returns-2
 returns-2 c =
+    let load = c .before .before .before .before .before .before .before .before .before .before .before .before .before .before .before .before .before .before .load in
+    let below-lock = c .before .before .before .before .before .before .before .before .before .before .before .before .before .before .before .before .below-lock in
+    let if1 = c .before .before .before .before .before .before .before .before .before .before .before .before .before .before .before .if1 in
+    let vote = c .before .before .before .before .before .before .before .before .before .before .before .before .note-vote in
+    let block = c .before .before .before .before .before .before .before .before .own-block in
+    let join-found = c .before .before .before .before .before .before .before .join-found in
     let start = c .before .before .before .before .before .before .before .before .before .before .before .before .before .before .before .before .before .before .before .before .before .before in
     let a = start .args in
     let k = start .pre .0 in
-    let load = c .before .before .before .before .before .before .before .before .before .before .before .before .before .before .before .before .before .before .load in
     let s = stateOf (a .store .now) in
     let x = statementOf (a .x) none in
     let own = loaded-own k (load .result) (load .ensures) in
     let m = only (load .result .settings .own) in
-    let block = c .before .before .before .before .before .before .before .before .own-block in
-    let vote = c .before .before .before .before .before .before .before .before .before .before .before .before .note-vote in
-    works-is (voting-cast x s (sym (loaded-below k (load .result) (load .ensures) x) ∙ sym (c .before .before .before .before .before .before .before .before .before .before .before .before .before .before .before .before .below-lock .ensures) ∙ c .before .before .before .before .before .before .before .before .before .before .before .before .before .before .before .if1 .left))
+    works-is (voting-cast x s (sym (loaded-below k (load .result) (load .ensures) x) ∙ sym (below-lock .ensures) ∙ if1 .left))
     (works-saying (ballot x s)
-    (place-voted k (start .pre .1) (some (load .result .settings .own)) (load .result .clock) (withVoters m (blockOf (block .result))) (loaded-clock (load .result) (a .store .now) (load .ensures)) (voter-block x m (block .ensures) ∙ ap (λ (i : ℕ). ownBlock x (only i)) own) (vote .ensures) (c .before .before .before .before .before .before .before .join-found .ensures .left))
+    (place-voted k (start .pre .1) (some (load .result .settings .own)) (load .result .clock) (withVoters m (blockOf (block .result))) (loaded-clock (load .result) (a .store .now) (load .ensures)) (voter-block x m (block .ensures) ∙ ap (λ (i : ℕ). ownBlock x (only i)) own) (vote .ensures) (join-found .ensures .left))
     (rw (← ballot-is (a .x) s (load .result .settings .own) own) (c .before .before .send-both .ensures)))
 
 pub voting-spec : {M : Type 1} → statement M

@@ -41,8 +41,10 @@ mask-within-requires c κs = search needs
 returns : tie.Need-returns Inv-loop μ-loop
 unfolding isMask
 returns c =
-    let g = settingsOf (c .before .before .before .before .before .before .before .args .settings) in
-    sym (c .before .before .before .before .loop .inv ∙ all-here (blameAt _) _ (isMask g) _ (c .before .before .before .loop-test .taken) (ap (isMask g) (sym (c .before .before .blame-at .ensures)) ∙ sym (c .before .mask-within .ensures) ∙ not-true _ (c .if1 .taken)))
+    let args = c .before .before .before .before .before .before .before .args in let loop = c .before .before .before .before .loop in
+    let loop-test = c .before .before .before .loop-test in
+    let g = settingsOf (args .settings) in
+    sym (loop .inv ∙ all-here (blameAt _) _ (isMask g) _ (loop-test .taken) (ap (isMask g) (sym (c .before .before .blame-at .ensures)) ∙ sym (c .before .mask-within .ensures) ∙ not-true _ (c .if1 .taken)))
 
 add-i : tie.Need-add-i Inv-loop μ-loop
 add-i c = search needs
@@ -53,8 +55,10 @@ loop-less c = search needs
 loop-again : tie.Need-loop-again Inv-loop μ-loop
 unfolding isMask
 loop-again c =
-    let g = settingsOf (c .before .before .before .before .before .before .before .args .settings) in
-    c .before .before .before .before .loop .inv ∙ all-next (blameAt _) _ (isMask g) _ (c .before .before .before .loop-test .taken) (ap (isMask g) (sym (c .before .before .blame-at .ensures)) ∙ sym (c .before .mask-within .ensures) ∙ not-false _ (c .if1 .left))
+    let args = c .before .before .before .before .before .before .before .args in let loop = c .before .before .before .before .loop in
+    let loop-test = c .before .before .before .loop-test in
+    let g = settingsOf (args .settings) in
+    loop .inv ∙ all-next (blameAt _) _ (isMask g) _ (loop-test .taken) (ap (isMask g) (sym (c .before .before .blame-at .ensures)) ∙ sym (c .before .mask-within .ensures) ∙ not-false _ (c .if1 .left))
 
 returns-2 : tie.Need-returns-2 Inv-loop μ-loop
 returns-2 c =

@@ -41,7 +41,9 @@ same-length c = search needs
 
 returns-4 : tie.Need-returns-4
 returns-4 c =
-    is-bundled _ _ _ (c .before .before .before .before .before .before .before .before .before .if1 .left) (c .before .before .before .before .before .before .before .before .if2 .left) (c .before .before .before .before .before .before .before .total-of .ensures) (c .before .before .before .before .before .total .given .1) (c .before .before .write-bundle .ensures)
+    let if1 = c .before .before .before .before .before .before .before .before .before .if1 in let if2 = c .before .before .before .before .before .before .before .before .if2 in
+    let total-of = c .before .before .before .before .before .before .before .total-of in let total = c .before .before .before .before .before .total in
+    is-bundled _ _ _ (if1 .left) (if2 .left) (total-of .ensures) (total .given .1) (c .before .before .write-bundle .ensures)
 
 pub envelope-write-spec : {M : Type 1} → statement M
 envelope-write-spec =

@@ -48,7 +48,8 @@ is-message-at-requires c κs = search needs
 
 returns : tie.Need-returns Inv-loop μ-loop
 returns c =
-    total-not _ _ _ _ _ (c .before .before .before .before .before .loop .inv .3) (c .before .before .before .before .loop-test .taken) (c .before .before .before .get .ensures .0) (c .before .before .get2 .ensures .0) (c .before .is-message-at .ensures) (not-true _ (c .if1 .taken))
+    let loop = c .before .before .before .before .before .loop in let loop-test = c .before .before .before .before .loop-test in let get = c .before .before .before .get in
+    total-not _ _ _ _ _ (loop .inv .3) (loop-test .taken) (get .ensures .0) (c .before .before .get2 .ensures .0) (c .before .is-message-at .ensures) (not-true _ (c .if1 .taken))
 
 add-total : tie.Need-add-total Inv-loop μ-loop
 add-total c = search needs
@@ -61,7 +62,9 @@ add-total-2 c = search needs
 
 returns-2 : tie.Need-returns-2 Inv-loop μ-loop
 returns-2 c =
-    total-over _ _ _ _ _ (c .before .before .before .before .before .before .loop .inv .3) (c .before .before .before .before .before .loop-test .taken) (c .before .before .before .before .get .ensures .0) (c .before .before .before .get2 .ensures .0) (c .before .before .is-message-at .ensures) (not-false _ (c .before .if1 .left)) (c .if2 .taken)
+    let loop = c .before .before .before .before .before .before .loop in let loop-test = c .before .before .before .before .before .loop-test in
+    let get = c .before .before .before .before .get in let get2 = c .before .before .before .get2 in
+    total-over _ _ _ _ _ (loop .inv .3) (loop-test .taken) (get .ensures .0) (get2 .ensures .0) (c .before .before .is-message-at .ensures) (not-false _ (c .before .if1 .left)) (c .if2 .taken)
 
 add-k : tie.Need-add-k Inv-loop μ-loop
 add-k c = search needs
@@ -71,8 +74,10 @@ loop-less c = search needs
 
 loop-again : tie.Need-loop-again Inv-loop μ-loop
 loop-again c =
-    let l = c .before .before .before .before .before .before .loop .inv in
-    (omega arith, l .1, c .if2 .left, total-next _ _ _ _ _ (c .before .before .before .before .before .before .loop .inv .3) (c .before .before .before .before .before .loop-test .taken) (c .before .before .before .before .get .ensures .0) (c .before .before .before .get2 .ensures .0) (c .before .before .is-message-at .ensures) (not-false _ (c .before .if1 .left)))
+    let loop = c .before .before .before .before .before .before .loop in let loop-test = c .before .before .before .before .before .loop-test in
+    let get = c .before .before .before .before .get in let get2 = c .before .before .before .get2 in
+    let l = loop .inv in
+    (omega arith, l .1, c .if2 .left, total-next _ _ _ _ _ (loop .inv .3) (loop-test .taken) (get .ensures .0) (get2 .ensures .0) (c .before .before .is-message-at .ensures) (not-false _ (c .before .if1 .left)))
 
 returns-3 : tie.Need-returns-3 Inv-loop μ-loop
 returns-3 c =

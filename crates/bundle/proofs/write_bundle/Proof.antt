@@ -61,9 +61,12 @@ add-put-2 c =
 
 put-requires-2 : tie.Need-put-requires-2 Inv-loop μ-loop
 put-requires-2 c κs =
-    let l = c .before .before .before .before .loop .inv in
-    let z = next-sizes (l .2) (c .before .before .before .loop-test .taken) in
-    omega (arith, c .before .before .before .before .before .before .before .before .before .before .before .before .pre .room, l .2 .same, ap length (c .before .before .before .before .before .before .before .put .ensures), length-put (c .before .before .before .before .before .before .before .before .before .before .before .before .args .out .now) 0 3 (0x30_0000 + c .before .before .before .before .before .before .before .before .before .before .before .before .args .total - 3))
+    let start = c .before .before .before .before .before .before .before .before .before .before .before .before in let args = start .args in let pre = start .pre in
+    let put = c .before .before .before .before .before .before .before .put in let loop = c .before .before .before .before .loop in
+    let loop-test = c .before .before .before .loop-test in
+    let l = loop .inv in
+    let z = next-sizes (l .2) (loop-test .taken) in
+    omega (arith, pre .room, l .2 .same, ap length (put .ensures), length-put (args .out .now) 0 3 (0x30_0000 + c .before .before .before .before .before .before .before .before .before .before .before .before .args .total - 3))
 
 add-copy : tie.Need-add-copy Inv-loop μ-loop
 add-copy c =
@@ -85,13 +88,17 @@ part-copy-end c =
 
 copy-requires : tie.Need-copy-requires Inv-loop μ-loop
 copy-requires c κs =
-    let l = c .before .before .before .before .before .before .before .before .before .loop .inv in
-    let z = next-sizes (l .2) (c .before .before .before .before .before .before .before .before .loop-test .taken) in
-    let a = c .before .before .before .before .before .before .before .before .before .before .before .before .before .before .before .before .before .args in
-    let o = c .before .before .before .before .before .before .before .get .result in
-    let n = c .before .before .before .before .before .before .get2 .result in
+    let start = c .before .before .before .before .before .before .before .before .before .before .before .before .before .before .before .before .before in let a = start .args in
+    let pre = start .pre in let put = c .before .before .before .before .before .before .before .before .before .before .before .before .put in
+    let loop = c .before .before .before .before .before .before .before .before .before .loop in
+    let loop-test = c .before .before .before .before .before .before .before .before .loop-test in let get = c .before .before .before .before .before .before .before .get in
+    let get2 = c .before .before .before .before .before .before .get2 in let put2 = c .before .before .before .before .put2 in
+    let l = loop .inv in
+    let z = next-sizes (l .2) (loop-test .taken) in
+    let o = get .result in
+    let n = get2 .result in
     let m : length (take ((o + n) - o) (drop o (a .bytes .now))) ≤ n = simp (length-take, length-drop) (omega arith) in
-    omega (arith, c .before .before .before .before .before .before .before .before .before .before .before .before .before .before .before .before .before .pre .room, l .2 .same, ap length (c .before .before .before .before .before .before .before .before .before .before .before .before .put .ensures), length-put (a .out .now) 0 3 (0x30_0000 + a .total - 3), ap length (c .before .before .before .before .put2 .ensures), length-put (c .before .before .before .before .before .before .before .before .before .loop .out) (c .before .before .before .before .before .before .before .before .before .loop .at) 3 (0x31_0000 + n), c .before .before .before .before .before .before .get2 .ensures .0)
+    omega (arith, pre .room, l .2 .same, ap length (put .ensures), length-put (a .out .now) 0 3 (0x30_0000 + a .total - 3), ap length (put2 .ensures), length-put (loop .out) (loop .at) 3 (0x31_0000 + n), get2 .ensures .0)
 
 add-at : tie.Need-add-at Inv-loop μ-loop
 add-at c =
@@ -113,10 +120,14 @@ loop-less c = search needs
 
 loop-again : tie.Need-loop-again Inv-loop μ-loop
 loop-again c =
-    let l = c .before .before .before .before .before .before .before .before .before .before .before .before .loop .inv in
-    let o = c .before .before .before .before .before .before .before .before .before .before .get .result in
-    let n = c .before .before .before .before .before .before .before .before .before .get2 .result in
-    (omega arith, l .1, walk-next (l .2) (c .before .before .before .before .before .before .before .before .before .before .before .loop-test .taken) (c .before .before .before .before .before .before .before .before .before .before .get .ensures .0) (c .before .before .before .before .before .before .before .before .before .get2 .ensures .0) (let e : (o + n) - o ≡ n = omega arith in e) (c .before .before .before .before .before .before .before .put2 .ensures) (c .before .before .copy .ensures))
+    let loop = c .before .before .before .before .before .before .before .before .before .before .before .before .loop in
+    let loop-test = c .before .before .before .before .before .before .before .before .before .before .before .loop-test in
+    let get = c .before .before .before .before .before .before .before .before .before .before .get in
+    let get2 = c .before .before .before .before .before .before .before .before .before .get2 in let put2 = c .before .before .before .before .before .before .before .put2 in
+    let l = loop .inv in
+    let o = get .result in
+    let n = get2 .result in
+    (omega arith, l .1, walk-next (l .2) (loop-test .taken) (get .ensures .0) (get2 .ensures .0) (let e : (o + n) - o ≡ n = omega arith in e) (put2 .ensures) (c .before .before .copy .ensures))
 
 same-length : tie.Need-same-length Inv-loop μ-loop
 same-length c =

@@ -39,7 +39,9 @@ returns-4 : tie.Need-returns-4
 unfolding blockOf
 returns-4 c =
     let a = c .before .before .before .before .before .before .before .args in
-    chosen-here (settingsOf (a .settings)) (a .view) (blockOf (a .block)) (blockOf (a .best)) (c .before .before .before .before .before .if1 .left) (sym (c .before .quorum .ensures) ∙ not-false _ (c .if3 .left)) (sym (c .before .before .before .before .higher .ensures) ∙ not-false _ (c .before .before .before .if2 .left))
+    let if1 = c .before .before .before .before .before .if1 in
+    let higher = c .before .before .before .before .higher in let if2 = c .before .before .before .if2 in
+    chosen-here (settingsOf (a .settings)) (a .view) (blockOf (a .block)) (blockOf (a .best)) (if1 .left) (sym (c .before .quorum .ensures) ∙ not-false _ (c .if3 .left)) (sym (higher .ensures) ∙ not-false _ (if2 .left))
 
 pub better-spec : {M : Type 1} → statement M
 better-spec =

@@ -77,11 +77,12 @@ loop-less-2 c =
 loop-again-2 : tie.Need-loop-again-2 Inv-loop μ-loop
 loop-again-2 c =
     let a = c .before .before .before .before .before .before .before .before .before .before .before .args in
-    let b = a .store .now in
-    let l = c .before .before .before .before .before .before .loop in
     let loaded = c .before .before .before .before .before .before .before .before .before .load in
+    let l = c .before .before .before .before .before .before .loop in
+    let loop-test = c .before .before .before .before .before .loop-test in
+    let b = a .store .now in
     let tally = c .before .certificate .ensures ∙ ap certificateOf (c .before .before .tally-at .ensures) in
-    (omega (arith, l .inv .0), highest-step (stateOf b .settings) (a .view) (tallyAt b) (countOf tallyTable b) (l .i) (c .before .before .before .before .before .loop-test .taken) (l .inv .0) (settingsOf (loaded .result .settings)) (blockOf (c .before .certificate .result)) (blockOf (l .best)) (blockOf (c .better .result)) (loaded-settings (loaded .result) b (loaded .ensures)) tally (l .inv .1) (c .better .ensures))
+    (omega (arith, l .inv .0), highest-step (stateOf b .settings) (a .view) (tallyAt b) (countOf tallyTable b) (l .i) (loop-test .taken) (l .inv .0) (settingsOf (loaded .result .settings)) (blockOf (c .before .certificate .result)) (blockOf (l .best)) (blockOf (c .better .result)) (loaded-settings (loaded .result) b (loaded .ensures)) tally (l .inv .1) (c .better .ensures))
 
 returns : tie.Need-returns Inv-loop μ-loop
 unfolding tallies

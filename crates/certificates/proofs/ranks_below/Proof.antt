@@ -35,10 +35,12 @@ returns : tie.Need-returns
 unfolding tallyFor blockOf
 returns c =
     let a = c .before .before .before .before .before .args in
+    let shared-slice-known = c .before .before .before .before .shared-slice-known in
+    let tally-place = c .before .before .before .tally-place in
     let b = a .store .now in
     let at = placeOf tallyTable (sizeIn b) (a .i) in
-    rank-number (certificateOf (tallyAt b (a .i))) (blockOf (a .best)) (number-lt b (c .before .before .before .before .shared-slice-known .given) (at + 4) 4) (search needs)
-    (c .before .before .get .ensures .0 ∙ ap (λ (k : ℕ). number b k 8) (c .before .before .before .tally-place .ensures .0 ∙ sym (add-zero at)) ∙ number-split b (at + 0) 4 4 ∙ ap (λ (k : ℕ). number b (at + 0) 4 * 256 ^ 4 + number b (k + 4) 4) (add-zero at)) refl
+    rank-number (certificateOf (tallyAt b (a .i))) (blockOf (a .best)) (number-lt b (shared-slice-known .given) (at + 4) 4) (search needs)
+    (c .before .before .get .ensures .0 ∙ ap (λ (k : ℕ). number b k 8) (tally-place .ensures .0 ∙ sym (add-zero at)) ∙ number-split b (at + 0) 4 4 ∙ ap (λ (k : ℕ). number b (at + 0) 4 * 256 ^ 4 + number b (k + 4) 4) (add-zero at)) refl
 
 pub ranks-below-spec : {M : Type 1} → statement M
 ranks-below-spec =

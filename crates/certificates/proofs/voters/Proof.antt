@@ -22,8 +22,8 @@ enum-known-found c = search needs
 tally-at-requires : tie.Need-tally-at-requires
 unfolding tallies
 tally-at-requires c κs =
-    let a = c .before .before .before .before .before .args in
-    (long (c .before .before .before .before .before .pre), omega (arith, few-tallies (c .before .before .before .before .before .pre), found-within (ofBlock (blockOf (a .block))) (tallyAt (a .store .now)) (countOf tallyTable (a .store .now)) (c .before .before .before .find-tally .result) (c .before .before .before .find-tally .ensures) (c .before .found .given .0 .0) (c .before .found .given .1)))
+    let start = c .before .before .before .before .before in let a = start .args in let pre = start .pre in let find-tally = c .before .before .before .find-tally in
+    (long pre, omega (arith, few-tallies pre, found-within (ofBlock (blockOf (a .block))) (tallyAt (a .store .now)) (countOf tallyTable (a .store .now)) (find-tally .result) (find-tally .ensures) (c .before .found .given .0 .0) (c .before .found .given .1)))
 
 enum-told : tie.Need-enum-told
 enum-told c = search needs
@@ -32,13 +32,15 @@ returns : tie.Need-returns
 unfolding tallies tallyOf
 returns c =
     let a = c .before .before .before .before .before .before .args in
-    ap (λ (t : Tally). t .mask) (c .tally-at .ensures) ∙ sym (voters-first (blockOf (a .block)) (tallies (a .store .now)) ∙ ap maskOf (found-first (ofBlock (blockOf (a .block))) (tallyAt (a .store .now)) (countOf tallyTable (a .store .now)) (c .before .before .before .before .find-tally .result) (c .before .before .before .before .find-tally .ensures) (c .before .before .found .given .0 .0) (c .before .before .found .given .1)))
+    let find-tally = c .before .before .before .before .find-tally in let found = c .before .before .found in
+    ap (λ (t : Tally). t .mask) (c .tally-at .ensures) ∙ sym (voters-first (blockOf (a .block)) (tallies (a .store .now)) ∙ ap maskOf (found-first (ofBlock (blockOf (a .block))) (tallyAt (a .store .now)) (countOf tallyTable (a .store .now)) (find-tally .result) (find-tally .ensures) (found .given .0 .0) (found .given .1)))
 
 returns-2 : tie.Need-returns-2
 unfolding tallies
 returns-2 c =
     let a = c .before .before .before .before .args in
-    sym (voters-first (blockOf (a .block)) (tallies (a .store .now)) ∙ ap maskOf (missing-first (ofBlock (blockOf (a .block))) (tallyAt (a .store .now)) (countOf tallyTable (a .store .now)) (c .before .before .find-tally .result) (c .before .before .find-tally .ensures) (c .enum-told .given .1)))
+    let find-tally = c .before .before .find-tally in
+    sym (voters-first (blockOf (a .block)) (tallies (a .store .now)) ∙ ap maskOf (missing-first (ofBlock (blockOf (a .block))) (tallyAt (a .store .now)) (countOf tallyTable (a .store .now)) (find-tally .result) (find-tally .ensures) (c .enum-told .given .1)))
 
 pub voters-spec : {M : Type 1} → statement M
 voters-spec =

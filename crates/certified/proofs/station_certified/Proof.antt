@@ -18,21 +18,28 @@ well-formed-requires c κs = let a = c .before .before .before .before .before .
 
 returns-3 : tie.Need-returns-3
 returns-3 c =
-    let a = c .before .before .before .before .before .before .before .args in refused-formless (a .store .now) (a .view) (a .height) (a .name .now) (c .before .before .before .before .is-whole .ensures) (c .before .before .before .if1 .left) (c .before .before .if2 .left) (c .before .well-formed .ensures) (c .if3 .taken)
+    let args = c .before .before .before .before .before .before .before .args in let is-whole = c .before .before .before .before .is-whole in
+    let if1 = c .before .before .before .if1 in
+    refused-formless (args .store .now) (args .view) (args .height) (args .name .now) (is-whole .ensures) (if1 .left) (c .before .before .if2 .left) (c .before .well-formed .ensures) (c .if3 .taken)
 
 get-name-requires : tie.Need-get-name-requires
 get-name-requires c κs = search needs
 
 since-requires : tie.Need-since-requires
 since-requires c κs =
-    let a = c .before .before .before .before .before .before .before .before .args in has-form (a .store .now) (a .view) (a .height) (a .name .now) (c .before .before .before .before .before .is-whole .ensures) (c .before .before .before .before .if1 .left) (c .before .before .before .if2 .left) (c .before .before .well-formed .ensures) (c .before .before .before .before .before .before .before .shared-slice-known .given) (c .before .if3 .left)
+    let args = c .before .before .before .before .before .before .before .before .args in
+    let shared-slice-known = c .before .before .before .before .before .before .before .shared-slice-known in let is-whole = c .before .before .before .before .before .is-whole in
+    let if1 = c .before .before .before .before .if1 in let if2 = c .before .before .before .if2 in
+    has-form (args .store .now) (args .view) (args .height) (args .name .now) (is-whole .ensures) (if1 .left) (if2 .left) (c .before .before .well-formed .ensures) (shared-slice-known .given) (c .before .if3 .left)
 
 cast-result : tie.Need-cast-result
 cast-result c = search needs
 
 returns-4 : tie.Need-returns-4
 returns-4 c =
-    let a = c .before .before .before .before .before .before .before .before .before .args in tells (a .store .now) (a .view) (a .height) (a .name .now) (c .before .before .before .before .before .before .is-whole .ensures) (c .before .before .before .before .before .if1 .left) (c .before .before .before .before .if2 .left) (c .before .before .before .well-formed .ensures) (c .before .before .if3 .left) (c .before .get-name .ensures .0) (c .since .ensures)
+    let args = c .before .before .before .before .before .before .before .before .before .args in let is-whole = c .before .before .before .before .before .before .is-whole in
+    let if1 = c .before .before .before .before .before .if1 in let if2 = c .before .before .before .before .if2 in let well-formed = c .before .before .before .well-formed in
+    tells (args .store .now) (args .view) (args .height) (args .name .now) (is-whole .ensures) (if1 .left) (if2 .left) (well-formed .ensures) (c .before .before .if3 .left) (c .before .get-name .ensures .0) (c .since .ensures)
 
 pub station-certified-spec : {M : Type 1} → statement M
 station-certified-spec =

@@ -28,35 +28,30 @@ sub-i c =
 mul-to : tie.Need-mul-to Inv-loop μ-loop
 mul-to c =
     let a = c .before .before .before .args in
-    let within = c .before .loop .inv .0 .within in
     let lies = record-within (a .base) (a .size) (a .count - c .before .loop .rest) (a .count) (length (a .store .now)) (omega arith) (c .before .before .before .pre .1) in
     omega arith
 
 add-to : tie.Need-add-to Inv-loop μ-loop
 add-to c =
     let a = c .before .before .before .args in
-    let within = c .before .loop .inv .0 .within in
     let lies = record-within (a .base) (a .size) (a .count - c .before .loop .rest) (a .count) (length (a .store .now)) (omega arith) (c .before .before .before .pre .1) in
     omega arith
 
 get-requires : tie.Need-get-requires Inv-loop μ-loop
 get-requires c κs =
     let a = c .before .before .before .args in
-    let within = c .before .loop .inv .0 .within in
     let lies = record-within (a .base) (a .size) (a .count - c .before .loop .rest) (a .count) (length (a .store .now)) (omega arith) (c .before .before .before .pre .1) in
     (lit≤ tt, omega (arith, c .before .before .before .pre .0))
 
 add-same : tie.Need-add-same Inv-loop μ-loop
 add-same c =
     let a = c .before .before .before .before .args in
-    let within = c .before .before .loop .inv .0 .within in
     let lies = record-within (a .base) (a .size) (a .count - c .before .before .loop .rest) (a .count) (length (a .store .now)) (omega arith) (c .before .before .before .before .pre .1) in
     omega (arith, c .before .before .before .before .pre .0)
 
 same-requires : tie.Need-same-requires Inv-loop μ-loop
 same-requires c κs =
     let a = c .before .before .before .before .args in
-    let within = c .before .before .loop .inv .0 .within in
     let lies = record-within (a .base) (a .size) (a .count - c .before .before .loop .rest) (a .count) (length (a .store .now)) (omega arith) (c .before .before .before .before .pre .1) in
     (c .before .before .before .before .pre .3, omega (arith, c .before .before .before .before .pre .0))
 

@@ -4,7 +4,7 @@ use mathlib.Core.Path.{_≡_, refl, ap, _∙_}
 use native.Mathlib.Omega.{arith}
 use native.Mathlib.Numerals.{add-one}
 use lib.Dec.{lit≤}
-use Rattle.chains.specs.Chains.{stir, stirWords}
+use Rattle.chains.specs.Chains.{stirWords}
 use borrow.Author.Needs.{needs}
 use Rattle.chains.proofs.with_words.Statement.{statement}
 use Rattle.chains.proofs.with_words.Tie as tie

@@ -1,11 +1,10 @@
 -- `choose::decide` meets its contract: by what each reports, and by the ranks. Assumes nothing.
-use mathlib.Core.Path.{_≡_, refl, sym, subst, ap₂, _∙_}
+use mathlib.Core.Path.{_≡_, sym, subst, ap₂, _∙_}
 use mathlib.Core.Option.{Option}
 use Rattle.rules.specs.Words.{Certificate}
 use Rattle.choose.specs.Choose.{taken}
 use Rattle.choose.specs.Meaning.{Ranks}
 use Rattle.choose.specs.declared.Report.{Report}
-use Rattle.choose.specs.declared.Report.the-variants.{Certified, Nothing}
 use Rattle.choose.proofs.Laws.{ranks-higher, ranks-not-higher, only-first, only-second, neither}
 use borrow.Author.Needs.{needs}
 use Rattle.choose.proofs.decide.Statement.{statement}

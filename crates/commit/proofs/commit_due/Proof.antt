@@ -23,14 +23,17 @@ abbrev μ-loop : tie.MeasureT-loop
 
 -- statement i - 1 is due
 due : (c : tie.Else2 Inv-loop μ-loop)
-    → isRipe (c .before .before .before .before .before .before .before .before .args .view) (c .before .before .before .before .before .before .before .before .args .wait) (c .before .before .before .before .before .before .before .before .args .clock) (statementAt (c .before .before .before .before .before .before .before .before .args .store .now) (c .before .before .before .loop .i - 1)) ≡ true
+    → let a = c .before .before .before .before .before .before .before .before .args in
+    isRipe (a .view) (a .wait) (a .clock) (statementAt (a .store .now) (c .before .before .before .loop .i - 1)) ≡ true
 due c =
     sym (c .before .is-due .ensures) ∙ not-false _ (c .if2 .left)
 
 -- its chain was walked
 turn : (c : tie.After-slice-known3 Inv-loop μ-loop)
-    → Turn (c .before .before .before .before .before .before .before .before .before .before .before .before .before .before .before .before .before .before .before .args .store .now) (isRipe (c .before .before .before .before .before .before .before .before .before .before .before .before .before .before .before .before .before .before .before .args .view) (c .before .before .before .before .before .before .before .before .before .before .before .before .before .before .before .before .before .before .before .args .wait) (c .before .before .before .before .before .before .before .before .before .before .before .before .before .before .before .before .before .before .before .args .clock)) (c .before .before .before .before .before .before .before .before .before .before .before .before .before .before .before .before .before .before .before .args .count) (c .before .before .before .before .before .before .before .before .before .before .before .before .before .before .loop .i) (c .before .before .before .before .before .before .before .before .before .before .before .before .before .before .loop .len) (c .before .before .before .before .before .before .before .before .before .before .before .before .before .before .loop .gained)
-    (c .before .before .walk .last .1 .1 .1 .1 .0) (c .before .before .walk .result .left) (c .before .before .before .before .before .before .before .before .height-at .result)
+    → let a = c .before .before .before .before .before .before .before .before .before .before .before .before .before .before .before .before .before .before .before .args in
+    let l = c .before .before .before .before .before .before .before .before .before .before .before .before .before .before .loop in
+    let walk = c .before .before .walk in
+    Turn (a .store .now) (isRipe (a .view) (a .wait) (a .clock)) (a .count) (l .i) (l .len) (l .gained) (walk .last .1 .1 .1 .1 .0) (walk .result .left) (c .before .before .before .before .before .before .before .before .height-at .result)
 turn c =
     let begun = c .before .before .before .before .before .before .before .before .before .before .before .before .before .before .before .before .before .before .before .pre .0 in
     let course = c .before .before .before .before .before .before .before .before .before .before .before .before .before .before .loop .inv in
@@ -80,7 +83,8 @@ loop-less-2 c =
 
 loop-again-2 : tie.Need-loop-again-2 Inv-loop μ-loop
 loop-again-2 c =
-    course-told (c .before .before .before .before .before .loop .inv) (omega arith) (due (c .before .before)) (c .before .before .before .before .before .before .before .before .before .before .pre .0 .tells) (c .before .is-told .result) (c .before .is-told .ensures) (c .if3 .taken)
+    let pre = c .before .before .before .before .before .before .before .before .before .before .pre in let loop = c .before .before .before .before .before .loop in
+    course-told (loop .inv) (omega arith) (due (c .before .before)) (pre .0 .tells) (c .before .is-told .result) (c .before .is-told .ensures) (c .if3 .taken)
 
 height-at-requires : tie.Need-height-at-requires Inv-loop μ-loop
 height-at-requires c κs =
@@ -96,7 +100,9 @@ loop-less-3 c =
 
 loop-again-3 : tie.Need-loop-again-3 Inv-loop μ-loop
 loop-again-3 c =
-    course-high (c .before .before .before .before .before .before .before .loop .inv) (omega arith) (due (c .before .before .before .before)) (c .before .before .before .before .before .before .before .before .before .before .before .before .pre .0 .all) (omega (arith, c .before .height-at .ensures))
+    let pre = c .before .before .before .before .before .before .before .before .before .before .before .before .pre in
+    let loop = c .before .before .before .before .before .before .before .loop in
+    course-high (loop .inv) (omega arith) (due (c .before .before .before .before)) (pre .0 .all) (omega (arith, c .before .height-at .ensures))
 
 is-settled-requires : tie.Need-is-settled-requires Inv-loop μ-loop
 is-settled-requires c κs =
@@ -109,21 +115,25 @@ loop-less-4 c =
 
 loop-again-4 : tie.Need-loop-again-4 Inv-loop μ-loop
 loop-again-4 c =
-    course-settled (c .before .before .before .before .before .before .before .before .before .before .loop .inv) (omega arith) (due (c .before .before .before .before .before .before .before)) _ (c .before .is-settled .result) (c .before .is-settled .ensures) (c .if5 .taken)
+    let loop = c .before .before .before .before .before .before .before .before .before .before .loop in
+    course-settled (loop .inv) (omega arith) (due (c .before .before .before .before .before .before .before)) _ (c .before .is-settled .result) (c .before .is-settled .ensures) (c .if5 .taken)
 
 walk-requires : tie.Need-walk-requires Inv-loop μ-loop
 walk-requires c κs =
-    let begun = c .before .before .before .before .before .before .before .before .before .before .before .before .before .before .before .before .pre .0 in
-    let course = c .before .before .before .before .before .before .before .before .before .before .before .loop .inv in
+    let pre = c .before .before .before .before .before .before .before .before .before .before .before .before .before .before .before .before .pre in
+    let loop = c .before .before .before .before .before .before .before .before .before .before .before .loop in
+    let height-at = c .before .before .before .before .before .height-at in let if4 = c .before .before .before .before .if4 in
+    let begun = pre .0 in
+    let course = loop .inv in
     let below : c .before .before .before .before .before .before .before .before .before .before .before .loop .i - 1 < c .before .before .before .before .before .before .before .before .before .before .before .before .before .before .before .before .args .count = omega (arith, course .up) in
-    let tall = c .before .before .before .before .before .height-at .ensures in (
+    let tall = height-at .ensures in (
       begun .form,
       begun .tells,
       begun .all,
       below,
       course .chained .long,
       begun .heights _ below (ripe-propose _ _ _ _ (due (c .before .before .before .before .before .before .before .before))),
-      omega (arith, tall, c .before .before .before .before .if4 .left, begun .all, form-statements _ (begun .form)),
+      omega (arith, tall, if4 .left, begun .all, form-statements _ (begun .form)),
     )
 
 loop-less-5 : tie.Need-loop-less-5 Inv-loop μ-loop
@@ -136,7 +146,9 @@ loop-again-5 c =
 
 join-requires : tie.Need-join-requires Inv-loop μ-loop
 join-requires c κs =
-    (turn-whole (turn (c .before .before .before)) (c .before .before .if6 .left) (c .before .before .before .before .before .before .before .before .before .before .before .before .before .before .before .before .before .before .before .before .before .before .pre .0 .form) (c .before .before .before .before .before .before .before .before .before .before .before .before .before .before .before .before .before .before .before .before .before .before .pre .1), c .before .before .before .before .before .walk .ensures .lowest)
+    let pre = c .before .before .before .before .before .before .before .before .before .before .before .before .before .before .before .before .before .before .before .before .before .before .pre in
+    let walk = c .before .before .before .before .before .walk in
+    (turn-whole (turn (c .before .before .before)) (c .before .before .if6 .left) (pre .0 .form) (pre .1), walk .ensures .lowest)
 
 enum-known-m : tie.Need-enum-known-m Inv-loop μ-loop
 enum-known-m c = search needs
@@ -150,8 +162,10 @@ loop-less-6 c =
 
 loop-again-6 : tie.Need-loop-again-6 Inv-loop μ-loop
 loop-again-6 c =
+    let loop = c .before .before .before .before .before .before .before .before .before .before .before .before .before .before .before .before .before .before .before .before .before .before .before .loop in
+    let if6 = c .before .before .before .before .before .before .before .before .if6 in
     let join = c .before .before .before .before .before .join in
-    turn-grown (turn (c .before .before .before .before .before .before .before .before .before)) (c .before .before .before .before .before .before .before .before .if6 .left) _ (join .result) (join .ensures) (omega (arith, join .kept .1 .1 .1 .0, c .before .before .before .before .before .before .before .before .before .before .before .before .before .before .before .before .before .before .before .before .before .before .before .loop .inv .long)) _ (c .before .m .given .1)
+    turn-grown (turn (c .before .before .before .before .before .before .before .before .before)) (if6 .left) _ (join .result) (join .ensures) (omega (arith, join .kept .1 .1 .1 .0, loop .inv .long)) _ (c .before .m .given .1)
 
 same-length : tie.Need-same-length Inv-loop μ-loop
 same-length c =
@@ -163,20 +177,29 @@ same-length-2 c =
 
 returns : tie.Need-returns Inv-loop μ-loop
 returns c =
-    course-end (c .before .before .before .before .before .before .pre .0 .tells) _ _ _ (c .before .loop .i) (c .before .before .before .before .before .before .args .settled) (c .before .before .before .before .before .before .pre .2) (c .before .loop .inv) (c .before .before .before .before .before .before .pre .0 .all) (c .if1 .taken)
+    let start = c .before .before .before .before .before .before in let args = start .args in let pre = start .pre in
+    course-end (pre .0 .tells) _ _ _ (c .before .loop .i) (args .settled) (pre .2) (c .before .loop .inv) (pre .0 .all) (c .if1 .taken)
 
 same-length-3 : tie.Need-same-length-3 Inv-loop μ-loop
 same-length-3 c =
-    omega (arith, c .before .before .before .before .join .kept .1 .1 .1 .0, c .before .before .before .before .before .before .before .before .before .before .before .before .before .before .before .before .before .before .before .before .before .before .loop .inv .long, c .before .before .before .before .before .before .before .before .before .before .before .before .before .before .before .before .before .before .before .before .before .before .before .before .before .before .before .pre .3)
+    let pre = c .before .before .before .before .before .before .before .before .before .before .before .before .before .before .before .before .before .before .before .before .before .before .before .before .before .before .before .pre in
+    let loop = c .before .before .before .before .before .before .before .before .before .before .before .before .before .before .before .before .before .before .before .before .before .before .loop in
+    let join = c .before .before .before .before .join in
+    omega (arith, join .kept .1 .1 .1 .0, loop .inv .long, pre .3)
 
 same-length-4 : tie.Need-same-length-4 Inv-loop μ-loop
 same-length-4 c =
-    omega (arith, c .before .before .before .before .before .before .before .before .before .before .walk .kept .1 .1 .1 .1 .0, c .before .before .before .before .before .before .before .before .before .before .before .before .before .before .before .before .before .before .before .before .before .before .loop .inv .chained .long, c .before .before .before .before .before .before .before .before .before .before .before .before .before .before .before .before .before .before .before .before .before .before .before .before .before .before .before .pre .4)
+    let pre = c .before .before .before .before .before .before .before .before .before .before .before .before .before .before .before .before .before .before .before .before .before .before .before .before .before .before .before .pre in
+    let loop = c .before .before .before .before .before .before .before .before .before .before .before .before .before .before .before .before .before .before .before .before .before .before .loop in
+    let walk = c .before .before .before .before .before .before .before .before .before .before .walk in
+    omega (arith, walk .kept .1 .1 .1 .1 .0, loop .inv .chained .long, pre .4)
 
 returns-2 : tie.Need-returns-2 Inv-loop μ-loop
 returns-2 c =
+    let pre = c .before .before .before .before .before .before .before .before .before .before .before .before .before .before .before .before .before .before .before .before .before .before .before .before .before .before .before .pre in
+    let if6 = c .before .before .before .before .before .before .before .if6 in
     let join = c .before .before .before .before .join in
-    turn-differs (turn (c .before .before .before .before .before .before .before .before)) (c .before .before .before .before .before .before .before .if6 .left) _ (join .result) (join .ensures) (c .before .before .before .before .before .before .before .before .before .before .before .before .before .before .before .before .before .before .before .before .before .before .before .before .before .before .before .pre .0 .all) (c .enum-told .given .1)
+    turn-differs (turn (c .before .before .before .before .before .before .before .before)) (if6 .left) _ (join .result) (join .ensures) (pre .0 .all) (c .enum-told .given .1)
 
 pub commit-due-spec : {M : Type 1} → statement M
 commit-due-spec =

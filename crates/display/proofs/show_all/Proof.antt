@@ -52,15 +52,19 @@ loop-holds c =
 
 show-one-requires : tie.Need-show-one-requires Inv-loop μ-loop
 show-one-requires c κs =
-    let pre = c .before .before .before .before .before .before .before .before .before .pre in
+    let start = c .before .before .before .before .before .before .before .before .before in let args = start .args in let pre = start .pre in
     let load = c .before .before .before .before .before .before .load in
-    let inv = c .before .before .before .loop .inv in
+    let enum-told = c .before .before .before .before .enum-told in
+    let loop = c .before .before .before .loop in
+    let inv = loop .inv in
     let i = c .before .if1 .taken in
-    (pre .0, load .ensures, ap courseOf (c .before .before .before .before .enum-told .given .1), omega (arith, i, loaded-statements _ _ (load .ensures)), omega (arith, pre .1, inv .1 .few, i, loaded-statements _ _ (load .ensures), form-statements _ (pre .0), display-fits (sizeIn (c .before .before .before .before .before .before .before .before .before .args .store .now)), says-length (inv .1 .says)))
+    (pre .0, load .ensures, ap courseOf (enum-told .given .1), omega (arith, i, loaded-statements _ _ (load .ensures)), omega (arith, pre .1, inv .1 .few, i, loaded-statements _ _ (load .ensures), form-statements _ (pre .0), display-fits (sizeIn (args .store .now)), says-length (inv .1 .says)))
 
 add-i : tie.Need-add-i Inv-loop μ-loop
 add-i c =
-    omega (arith, c .before .before .before .before .if1 .taken, loaded-statements _ _ (c .before .before .before .before .before .before .before .before .before .load .ensures), form-statements _ (c .before .before .before .before .before .before .before .before .before .before .before .before .pre .0))
+    let pre = c .before .before .before .before .before .before .before .before .before .before .before .before .pre in
+    let load = c .before .before .before .before .before .before .before .before .before .load in let if1 = c .before .before .before .before .if1 in
+    omega (arith, if1 .taken, loaded-statements _ _ (load .ensures), form-statements _ (pre .0))
 
 loop-less : tie.Need-loop-less Inv-loop μ-loop
 loop-less c =

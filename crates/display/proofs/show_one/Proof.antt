@@ -55,7 +55,12 @@ same-length c = search needs
 returns-3 : tie.Need-returns-3
 returns-3 c =
     let pre = c .before .before .before .before .before .before .before .before .before .before .before .before .before .before .before .before .pre in
-    one-shown _ _ (pre .1) (pre .2) _ _ (c .before .before .before .before .before .before .before .before .before .before .before .statement-at .ensures) (c .before .before .before .before .before .before .before .before .before .is-logged .ensures) _ _ (c .before .before .before .before .before .before .before .before .before .before .before .before .before .vote-in .ensures) (c .before .before .before .before .before .before .before .before .before .before .before .before .if1 .left) (c .before .before .before .before .before .before .before .before .if2 .left) (c .before .before .before .before .ticks-left .ensures) (c .before .before .show .ensures)
+    let vote-in = c .before .before .before .before .before .before .before .before .before .before .before .before .before .vote-in in
+    let if1 = c .before .before .before .before .before .before .before .before .before .before .before .before .if1 in
+    let statement-at = c .before .before .before .before .before .before .before .before .before .before .before .statement-at in
+    let is-logged = c .before .before .before .before .before .before .before .before .before .is-logged in
+    let if2 = c .before .before .before .before .before .before .before .before .if2 in let ticks-left = c .before .before .before .before .ticks-left in
+    one-shown _ _ (pre .1) (pre .2) _ _ (statement-at .ensures) (is-logged .ensures) _ _ (vote-in .ensures) (if1 .left) (if2 .left) (ticks-left .ensures) (c .before .before .show .ensures)
 
 pub show-one-spec : {M : Type 1} → statement M
 show-one-spec =

@@ -27,13 +27,18 @@ well-formed-requires c κs =
 returns-3 : tie.Need-returns-3
 returns-3 c =
     let a = c .before .before .before .before .before .before .before .before .args in
-    refused-formless (a .store .now) (a .out .now) (c .before .before .before .before .before .is-whole .ensures) (c .before .before .before .before .if1 .left) (omega (arith, c .before .before .if2 .left, c .before .before .before .least-out-in .ensures)) (c .before .well-formed .ensures) refl (c .if3 .taken)
+    let is-whole = c .before .before .before .before .before .is-whole in
+    let if1 = c .before .before .before .before .if1 in let least-out-in = c .before .before .before .least-out-in in
+    refused-formless (a .store .now) (a .out .now) (is-whole .ensures) (if1 .left) (omega (arith, c .before .before .if2 .left, least-out-in .ensures)) (c .before .well-formed .ensures) refl (c .if3 .taken)
 
 show-all-requires : tie.Need-show-all-requires
 show-all-requires c κs =
     let a = c .before .before .before .before .before .before .before .before .before .args in
-    let m = c .before .before .before .before .least-out-in .ensures in
-    (has-form (a .store .now) (a .out .now) (c .before .before .before .before .before .before .is-whole .ensures) (c .before .before .before .before .before .if1 .left) (omega (arith, c .before .before .before .if2 .left, m)) (c .before .before .well-formed .ensures) (c .before .before .before .before .before .before .before .before .shared-slice-known .given) (c .before .if3 .left), omega (arith, c .before .before .before .if2 .left, m))
+    let shared-slice-known = c .before .before .before .before .before .before .before .before .shared-slice-known in
+    let is-whole = c .before .before .before .before .before .before .is-whole in let if1 = c .before .before .before .before .before .if1 in
+    let least-out-in = c .before .before .before .before .least-out-in in let if2 = c .before .before .before .if2 in
+    let m = least-out-in .ensures in
+    (has-form (a .store .now) (a .out .now) (is-whole .ensures) (if1 .left) (omega (arith, if2 .left, m)) (c .before .before .well-formed .ensures) (shared-slice-known .given) (c .before .if3 .left), omega (arith, if2 .left, m))
 
 same-length : tie.Need-same-length
 same-length c = search needs
@@ -41,7 +46,12 @@ same-length c = search needs
 returns-4 : tie.Need-returns-4
 returns-4 c =
     let a = c .before .before .before .before .before .before .before .before .before .before .before .before .args in
-    gives-display (a .store .now) (a .out .now) (c .before .before .before .before .before .before .before .before .before .is-whole .ensures) (c .before .before .before .before .before .before .before .before .if1 .left) (omega (arith, c .before .before .before .before .before .before .if2 .left, c .before .before .before .before .before .before .before .least-out-in .ensures)) (c .before .before .before .before .before .well-formed .ensures) (c .before .before .before .before .before .before .before .before .before .before .before .shared-slice-known .given) (c .before .before .before .before .if3 .left) (c .before .before .show-all .ensures)
+    let shared-slice-known = c .before .before .before .before .before .before .before .before .before .before .before .shared-slice-known in
+    let is-whole = c .before .before .before .before .before .before .before .before .before .is-whole in
+    let if1 = c .before .before .before .before .before .before .before .before .if1 in
+    let least-out-in = c .before .before .before .before .before .before .before .least-out-in in let if2 = c .before .before .before .before .before .before .if2 in
+    let well-formed = c .before .before .before .before .before .well-formed in let if3 = c .before .before .before .before .if3 in
+    gives-display (a .store .now) (a .out .now) (is-whole .ensures) (if1 .left) (omega (arith, if2 .left, least-out-in .ensures)) (well-formed .ensures) (shared-slice-known .given) (if3 .left) (c .before .before .show-all .ensures)
 
 pub station-display-spec : {M : Type 1} → statement M
 station-display-spec =

@@ -28,14 +28,18 @@ returns-2 c =
 
 list-messages-requires : tie.Need-list-messages-requires
 list-messages-requires c κs =
-    (is-envelope _ (c .before .before .before .before .before .before .before .before .args .list .now) (c .before .before .before .before .before .if1 .left) (c .before .before .before .before .read-envelope .ensures) (c .before .before .count .given .1), c .before .before .before .before .before .if1 .left)
+    let args = c .before .before .before .before .before .before .before .before .args in let if1 = c .before .before .before .before .before .if1 in
+    let read-envelope = c .before .before .before .before .read-envelope in
+    (is-envelope _ (args .list .now) (if1 .left) (read-envelope .ensures) (c .before .before .count .given .1), if1 .left)
 
 same-length : tie.Need-same-length
 same-length c = search needs
 
 returns-3 : tie.Need-returns-3
 returns-3 c =
-    listed-all _ _ (c .before .before .before .before .before .before .before .before .if1 .left) (c .before .before .before .before .before .before .before .read-envelope .ensures) (c .before .before .before .before .before .count .given .1) (c .before .before .list-messages .ensures)
+    let if1 = c .before .before .before .before .before .before .before .before .if1 in
+    let read-envelope = c .before .before .before .before .before .before .before .read-envelope in let count = c .before .before .before .before .before .count in
+    listed-all _ _ (if1 .left) (read-envelope .ensures) (count .given .1) (c .before .before .list-messages .ensures)
 
 pub envelope-read-spec : {M : Type 1} → statement M
 envelope-read-spec =

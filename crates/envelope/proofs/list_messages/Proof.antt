@@ -61,9 +61,13 @@ add-put c =
 
 put-requires-2 : tie.Need-put-requires-2 Inv-loop μ-loop
 put-requires-2 c κs =
-    let l = c .before .before .before .before .before .before .before .before .before .loop .inv in
-    let n = message-sizes l (c .before .before .before .before .before .before .before .before .loop-test .taken) (c .before .before .before .before .before .before .if1 .left) in
-    omega (arith, l .few, l .room, l .same, c .before .before .before .before .before .before .before .before .before .before .before .before .pre .1, ap length (c .before .before .before .put .ensures), length-put (c .before .before .before .before .before .before .before .before .before .loop .list) (c .before .before .before .before .before .before .before .before .before .loop .to) 4 (c .before .before .before .before .before .before .before .before .before .loop .at + 3))
+    let pre = c .before .before .before .before .before .before .before .before .before .before .before .before .pre in
+    let loop = c .before .before .before .before .before .before .before .before .before .loop in
+    let loop-test = c .before .before .before .before .before .before .before .before .loop-test in let if1 = c .before .before .before .before .before .before .if1 in
+    let put = c .before .before .before .put in
+    let l = loop .inv in
+    let n = message-sizes l (loop-test .taken) (if1 .left) in
+    omega (arith, l .few, l .room, l .same, pre .1, ap length (put .ensures), length-put (loop .list) (loop .to) 4 (loop .at + 3))
 
 add-at : tie.Need-add-at Inv-loop μ-loop
 add-at c =
@@ -85,7 +89,11 @@ loop-less-2 c =
 
 loop-again-2 : tie.Need-loop-again-2 Inv-loop μ-loop
 loop-again-2 c =
-    walk-message (c .before .before .before .before .before .before .before .before .before .before .before .before .loop .inv) (c .before .before .before .before .before .before .before .before .before .before .before .loop-test .taken) (c .before .before .before .before .before .before .before .before .before .if1 .left) (c .before .before .before .before .before .before .before .before .get .ensures .0) (c .before .before .before .before .before .before .put .ensures) (c .before .before .put2 .ensures)
+    let loop = c .before .before .before .before .before .before .before .before .before .before .before .before .loop in
+    let loop-test = c .before .before .before .before .before .before .before .before .before .before .before .loop-test in
+    let if1 = c .before .before .before .before .before .before .before .before .before .if1 in let get = c .before .before .before .before .before .before .before .before .get in
+    let put = c .before .before .before .before .before .before .put in
+    walk-message (loop .inv) (loop-test .taken) (if1 .left) (get .ensures .0) (put .ensures) (c .before .before .put2 .ensures)
 
 same-length : tie.Need-same-length Inv-loop μ-loop
 same-length c = c .before .loop .inv .same

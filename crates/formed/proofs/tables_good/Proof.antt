@@ -29,11 +29,15 @@ few-opened-requires c κs = search needs
 
 returns-2 : tie.Need-returns-2
 returns-2 c =
+    let args = c .before .before .before .before .before .before .before .before .before .before .before .before .before .args in
+    let good-and-apart = c .before .before .before .before .before .before .before .before .good-and-apart in
+    let if1 = c .before .before .before .before .before .before .before .if1 in let there-and-apart = c .before .before .before .before .there-and-apart in
+    let all-good = c .before .before .before .all-good in
     let linked = c .before .is-linked .ensures in
     record {
       is =
-          rw (c .before .before .before .before .there-and-apart .ensures, c .before .before .before .all-good .ensures, linked .is, c .few-opened .ensures)
-          (tables-then (settingsOf (c .before .before .before .before .before .before .before .before .before .before .before .before .before .args .station .settings)) _ _ _ (c .before .before .before .before .before .before .before .before .good-and-apart .ensures .is) (c .before .before .before .before .before .before .before .if1 .left));
+          rw (there-and-apart .ensures, all-good .ensures, linked .is, c .few-opened .ensures)
+          (tables-then (settingsOf (args .station .settings)) _ _ _ (good-and-apart .ensures .is) (if1 .left));
       told = λ q. linked .told;
     }
 

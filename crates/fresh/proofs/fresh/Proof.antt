@@ -52,25 +52,34 @@ starting-requires c κs = search needs
 
 save-requires : tie.Need-save-requires
 save-requires c κs =
+    let is-whole = c .before .before .before .before .before .before .before .before .before .before .before .before .before .is-whole in
+    let if1 = c .before .before .before .before .before .before .before .before .before .before .before .before .if1 in let clear = c .before .before .before .before .clear in
     let start = c .before .before .before .before .before .before .before .before .before .before .before .before .before .before .before .before in
     let b = start .args .store .now in
-    let l = eqb-true (length b) (storeLength (sizeIn b)) (sym (c .before .before .before .before .before .before .before .before .before .before .before .before .before .is-whole .ensures) ∙ not-false _ (c .before .before .before .before .before .before .before .before .before .before .before .before .if1 .left)) in
-    omega (arith, l, c .before .before .before .before .clear .kept .0)
+    let l = eqb-true (length b) (storeLength (sizeIn b)) (sym (is-whole .ensures) ∙ not-false _ (if1 .left)) in
+    omega (arith, l, clear .kept .0)
 
 same-length-3 : tie.Need-same-length-3
 same-length-3 c = search needs
 
 returns-3 : tie.Need-returns-3
 returns-3 c =
+    let slice-known = c .before .before .before .before .before .before .before .before .before .before .before .before .before .before .before .before .before .before .slice-known in
+    let is-whole = c .before .before .before .before .before .before .before .before .before .before .before .before .before .before .before .before .is-whole in
+    let if1 = c .before .before .before .before .before .before .before .before .before .before .before .before .before .before .before .if1 in
+    let size-in = c .before .before .before .before .before .before .before .before .before .before .before .before .before .size-in in
+    let made = c .before .before .before .before .before .before .before .before .before .before .before .before .new in
+    let settings = c .before .before .before .before .before .before .before .before .before .before .settings in
+    let clear = c .before .before .before .before .before .before .before .clear in let starting = c .before .before .before .before .starting in
     let start = c .before .before .before .before .before .before .before .before .before .before .before .before .before .before .before .before .before .before .before in
     let a = start .args in
-    let y = c .before .before .before .before .before .before .before .before .before .before .before .before .before .size-in .result in
-    let same = c .before .before .before .before .before .before .before .before .before .before .before .before .before .size-in .ensures in
+    let y = size-in .result in
+    let same = size-in .ensures in
     let b = start .args .store .now in
-    let l = eqb-true (length b) (storeLength (sizeIn b)) (sym (c .before .before .before .before .before .before .before .before .before .before .before .before .before .before .before .before .is-whole .ensures) ∙ not-false _ (c .before .before .before .before .before .before .before .before .before .before .before .before .before .before .before .if1 .left)) in
-    let m = made-good (a .store .now) (a .n) (a .d) (a .own) y same _ (sym (c .before .before .before .before .before .before .before .before .before .before .before .before .new .ensures .0) ∙ c .before .before .before .before .before .before .before .before .before .before .settings .given .1) in
+    let l = eqb-true (length b) (storeLength (sizeIn b)) (sym (is-whole .ensures) ∙ not-false _ (if1 .left)) in
+    let m = made-good (a .store .now) (a .n) (a .d) (a .own) y same _ (sym (made .ensures .0) ∙ settings .given .1) in
     made-fresh (a .store .now) (a .n) (a .d) (a .own) y same l (m .0)
-    (rw (c .before .before .save .ensures, c .before .before .before .before .starting .ensures, c .before .before .before .before .before .before .before .clear .ensures, l, m .1) (fresh-left (a .store .now) (c .before .before .before .before .before .before .before .before .before .before .before .before .before .before .before .before .before .before .slice-known .given) l _ (m .0) same))
+    (rw (c .before .before .save .ensures, starting .ensures, clear .ensures, l, m .1) (fresh-left (a .store .now) (slice-known .given) l _ (m .0) same))
 
 pub fresh-spec : {M : Type 1} → statement M
 fresh-spec =

@@ -27,28 +27,59 @@ same-length : tie.Need-same-length
 same-length c = search needs
 
 returns : tie.Need-returns
-returns c = let a = c .before .before .before .before .before .before .before .before .args in settings-refused (a .list .now) (a .n) (a .d) (a .own) (sym (c .before .before .before .before .before .has-length .ensures) ∙ c .before .before .before .before .if1 .taken) (made-bad (a .n) (a .d) (a .own) (c .before .before .before .new .ensures .0) (c .before .enum-told2 .given .1)) (c .refuse .ensures)
+returns c =
+    let args = c .before .before .before .before .before .before .before .before .args in let has-length = c .before .before .before .before .before .has-length in
+    let if1 = c .before .before .before .before .if1 in let made = c .before .before .before .new in
+    settings-refused (args .list .now) (args .n) (args .d) (args .own) (sym (has-length .ensures) ∙ if1 .taken) (made-bad (args .n) (args .d) (args .own) (made .ensures .0) (c .before .enum-told2 .given .1)) (c .refuse .ensures)
 
 put-requires : tie.Need-put-requires
 put-requires c κs = omega (arith, lengths (c .before .before .before .before .before .before .before .before .args .list .now) (sym (c .before .before .before .before .before .has-length .ensures) ∙ c .before .before .before .before .if1 .taken) .0)
 
 put-requires-2 : tie.Need-put-requires-2
-put-requires-2 c κs = omega (arith, lengths (c .before .before .before .before .before .before .before .before .before .before .before .before .args .list .now) (sym (c .before .before .before .before .before .before .before .before .before .has-length .ensures) ∙ c .before .before .before .before .before .before .before .before .if1 .taken) .0, c .before .before .before .put .kept .0)
+put-requires-2 c κs =
+    let args = c .before .before .before .before .before .before .before .before .before .before .before .before .args in
+    let has-length = c .before .before .before .before .before .before .before .before .before .has-length in
+    let if1 = c .before .before .before .before .before .before .before .before .if1 in let put = c .before .before .before .put in
+    omega (arith, lengths (args .list .now) (sym (has-length .ensures) ∙ if1 .taken) .0, put .kept .0)
 
 put-requires-3 : tie.Need-put-requires-3
-put-requires-3 c κs = omega (arith, lengths (c .before .before .before .before .before .before .before .before .before .before .before .before .before .before .before .before .args .list .now) (sym (c .before .before .before .before .before .before .before .before .before .before .before .before .before .has-length .ensures) ∙ c .before .before .before .before .before .before .before .before .before .before .before .before .if1 .taken) .0, c .before .before .before .before .before .before .before .put .kept .0, c .before .before .before .put2 .kept .0)
+put-requires-3 c κs =
+    let args = c .before .before .before .before .before .before .before .before .before .before .before .before .before .before .before .before .args in
+    let has-length = c .before .before .before .before .before .before .before .before .before .before .before .before .before .has-length in
+    let if1 = c .before .before .before .before .before .before .before .before .before .before .before .before .if1 in
+    let put = c .before .before .before .before .before .before .before .put in let put2 = c .before .before .before .put2 in
+    omega (arith, lengths (args .list .now) (sym (has-length .ensures) ∙ if1 .taken) .0, put .kept .0, put2 .kept .0)
 
 sub-rest : tie.Need-sub-rest
-sub-rest c = omega (arith, lengths (c .before .before .before .before .before .before .before .before .before .before .before .before .before .before .before .before .before .before .before .args .list .now) (sym (c .before .before .before .before .before .before .before .before .before .before .before .before .before .before .before .before .has-length .ensures) ∙ c .before .before .before .before .before .before .before .before .before .before .before .before .before .before .before .if1 .taken) .0, c .before .before .before .before .before .before .before .before .before .before .put .kept .0, c .before .before .before .before .before .before .put2 .kept .0, c .before .before .put3 .kept .0)
+sub-rest c =
+    let args = c .before .before .before .before .before .before .before .before .before .before .before .before .before .before .before .before .before .before .before .args in
+    let has-length = c .before .before .before .before .before .before .before .before .before .before .before .before .before .before .before .before .has-length in
+    let if1 = c .before .before .before .before .before .before .before .before .before .before .before .before .before .before .before .if1 in
+    let put = c .before .before .before .before .before .before .before .before .before .before .put in let put2 = c .before .before .before .before .before .before .put2 in
+    omega (arith, lengths (args .list .now) (sym (has-length .ensures) ∙ if1 .taken) .0, put .kept .0, put2 .kept .0, c .before .before .put3 .kept .0)
 
 clear-requires : tie.Need-clear-requires
-clear-requires c κs = omega (arith, lengths (c .before .before .before .before .before .before .before .before .before .before .before .before .before .before .before .before .before .before .before .before .args .list .now) (sym (c .before .before .before .before .before .before .before .before .before .before .before .before .before .before .before .before .before .has-length .ensures) ∙ c .before .before .before .before .before .before .before .before .before .before .before .before .before .before .before .before .if1 .taken) .0, c .before .before .before .before .before .before .before .before .before .before .before .put .kept .0, c .before .before .before .before .before .before .before .put2 .kept .0, c .before .before .before .put3 .kept .0)
+clear-requires c κs =
+    let args = c .before .before .before .before .before .before .before .before .before .before .before .before .before .before .before .before .before .before .before .before .args in
+    let has-length = c .before .before .before .before .before .before .before .before .before .before .before .before .before .before .before .before .before .has-length in
+    let if1 = c .before .before .before .before .before .before .before .before .before .before .before .before .before .before .before .before .if1 in
+    let put = c .before .before .before .before .before .before .before .before .before .before .before .put in
+    let put2 = c .before .before .before .before .before .before .before .put2 in let put3 = c .before .before .before .put3 in
+    omega (arith, lengths (args .list .now) (sym (has-length .ensures) ∙ if1 .taken) .0, put .kept .0, put2 .kept .0, put3 .kept .0)
 
 same-length-2 : tie.Need-same-length-2
 same-length-2 c = search needs
 
 returns-2 : tie.Need-returns-2
-returns-2 c = let a = c .before .before .before .before .before .before .before .before .before .before .before .before .before .before .before .before .before .before .before .before .before .before .before .args in is-fresh (a .list .now) (a .n) (a .d) (a .own) (sym (c .before .before .before .before .before .before .before .before .before .before .before .before .before .before .before .before .before .before .before .before .has-length .ensures) ∙ c .before .before .before .before .before .before .before .before .before .before .before .before .before .before .before .before .before .before .before .if1 .taken) (made-good (a .n) (a .d) (a .own) (c .before .before .before .before .before .before .before .before .before .before .before .before .before .before .before .before .before .before .new .ensures .0) (c .before .before .before .before .before .before .before .before .before .before .before .before .before .before .before .before .enum-told .given .1)) (c .before .before .before .before .before .before .before .before .before .before .before .before .before .before .put .ensures) (c .before .before .before .before .before .before .before .before .before .before .put2 .ensures) (c .before .before .before .before .before .before .put3 .ensures) refl (c .before .before .clear .ensures)
+returns-2 c =
+    let args = c .before .before .before .before .before .before .before .before .before .before .before .before .before .before .before .before .before .before .before .before .before .before .before .args in
+    let has-length = c .before .before .before .before .before .before .before .before .before .before .before .before .before .before .before .before .before .before .before .before .has-length in
+    let if1 = c .before .before .before .before .before .before .before .before .before .before .before .before .before .before .before .before .before .before .before .if1 in
+    let made = c .before .before .before .before .before .before .before .before .before .before .before .before .before .before .before .before .before .before .new in
+    let enum-told = c .before .before .before .before .before .before .before .before .before .before .before .before .before .before .before .before .enum-told in
+    let put = c .before .before .before .before .before .before .before .before .before .before .before .before .before .before .put in
+    let put2 = c .before .before .before .before .before .before .before .before .before .before .put2 in let put3 = c .before .before .before .before .before .before .put3 in
+    is-fresh (args .list .now) (args .n) (args .d) (args .own) (sym (has-length .ensures) ∙ if1 .taken) (made-good (args .n) (args .d) (args .own) (made .ensures .0) (enum-told .given .1)) (put .ensures) (put2 .ensures) (put3 .ensures) refl (c .before .before .clear .ensures)
 
 refuse-requires-2 : tie.Need-refuse-requires-2
 refuse-requires-2 c κs = search needs

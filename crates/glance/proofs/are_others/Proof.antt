@@ -45,7 +45,9 @@ is-of-view-requires-4 c κs =
 
 returns-4 : tie.Need-returns-4
 returns-4 c =
-    four-others _ _ _ _ (c .is-of-view4 .ensures) (not-this (c .before .before .is-of-view3 .ensures) (c .before .if3 .left)) (not-this (c .before .before .before .before .is-of-view2 .ensures) (c .before .before .before .if2 .left)) (not-this (c .before .before .before .before .before .before .is-of-view .ensures) (c .before .before .before .before .before .if1 .left))
+    let is-of-view = c .before .before .before .before .before .before .is-of-view in let if1 = c .before .before .before .before .before .if1 in
+    let is-of-view2 = c .before .before .before .before .is-of-view2 in let if2 = c .before .before .before .if2 in
+    four-others _ _ _ _ (c .is-of-view4 .ensures) (not-this (c .before .before .is-of-view3 .ensures) (c .before .if3 .left)) (not-this (is-of-view2 .ensures) (if2 .left)) (not-this (is-of-view .ensures) (if1 .left))
 
 pub are-others-spec : {M : Type 1} → statement M
 are-others-spec =

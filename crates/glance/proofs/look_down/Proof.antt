@@ -99,7 +99,9 @@ loop-less-5 c =
 
 loop-again-5 : tie.Need-loop-again-5 Inv-loop μ-loop
 loop-again-5 c =
-    looking-not (c .before .before .before .before .before .before .before .before .before .loop .inv) (omega arith) (sym (c .if5 .taken) ∙ c .before .voted-at2 .ensures ∙ vote-own _ _ _ (of-view (c .before .before .before .before .before .before .before .is-of-view .ensures) (c .before .before .before .before .before .before .if1 .left)) (λ e. c .before .before .if4 .left (c .before .before .before .kind-at .ensures ∙ e)))
+    let loop = c .before .before .before .before .before .before .before .before .before .loop in let is-of-view = c .before .before .before .before .before .before .before .is-of-view in
+    let if1 = c .before .before .before .before .before .before .if1 in let kind-at = c .before .before .before .kind-at in
+    looking-not (loop .inv) (omega arith) (sym (c .if5 .taken) ∙ c .before .voted-at2 .ensures ∙ vote-own _ _ _ (of-view (is-of-view .ensures) (if1 .left)) (λ e. c .before .before .if4 .left (kind-at .ensures ∙ e)))
 
 add-votes-2 : tie.Need-add-votes-2 Inv-loop μ-loop
 add-votes-2 c =
@@ -118,7 +120,10 @@ loop-less-6 c =
 
 loop-again-6 : tie.Need-loop-again-6 Inv-loop μ-loop
 loop-again-6 c =
-    looking-early (c .before .before .before .before .before .before .before .before .before .before .loop .inv) (omega arith) _ (c .before .before .voted-at2 .ensures ∙ vote-own _ _ _ (of-view (c .before .before .before .before .before .before .before .before .is-of-view .ensures) (c .before .before .before .before .before .before .before .if1 .left)) (λ e. c .before .before .before .if4 .left (c .before .before .before .before .kind-at .ensures ∙ e))) (c .before .if5 .left) (c .if6 .taken)
+    let loop = c .before .before .before .before .before .before .before .before .before .before .loop in
+    let is-of-view = c .before .before .before .before .before .before .before .before .is-of-view in let if1 = c .before .before .before .before .before .before .before .if1 in
+    let kind-at = c .before .before .before .before .kind-at in
+    looking-early (loop .inv) (omega arith) _ (c .before .before .voted-at2 .ensures ∙ vote-own _ _ _ (of-view (is-of-view .ensures) (if1 .left)) (λ e. c .before .before .before .if4 .left (kind-at .ensures ∙ e))) (c .before .if5 .left) (c .if6 .taken)
 
 loop-less-7 : tie.Need-loop-less-7 Inv-loop μ-loop
 loop-less-7 c =
@@ -126,7 +131,10 @@ loop-less-7 c =
 
 loop-again-7 : tie.Need-loop-again-7 Inv-loop μ-loop
 loop-again-7 c =
-    looking-fresh (c .before .before .before .before .before .before .before .before .before .before .loop .inv) (omega arith) _ (c .before .before .voted-at2 .ensures ∙ vote-own _ _ _ (of-view (c .before .before .before .before .before .before .before .before .is-of-view .ensures) (c .before .before .before .before .before .before .before .if1 .left)) (λ e. c .before .before .before .if4 .left (c .before .before .before .before .kind-at .ensures ∙ e))) (c .before .if5 .left)
+    let loop = c .before .before .before .before .before .before .before .before .before .before .loop in
+    let is-of-view = c .before .before .before .before .before .before .before .before .is-of-view in let if1 = c .before .before .before .before .before .before .before .if1 in
+    let kind-at = c .before .before .before .before .kind-at in
+    looking-fresh (loop .inv) (omega arith) _ (c .before .before .voted-at2 .ensures ∙ vote-own _ _ _ (of-view (is-of-view .ensures) (if1 .left)) (λ e. c .before .before .before .if4 .left (kind-at .ensures ∙ e))) (c .before .if5 .left)
 
 returns : tie.Need-returns Inv-loop μ-loop
 returns c =

@@ -21,7 +21,9 @@ certificate-allowed-requires c κs = search needs
 
 returns : tie.Need-returns
 returns c =
-    rw (c .before .before .before .before .before .block-allowed .ensures, c .before .before .certificate-allowed .ensures) (lock-is (c .before .before .before .before .before .before .before .before .before .before .args .station) (c .before .before .before .before .before .before .struct-known .given .1 .1 .0))
+    let args = c .before .before .before .before .before .before .before .before .before .before .args in
+    let struct-known = c .before .before .before .before .before .before .struct-known in let block-allowed = c .before .before .before .before .before .block-allowed in
+    rw (block-allowed .ensures, c .before .before .certificate-allowed .ensures) (lock-is (args .station) (struct-known .given .1 .1 .0))
 
 pub lock-good-spec : {M : Type 1} → statement M
 lock-good-spec =

@@ -43,8 +43,9 @@ loop-less c = search needs
 
 loop-again : tie.Need-loop-again Inv-loop μ-loop
 loop-again c =
+    let args = c .before .before .before .before .before .args in
     let at = c .before .before .before .loop in
-    let w = c .before .before .before .before .before .args .word .now in
+    let w = args .word .now in
     (omega arith, omega (arith, pow-suc 16 (at .i), ap (λ (n : ℕ). 16 ^ n) (add-one (at .i))), at .inv .2 ∙ value-step 16 (at .value) w (at .i) (omega arith) ∙ ap (λ (d : ℕ). said 16 (at .value * 16 + d) (drop (at .i + 1) w)) (sym (c .wide .ensures .0)))
 
 returns : tie.Need-returns Inv-loop μ-loop

@@ -84,8 +84,17 @@ hex-number-requires-4 c κs =
 
 returns-4 : tie.Need-returns-4
 returns-4 c =
-    let w = c .before .before .before .before .before .before .before .before .before .before .before .before .before .before .before .before .args .word .now in
-    sym (name-is w (c .before .before .before .before .before .before .before .before .before .before .before .before .before .before .if1 .left) (c .before .before .before .before .before .before .before .before .before .before .before .before .before .if2 .left) (sym (c .before .before .before .before .before .before .before .before .before .before .before .before .all-hex .ensures) ∙ not-false _ (c .before .before .before .before .before .before .before .before .before .before .before .if3 .left)) ∙ ap some (sym (name-words w _ _ _ _ (c .before .before .before .before .before .before .before .before .before .before .before .before .before .if2 .left) (c .before .before .before .before .before .before .before .before .before .before .back .ensures) (c .before .before .before .before .before .before .before .before .before .back2 .ensures) (c .before .before .before .before .before .before .before .before .back3 .ensures) (c .before .before .before .before .before .before .hex-number .ensures) (c .before .before .before .before .hex-number2 .ensures) (c .before .before .hex-number3 .ensures) (c .hex-number4 .ensures))))
+    let args = c .before .before .before .before .before .before .before .before .before .before .before .before .before .before .before .before .args in
+    let if1 = c .before .before .before .before .before .before .before .before .before .before .before .before .before .before .if1 in
+    let if2 = c .before .before .before .before .before .before .before .before .before .before .before .before .before .if2 in
+    let all-hex = c .before .before .before .before .before .before .before .before .before .before .before .before .all-hex in
+    let if3 = c .before .before .before .before .before .before .before .before .before .before .before .if3 in
+    let back = c .before .before .before .before .before .before .before .before .before .before .back in
+    let back2 = c .before .before .before .before .before .before .before .before .before .back2 in
+    let back3 = c .before .before .before .before .before .before .before .before .back3 in let hex-number = c .before .before .before .before .before .before .hex-number in
+    let hex-number2 = c .before .before .before .before .hex-number2 in
+    let w = args .word .now in
+    sym (name-is w (if1 .left) (if2 .left) (sym (all-hex .ensures) ∙ not-false _ (if3 .left)) ∙ ap some (sym (name-words w _ _ _ _ (if2 .left) (back .ensures) (back2 .ensures) (back3 .ensures) (hex-number .ensures) (hex-number2 .ensures) (c .before .before .hex-number3 .ensures) (c .hex-number4 .ensures))))
 
 pub name-spec : {M : Type 1} → statement M
 name-spec =

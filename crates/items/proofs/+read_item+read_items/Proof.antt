@@ -82,11 +82,15 @@ module _ (t : ℕ) where
 
   read-item-returns-3 : read-item-lts.Need-returns-3 (item-claims t) (read-item-at t) read-item.Post
   read-item-returns-3 c =
-      first-message _ _ (c .before .before .before .before .before .before .get .ensures .0) (let h = c .before .before .before .before .before .if2 .left in omega arith) (let e : (3 + c .before .before .before .before .before .before .get .result) - 3 ≡ c .before .before .before .before .before .before .get .result = omega arith in e) (c .before .is-readable .ensures) (c .before .before .before .if3 .taken) (c .if4 .taken)
+      let get = c .before .before .before .before .before .before .get in let h = c .before .before .before .before .before .if2 .left in
+      let e : (3 + get .result) - 3 ≡ get .result = omega arith in
+      first-message _ _ (get .ensures .0) (omega arith) e (c .before .is-readable .ensures) (c .before .before .before .if3 .taken) (c .if4 .taken)
 
   read-item-returns-4 : read-item-lts.Need-returns-4 (item-claims t) (read-item-at t) read-item.Post
   read-item-returns-4 c =
-      first-unreadable _ _ (c .before .before .before .before .before .before .get .ensures .0) (let h = c .before .before .before .before .before .if2 .left in omega arith) (let e : (3 + c .before .before .before .before .before .before .get .result) - 3 ≡ c .before .before .before .before .before .before .get .result = omega arith in e) (c .before .is-readable .ensures) (c .before .before .before .if3 .taken) (c .if4 .left)
+      let get = c .before .before .before .before .before .before .get in let h = c .before .before .before .before .before .if2 .left in
+      let e : (3 + get .result) - 3 ≡ get .result = omega arith in
+      first-unreadable _ _ (get .ensures .0) (omega arith) e (c .before .is-readable .ensures) (c .before .before .before .if3 .taken) (c .if4 .left)
 
   read-item-returns-5 : read-item-lts.Need-returns-5 (item-claims t) (read-item-at t) read-item.Post
   read-item-returns-5 c =
@@ -122,11 +126,17 @@ module _ (t : ℕ) where
 
   read-item-returns-7 : read-item-lts.Need-returns-7 (item-claims t) (read-item-at t) read-item.Post
   read-item-returns-7 c =
-      first-broken _ _ (c .before .before .before .before .before .before .before .before .before .get .ensures .0) (let h = c .before .before .before .before .before .before .before .before .if2 .left in omega arith) (let e : (3 + c .before .before .before .before .before .before .before .before .before .get .result) - 3 ≡ c .before .before .before .before .before .before .before .before .before .get .result = omega arith in e) (c .before .before .before .before .before .if5 .left) (let h = c .before .before .before .before .if6 .left in omega arith) (c .before .before .read-items .ensures) (c .enum-told .given .1)
+      let get = c .before .before .before .before .before .before .before .before .before .get in let h = c .before .before .before .before .before .before .before .before .if2 .left in
+      let more = c .before .before .before .before .if6 .left in
+      let e : (3 + get .result) - 3 ≡ get .result = omega arith in
+      first-broken _ _ (get .ensures .0) (omega arith) e (c .before .before .before .before .before .if5 .left) (omega arith) (c .before .before .read-items .ensures) (c .enum-told .given .1)
 
   read-item-returns-8 : read-item-lts.Need-returns-8 (item-claims t) (read-item-at t) read-item.Post
   read-item-returns-8 c =
-      first-envelope _ _ (c .before .before .before .before .before .before .before .before .before .before .get .ensures .0) (let h = c .before .before .before .before .before .before .before .before .before .if2 .left in omega arith) (let e : (3 + c .before .before .before .before .before .before .before .before .before .before .get .result) - 3 ≡ c .before .before .before .before .before .before .before .before .before .before .get .result = omega arith in e) (c .before .before .before .before .before .before .if5 .left) (let h = c .before .before .before .before .before .if6 .left in omega arith) (c .before .before .before .read-items .ensures) (c .before .count .given .1)
+      let get = c .before .before .before .before .before .before .before .before .before .before .get in let h = c .before .before .before .before .before .before .before .before .before .if2 .left in
+      let more = c .before .before .before .before .before .if6 .left in
+      let e : (3 + get .result) - 3 ≡ get .result = omega arith in
+      first-envelope _ _ (get .ensures .0) (omega arith) e (c .before .before .before .before .before .before .if5 .left) (omega arith) (c .before .before .before .read-items .ensures) (c .before .count .given .1)
 
 abbrev read-items-Inv-loop : read-items-lts.InvT-loop
 read-items-Inv-loop s depth at₀ messages₀ at messages =

@@ -1,8 +1,10 @@
 -- `journal_write` meets its contract, test by test. Assumes nothing.
-use Prim.Native.Nat.{_+_, _*_}
+use Prim.Native.Nat.{_+_, _*_, _≤_}
 use mathlib.Core.Path.{_∙_}
 use native.Mathlib.Omega.{arith}
+use lib.ListN.{length}
 use borrow.Rule.Slice.PartMut.{mid-len}
+use Rattle.slots.specs.Slots.{slotLength}
 use Rattle.journal.proofs.Rooms.{slot-count}
 use Rattle.journal.proofs.Writing.{too-long, no-input, no-room, place-within, may-write, is-written}
 use borrow.Author.Needs.{needs}
@@ -36,15 +38,21 @@ same-length c = search needs
 
 returns-2 : tie.Need-returns-2
 returns-2 c =
-    let a = c .before .before .before .before .before .before .before .before .before .before .args in no-room (a .journal .now) (a .kind) (a .input .now) (slot-count (a .journal .now)) (c .before .before .before .before .before .before .before .if1 .left) (c .before .before .before .before .before .before .is-input .ensures) (c .before .before .before .before .before .if2 .taken) (c .before .before .before .find-room .ensures) (c .before .enum-told .given .1) (c .refuse2 .ensures)
+    let a = c .before .before .before .before .before .before .before .before .before .before .args in let if1 = c .before .before .before .before .before .before .before .if1 in
+    let is-input = c .before .before .before .before .before .before .is-input in let if2 = c .before .before .before .before .before .if2 in
+    no-room _ (a .kind) (a .input .now) (slot-count (a .journal .now)) (if1 .left) (is-input .ensures) (if2 .taken) (c .before .before .before .find-room .ensures) (c .before .enum-told .given .1) (c .refuse2 .ensures)
+
+-- the slot that was found lies within the journal, once the room is taken apart
+fits : (k : tie.After-records) → k .records .given .0 .1 .0 * slotLength + slotLength ≤ length (k .before .before .before .before .before .before .before .before .before .args .journal .now)
+fits k =
+    let a = k .before .before .before .before .before .before .before .before .before .args in
+    place-within _ (a .kind) (a .input .now) (slot-count (a .journal .now)) (k .before .before .before .before .before .before .if1 .left) (k .before .before .before .before .before .is-input .ensures) (k .before .before .before .before .if2 .taken) (k .before .before .find-room .ensures) (k .records .given .1) .2
 
 mul-at : tie.Need-mul-at
-mul-at c =
-    let a = c .before .before .before .before .before .before .before .before .before .before .args in let w = place-within (a .journal .now) (a .kind) (a .input .now) (slot-count (a .journal .now)) (c .before .before .before .before .before .before .before .if1 .left) (c .before .before .before .before .before .before .is-input .ensures) (c .before .before .before .before .before .if2 .taken) (c .before .before .before .find-room .ensures) (c .before .records .given .1) in omega (arith, w .2, c .before .before .before .before .before .before .before .before .before .before .good .0 .0)
+mul-at c = omega (arith, fits (c .before), c .before .before .before .before .before .before .before .before .before .before .good .0 .0)
 
 add-end : tie.Need-add-end
-add-end c =
-    let a = c .before .before .before .before .before .before .before .before .before .before .args in let w = place-within (a .journal .now) (a .kind) (a .input .now) (slot-count (a .journal .now)) (c .before .before .before .before .before .before .before .if1 .left) (c .before .before .before .before .before .before .is-input .ensures) (c .before .before .before .before .before .if2 .taken) (c .before .before .before .find-room .ensures) (c .before .records .given .1) in omega (arith, w .2, c .before .before .before .before .before .before .before .before .before .before .good .0 .0)
+add-end c = omega (arith, fits (c .before), c .before .before .before .before .before .before .before .before .before .before .good .0 .0)
 
 sub-write-record : tie.Need-sub-write-record
 sub-write-record c = search needs
@@ -53,19 +61,24 @@ part-write-record-start : tie.Need-part-write-record-start
 part-write-record-start c = search needs
 
 part-write-record-end : tie.Need-part-write-record-end
-part-write-record-end c =
-    let a = c .before .before .before .before .before .before .before .before .before .before .args in let w = place-within (a .journal .now) (a .kind) (a .input .now) (slot-count (a .journal .now)) (c .before .before .before .before .before .before .before .if1 .left) (c .before .before .before .before .before .before .is-input .ensures) (c .before .before .before .before .before .if2 .taken) (c .before .before .before .find-room .ensures) (c .before .records .given .1) in w .2
+part-write-record-end c = fits (c .before)
 
 write-record-requires : tie.Need-write-record-requires
 write-record-requires c κs =
-    let a = c .before .before .before .before .before .before .before .before .before .before .before .args in let w = place-within (a .journal .now) (a .kind) (a .input .now) (slot-count (a .journal .now)) (c .before .before .before .before .before .before .before .before .if1 .left) (c .before .before .before .before .before .before .before .is-input .ensures) (c .before .before .before .before .before .before .if2 .taken) (c .before .before .before .before .find-room .ensures) (c .before .before .records .given .1) in let m = may-write (a .journal .now) (a .kind) (a .input .now) (slot-count (a .journal .now)) (c .before .before .before .before .before .before .before .before .if1 .left) (c .before .before .before .before .before .before .before .is-input .ensures) (c .before .before .before .before .before .before .if2 .taken) (c .before .before .before .before .find-room .ensures) (c .before .before .records .given .1) in (mid-len (c .before .before .records .given .0 .1 .0 * 128) (c .before .before .records .given .0 .1 .0 * 128 + 128) (a .journal .now) (w .2) ∙ omega arith, m .0, m .1, m .2)
+    let k = c .before .before in let a = k .before .before .before .before .before .before .before .before .before .args in
+    let m = may-write _ (a .kind) (a .input .now) (slot-count (a .journal .now)) (k .before .before .before .before .before .before .if1 .left) (k .before .before .before .before .before .is-input .ensures) (k .before .before .before .before .if2 .taken) (k .before .before .find-room .ensures) (k .records .given .1) in
+    let p = k .records .given .0 .1 .0 in
+    (mid-len (p * 128) (p * 128 + 128) (a .journal .now) (fits k) ∙ omega arith, m .0, m .1, m .2)
 
 same-length-2 : tie.Need-same-length-2
 same-length-2 c = search needs
 
 returns-3 : tie.Need-returns-3
 returns-3 c =
-    let a = c .before .before .before .before .before .before .before .before .before .before .before .before .before .before .args in is-written (a .journal .now) (a .kind) (a .input .now) (slot-count (a .journal .now)) (c .before .before .before .before .before .before .before .before .before .before .before .if1 .left) (c .before .before .before .before .before .before .before .before .before .before .is-input .ensures) (c .before .before .before .before .before .before .before .before .before .if2 .taken) (c .before .before .before .before .before .before .before .find-room .ensures) (c .before .before .before .before .before .records .given .1) (c .before .before .write-record .ensures)
+    let a = c .before .before .before .before .before .before .before .before .before .before .before .before .before .before .args in let if1 = c .before .before .before .before .before .before .before .before .before .before .before .if1 in
+    let is-input = c .before .before .before .before .before .before .before .before .before .before .is-input in let if2 = c .before .before .before .before .before .before .before .before .before .if2 in
+    let find-room = c .before .before .before .before .before .before .before .find-room in let records = c .before .before .before .before .before .records in
+    is-written _ (a .kind) (a .input .now) (slot-count (a .journal .now)) (if1 .left) (is-input .ensures) (if2 .taken) (find-room .ensures) (records .given .1) (c .before .before .write-record .ensures)
 
 refuse-requires-3 : tie.Need-refuse-requires-3
 refuse-requires-3 c κs = search needs

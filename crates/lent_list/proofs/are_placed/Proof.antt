@@ -37,7 +37,9 @@ loop-less : tie.Need-loop-less Inv-loop μ-loop
 loop-less c = search needs
 
 loop-again : tie.Need-loop-again Inv-loop μ-loop
-loop-again c = (omega arith, c .before .before .before .loop .inv .1, placed-next _ _ (c .before .before .before .loop .inv .1) _ (c .before .before .before .loop .inv .2) (c .before .before .loop-test .taken) (c .before .is-placed .ensures) (not-false _ (c .if1 .left)))
+loop-again c =
+    let loop = c .before .before .before .loop in
+    (omega arith, loop .inv .1, placed-next _ _ (loop .inv .1) _ (loop .inv .2) (c .before .before .loop-test .taken) (c .before .is-placed .ensures) (not-false _ (c .if1 .left)))
 
 returns-2 : tie.Need-returns-2 Inv-loop μ-loop
 returns-2 c = placed-ends _ _ (c .before .loop .inv .1) _ (c .before .loop .inv .2) (c .loop-test .left)

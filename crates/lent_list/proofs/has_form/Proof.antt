@@ -20,7 +20,9 @@ enum-told-2 : tie.Need-enum-told-2
 enum-told-2 c = search needs
 
 returns : tie.Need-returns
-returns c = let l = c .before .before .before .before .before .args .list .now in bad-settings l (head-bad l (c .before .before .before .settings-in .ensures .0) (c .before .before .before .settings-in .ensures .1) (c .before .before .new .ensures .0) (c .enum-told2 .given .1))
+returns c =
+    let args = c .before .before .before .before .before .args in let settings-in = c .before .before .before .settings-in in
+    let l = args .list .now in bad-settings l (head-bad l (settings-in .ensures .0) (settings-in .ensures .1) (c .before .before .new .ensures .0) (c .enum-told2 .given .1))
 
 all-zero-requires : tie.Need-all-zero-requires
 all-zero-requires c κs = omega (arith, lengths (c .before .before .before .before .before .args .list .now) (c .before .before .before .before .before .pre) .0)
@@ -32,7 +34,11 @@ are-placed-requires : tie.Need-are-placed-requires
 are-placed-requires c κs = search needs
 
 returns-2 : tie.Need-returns-2
-returns-2 c = let l = c .before .before .before .before .before .before .before .before .before .args .list .now in by-slots l (c .before .before .before .all-zero .ensures) (head-good l (c .before .before .before .before .before .before .before .settings-in .ensures .0) (c .before .before .before .before .before .before .before .settings-in .ensures .1) (c .before .before .before .before .before .before .new .ensures .0) (c .before .before .before .before .enum-told .given .1)) (c .before .before .if1 .taken) (c .before .get .ensures .0) (c .are-placed .ensures)
+returns-2 c =
+    let args = c .before .before .before .before .before .before .before .before .before .args in
+    let settings-in = c .before .before .before .before .before .before .before .settings-in in let made = c .before .before .before .before .before .before .new in
+    let enum-told = c .before .before .before .before .enum-told in let all-zero = c .before .before .before .all-zero in
+    let l = args .list .now in by-slots l (all-zero .ensures) (head-good l (settings-in .ensures .0) (settings-in .ensures .1) (made .ensures .0) (enum-told .given .1)) (c .before .before .if1 .taken) (c .before .get .ensures .0) (c .are-placed .ensures)
 
 returns-3 : tie.Need-returns-3
 returns-3 c = not-zero (c .before .before .before .before .before .before .before .args .list .now) (c .before .all-zero .ensures) (c .if1 .left)

@@ -41,10 +41,16 @@ enum-known-kind : tie.Need-enum-known-kind
 enum-known-kind c = search needs
 
 add-start : tie.Need-add-start
-add-start c = let w = (let k = c .before .before .before .before .before .before in short (k .args .list .now) (k .pre .0) (k .args .place) (((16 + k .args .place * 128) + 128) - (16 + k .args .place * 128)) (k .pre .1) (c .before .before .before .judge .ensures) (omega arith) (c .before .kind .given .1)) in omega (arith, w, lengths (c .before .before .before .before .before .before .args .list .now) (c .before .before .before .before .before .before .pre .0) .0, c .before .before .before .before .before .before .pre .1, c .before .before .before .before .before .before .good .0 .0)
+add-start c =
+    let start = c .before .before .before .before .before .before in let args = start .args in let pre = start .pre in
+    let good = c .before .before .before .before .before .before .good in let judge = c .before .before .before .judge in
+    let w = (let k = c .before .before .before .before .before .before in short (k .args .list .now) (k .pre .0) (k .args .place) (((16 + k .args .place * 128) + 128) - (16 + k .args .place * 128)) (k .pre .1) (judge .ensures) (omega arith) (c .before .kind .given .1)) in omega (arith, w, lengths (args .list .now) (pre .0) .0, pre .1, good .0 .0)
 
 add-end : tie.Need-add-end
-add-end c = let w = (let k = c .before .before .before .before .before .before in short (k .args .list .now) (k .pre .0) (k .args .place) (((16 + k .args .place * 128) + 128) - (16 + k .args .place * 128)) (k .pre .1) (c .before .before .before .judge .ensures) (omega arith) (c .before .kind .given .1)) in omega (arith, w, lengths (c .before .before .before .before .before .before .args .list .now) (c .before .before .before .before .before .before .pre .0) .0, c .before .before .before .before .before .before .pre .1, c .before .before .before .before .before .before .good .0 .0)
+add-end c =
+    let start = c .before .before .before .before .before .before in let args = start .args in let pre = start .pre in
+    let good = c .before .before .before .before .before .before .good in let judge = c .before .before .before .judge in
+    let w = (let k = c .before .before .before .before .before .before in short (k .args .list .now) (k .pre .0) (k .args .place) (((16 + k .args .place * 128) + 128) - (16 + k .args .place * 128)) (k .pre .1) (judge .ensures) (omega arith) (c .before .kind .given .1)) in omega (arith, w, lengths (args .list .now) (pre .0) .0, pre .1, good .0 .0)
 
 returns : tie.Need-returns
 returns c = let k = c .before .before .before .before .before in nothing-blank (k .args .list .now) (k .pre .0) (k .args .place) (((16 + k .args .place * 128) + 128) - (16 + k .args .place * 128)) (k .pre .1) (c .before .before .judge .ensures) (omega arith) (c .enum-told .given .1)
@@ -56,7 +62,9 @@ returns-3 : tie.Need-returns-3
 returns-3 c = let k = c .before .before .before .before .before in nothing-bad (k .args .list .now) (k .pre .0) (k .args .place) (((16 + k .args .place * 128) + 128) - (16 + k .args .place * 128)) (k .pre .1) (c .before .before .judge .ensures) (omega arith) (c .enum-told3 .given .1)
 
 returns-4 : tie.Need-returns-4
-returns-4 c = let k = c .before .before .before .before .before .before in one-input (k .args .list .now) (k .pre .0) (k .args .place) (((16 + k .args .place * 128) + 128) - (16 + k .args .place * 128)) (k .pre .1) (c .before .before .before .judge .ensures) (omega arith) (c .before .kind .given .1)
+returns-4 c =
+    let judge = c .before .before .before .judge in
+    let k = c .before .before .before .before .before .before in one-input (k .args .list .now) (k .pre .0) (k .args .place) (((16 + k .args .place * 128) + 128) - (16 + k .args .place * 128)) (k .pre .1) (judge .ensures) (omega arith) (c .before .kind .given .1)
 
 pub held-at-spec : {M : Type 1} → statement M
 held-at-spec =

@@ -41,19 +41,29 @@ enum-known-sequence : tie.Need-enum-known-sequence
 enum-known-sequence c = search needs
 
 returns : tie.Need-returns
-returns c = at-next (c .before .before .before .before .before .before .before .args .list .now) (c .before .before .before .before .before .before .before .args .records) (c .before .before .before .before .before .before .before .args .place) (((16 + c .before .before .before .before .before .before .before .args .place * 128) + 128) - (16 + c .before .before .before .before .before .before .before .args .place * 128)) (c .before .before .before .before .judge .ensures) (omega arith) (c .before .before .sequence .given .1) (c .if1 .taken)
+returns c =
+    let args = c .before .before .before .before .before .before .before .args in let judge = c .before .before .before .before .judge in
+    at-next (args .list .now) (args .records) (args .place) (((16 + c .before .before .before .before .before .before .before .args .place * 128) + 128) - (16 + c .before .before .before .before .before .before .before .args .place * 128)) (judge .ensures) (omega arith) (c .before .before .sequence .given .1) (c .if1 .taken)
 
 returns-2 : tie.Need-returns-2
-returns-2 c = at-blank (c .before .before .before .before .before .args .list .now) (c .before .before .before .before .before .args .records) (c .before .before .before .before .before .args .place) (((16 + c .before .before .before .before .before .args .place * 128) + 128) - (16 + c .before .before .before .before .before .args .place * 128)) (c .before .before .judge .ensures) (omega arith) (c .enum-told .given .1)
+returns-2 c =
+    let args = c .before .before .before .before .before .args in
+    at-blank (args .list .now) (args .records) (args .place) (((16 + c .before .before .before .before .before .args .place * 128) + 128) - (16 + c .before .before .before .before .before .args .place * 128)) (c .before .before .judge .ensures) (omega arith) (c .enum-told .given .1)
 
 returns-3 : tie.Need-returns-3
-returns-3 c = at-torn (c .before .before .before .before .before .args .list .now) (c .before .before .before .before .before .args .records) (c .before .before .before .before .before .args .place) (((16 + c .before .before .before .before .before .args .place * 128) + 128) - (16 + c .before .before .before .before .before .args .place * 128)) (c .before .before .judge .ensures) (omega arith) (c .enum-told2 .given .1)
+returns-3 c =
+    let args = c .before .before .before .before .before .args in
+    at-torn (args .list .now) (args .records) (args .place) (((16 + c .before .before .before .before .before .args .place * 128) + 128) - (16 + c .before .before .before .before .before .args .place * 128)) (c .before .before .judge .ensures) (omega arith) (c .enum-told2 .given .1)
 
 returns-4 : tie.Need-returns-4
-returns-4 c = at-bad (c .before .before .before .before .before .args .list .now) (c .before .before .before .before .before .args .records) (c .before .before .before .before .before .args .place) (((16 + c .before .before .before .before .before .args .place * 128) + 128) - (16 + c .before .before .before .before .before .args .place * 128)) (c .before .before .judge .ensures) (omega arith) (c .enum-told3 .given .1)
+returns-4 c =
+    let args = c .before .before .before .before .before .args in
+    at-bad (args .list .now) (args .records) (args .place) (((16 + c .before .before .before .before .before .args .place * 128) + 128) - (16 + c .before .before .before .before .before .args .place * 128)) (c .before .before .judge .ensures) (omega arith) (c .enum-told3 .given .1)
 
 returns-5 : tie.Need-returns-5
-returns-5 c = at-late (c .before .before .before .before .before .before .before .args .list .now) (c .before .before .before .before .before .before .before .args .records) (c .before .before .before .before .before .before .before .args .place) (((16 + c .before .before .before .before .before .before .before .args .place * 128) + 128) - (16 + c .before .before .before .before .before .before .before .args .place * 128)) (c .before .before .before .before .judge .ensures) (omega arith) (c .before .before .sequence .given .1) (c .if1 .left)
+returns-5 c =
+    let args = c .before .before .before .before .before .before .before .args in let judge = c .before .before .before .before .judge in
+    at-late (args .list .now) (args .records) (args .place) (((16 + c .before .before .before .before .before .before .before .args .place * 128) + 128) - (16 + c .before .before .before .before .before .before .before .args .place * 128)) (judge .ensures) (omega arith) (c .before .before .sequence .given .1) (c .if1 .left)
 
 pub is-placed-spec : {M : Type 1} → statement M
 is-placed-spec =

@@ -3,7 +3,6 @@ use native.Mathlib.Omega.{arith}
 use mathlib.Core.Path.{refl}
 use Rattle.lent_list.proofs.Lengths.{lengths}
 use Rattle.lent_list.proofs.Made.{head-is}
-use borrow.Author.Needs.{needs}
 use Rattle.lent_list.proofs.settings_in.Statement.{statement}
 use Rattle.lent_list.proofs.settings_in.Tie as tie
 

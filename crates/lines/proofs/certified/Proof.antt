@@ -21,8 +21,10 @@ same-length c = search needs
 
 returns : tie.Need-returns
 returns c =
+    let field = c .before .before .before .before .before .before .before .field in let field2 = c .before .before .before .before .before .before .field2 in
+    let field3 = c .before .before .before .before .before .field3 in
     reads-as _ _ _ _ _
-    (certified-is _ _ _ _ _ _ _ _ (c .before .before .before .before .before .before .before .field .ensures) (c .before .before .before .before .before .before .field2 .ensures) (c .before .before .before .before .before .field3 .ensures)) (c .before .before .named .ensures)
+    (certified-is _ _ _ _ _ _ _ _ (field .ensures) (field2 .ensures) (field3 .ensures)) (c .before .before .named .ensures)
 
 pub certified-spec : {M : Type 1} → statement M
 certified-spec = tie.close (tie.spec field-requires field-requires-2 field-requires-3 named-requires same-length returns)

@@ -50,9 +50,12 @@ enum-known-flaw c = search needs
 
 returns-3 : tie.Need-returns-3
 returns-3 c =
-    let w = c .before .before .before .before .before .before .before .before .word .ensures in
-    let h = rw (c .before .flaw .given .1) at (c .before .before .before .holds-hex .ensures) in
-    unchanged _ _ _ _ (nothing-bad _ _ (chosen-wrong _ (word-some w (c .before .before .before .before .before .before .before .if1 .left)) (rw (w .is) at (sym (c .before .before .before .before .before .is-bytes .ensures) ∙ not-false _ (c .before .before .before .before .if2 .left))) _ (rw (w .after) at h))) refl
+    let word = c .before .before .before .before .before .before .before .before .word in let if1 = c .before .before .before .before .before .before .before .if1 in
+    let is-bytes = c .before .before .before .before .before .is-bytes in let if2 = c .before .before .before .before .if2 in
+    let holds-hex = c .before .before .before .holds-hex in
+    let w = word .ensures in
+    let h = rw (c .before .flaw .given .1) at (holds-hex .ensures) in
+    unchanged _ _ _ _ (nothing-bad _ _ (chosen-wrong _ (word-some w (if1 .left)) (rw (w .is) at (sym (is-bytes .ensures) ∙ not-false _ (if2 .left))) _ (rw (w .after) at h))) refl
 
 enum-told : tie.Need-enum-told
 enum-told c = search needs
@@ -72,14 +75,17 @@ add-len c = search needs
 returns-4 : tie.Need-returns-4
 returns-4 c =
     let a = c .before .before .before .before .before .before .before .before .before .before .before .before .args in
-    let w = c .before .before .before .before .before .before .before .before .before .word .ensures in
+    let the-word = c .before .before .before .before .before .before .before .before .before .word in
+    let if1 = c .before .before .before .before .before .before .before .before .if1 in let is-bytes = c .before .before .before .before .before .before .is-bytes in
+    let if2 = c .before .before .before .before .before .if2 in let holds-hex = c .before .before .before .before .holds-hex in
+    let w = the-word .ensures in
     let t = drop (a .at) (a .line .now) in
     let v = c .before .word2 .ensures in
-    let u = drop (c .before .before .before .before .before .before .before .before .before .word .result .end) (a .line .now) in
-    let h : hex u ≡ got (pairs (word u)) = rw (c .before .before .enum-told .given .1) at (c .before .before .before .before .holds-hex .ensures) in
+    let u = drop (the-word .result .end) (a .line .now) in
+    let h : hex u ≡ got (pairs (word u)) = rw (c .before .before .enum-told .given .1) at (holds-hex .ensures) in
     let n = length-pairs (word t) ∙ ap (λ (k : ℕ). k / 2) (word-length w) in
     let m = length-pairs (word u) ∙ ap (λ (k : ℕ). k / 2) (word-length v) in
-    let is = chosen-both t (word-some w (c .before .before .before .before .before .before .before .before .if1 .left)) (rw (w .is) at (sym (c .before .before .before .before .before .before .is-bytes .ensures) ∙ not-false _ (c .before .before .before .before .before .if2 .left))) _ (sym n) (pairs (word u)) (sym (ap hex (w .after)) ∙ h) in
+    let is = chosen-both t (word-some w (if1 .left)) (rw (w .is) at (sym (is-bytes .ensures) ∙ not-false _ (if2 .left))) _ (sym n) (pairs (word u)) (sym (ap hex (w .after)) ∙ h) in
     let all = length-append (pairs (word t)) (pairs (word u)) in
     too-long (pairs (word t) ++ pairs (word u)) _ _ _ is (omega (arith, n, m, all, c .if3 .taken))
 
@@ -113,17 +119,26 @@ same-length c = search needs
 returns-5 : tie.Need-returns-5
 returns-5 c =
     let a = c .before .before .before .before .before .before .before .before .before .before .before .before .before .before .before .before .before .before .before .before .before .before .args in
-    let w = c .before .before .before .before .before .before .before .before .before .before .before .before .before .before .before .before .before .before .before .word .ensures in
+    let the-word = c .before .before .before .before .before .before .before .before .before .before .before .before .before .before .before .before .before .before .before .word in
+    let if1 = c .before .before .before .before .before .before .before .before .before .before .before .before .before .before .before .before .before .before .if1 in
+    let is-bytes = c .before .before .before .before .before .before .before .before .before .before .before .before .before .before .before .before .is-bytes in
+    let if2 = c .before .before .before .before .before .before .before .before .before .before .before .before .before .before .before .if2 in
+    let holds-hex = c .before .before .before .before .before .before .before .before .before .before .before .before .before .before .holds-hex in
+    let enum-told = c .before .before .before .before .before .before .before .before .before .before .before .before .enum-told in
+    let word2 = c .before .before .before .before .before .before .before .before .before .before .before .word2 in
+    let if3 = c .before .before .before .before .before .before .before .before .before .before .if3 in
+    let write-bytes = c .before .before .before .before .before .before .before .write-bytes in
+    let w = the-word .ensures in
     let t = drop (a .at) (a .line .now) in
-    let v = c .before .before .before .before .before .before .before .before .before .before .before .word2 .ensures in
-    let u = drop (c .before .before .before .before .before .before .before .before .before .before .before .before .before .before .before .before .before .before .before .word .result .end) (a .line .now) in
-    let h : hex u ≡ got (pairs (word u)) = rw (c .before .before .before .before .before .before .before .before .before .before .before .before .enum-told .given .1) at (c .before .before .before .before .before .before .before .before .before .before .before .before .before .before .holds-hex .ensures) in
+    let v = word2 .ensures in
+    let u = drop (the-word .result .end) (a .line .now) in
+    let h : hex u ≡ got (pairs (word u)) = rw (enum-told .given .1) at (holds-hex .ensures) in
     let n = length-pairs (word t) ∙ ap (λ (k : ℕ). k / 2) (word-length w) in
     let m = length-pairs (word u) ∙ ap (λ (k : ℕ). k / 2) (word-length v) in
-    let is = chosen-both t (word-some w (c .before .before .before .before .before .before .before .before .before .before .before .before .before .before .before .before .before .before .if1 .left)) (rw (w .is) at (sym (c .before .before .before .before .before .before .before .before .before .before .before .before .before .before .before .before .is-bytes .ensures) ∙ not-false _ (c .before .before .before .before .before .before .before .before .before .before .before .before .before .before .before .if2 .left))) _ (sym n) (pairs (word u)) (sym (ap hex (w .after)) ∙ h) in
+    let is = chosen-both t (word-some w (if1 .left)) (rw (w .is) at (sym (is-bytes .ensures) ∙ not-false _ (if2 .left))) _ (sym n) (pairs (word u)) (sym (ap hex (w .after)) ∙ h) in
     let all = length-append (pairs (word t)) (pairs (word u)) in
-    let both : _ ≡ wrote (a .bytes .now) 0 (pairs (word t) ++ pairs (word u)) = (rw (v .is) at (c .before .before .write-bytes2 .ensures)) ∙ ap₂ (λ (l : List ℕ) (k : ℕ). wrote l k (pairs (word u))) (rw (w .is) at (c .before .before .before .before .before .before .before .write-bytes .ensures)) (sym n ∙ sym (zero-add _)) ∙ sym (wrote-append (a .bytes .now) 0 (pairs (word t)) (pairs (word u))) in
-    written-good (pairs (word t) ++ pairs (word u)) _ _ _ is (omega (arith, n, m, all, c .before .before .before .before .before .before .before .before .before .before .if3 .left)) _ _ (omega (arith, n, m, all)) both
+    let both : _ ≡ wrote (a .bytes .now) 0 (pairs (word t) ++ pairs (word u)) = (rw (v .is) at (c .before .before .write-bytes2 .ensures)) ∙ ap₂ (λ (l : List ℕ) (k : ℕ). wrote l k (pairs (word u))) (rw (w .is) at (write-bytes .ensures)) (sym n ∙ sym (zero-add _)) ∙ sym (wrote-append (a .bytes .now) 0 (pairs (word t)) (pairs (word u))) in
+    written-good (pairs (word t) ++ pairs (word u)) _ _ _ is (omega (arith, n, m, all, if3 .left)) _ _ (omega (arith, n, m, all)) both
 
 pub chosen-spec : {M : Type 1} → statement M
 chosen-spec =

@@ -21,14 +21,17 @@ enum-known-flaw c = search needs
 
 returns : tie.Need-returns
 returns c =
-    nothing-bad _ _ (fresh-wrong _ _ _ _ _ _ _ _ _ (c .before .before .before .before .before .before .field .ensures) (c .before .before .before .before .before .field2 .ensures) (c .before .before .before .before .field3 .ensures) (c .before .before .before .ending .ensures) _ (c .before .flaw .given .1))
+    let field = c .before .before .before .before .before .before .field in let field2 = c .before .before .before .before .before .field2 in
+    let field3 = c .before .before .before .before .field3 in let ending = c .before .before .before .ending in
+    nothing-bad _ _ (fresh-wrong _ _ _ _ _ _ _ _ _ (field .ensures) (field2 .ensures) (field3 .ensures) (ending .ensures) _ (c .before .flaw .given .1))
 
 enum-told : tie.Need-enum-told
 enum-told c = search needs
 
 returns-2 : tie.Need-returns-2
 returns-2 c =
-    nothing-fresh _ _ _ _ (fresh-good _ _ _ _ _ _ _ _ _ (c .before .before .before .before .before .field .ensures) (c .before .before .before .before .field2 .ensures) (c .before .before .before .field3 .ensures) (c .before .before .ending .ensures) _ (c .enum-told .given .1))
+    let field = c .before .before .before .before .before .field in let field2 = c .before .before .before .before .field2 in let field3 = c .before .before .before .field3 in
+    nothing-fresh _ _ _ _ (fresh-good _ _ _ _ _ _ _ _ _ (field .ensures) (field2 .ensures) (field3 .ensures) (c .before .before .ending .ensures) _ (c .enum-told .given .1))
 
 pub fresh-spec : {M : Type 1} → statement M
 fresh-spec =

@@ -56,10 +56,13 @@ same-length c = search needs
 returns-3 : tie.Need-returns-3
 returns-3 c =
     let a = c .before .before .before .before .before .before .before .before .before .before .before .before .args in
+    let holds-hex = c .before .before .before .before .before .before .before .before .before .holds-hex in
+    let enum-told = c .before .before .before .before .before .before .before .enum-told in let the-word = c .before .before .before .before .before .before .word in
+    let if1 = c .before .before .before .before .before .if1 in
     let t = drop (a .at) (a .line .now) in
-    let w = c .before .before .before .before .before .before .word .ensures in
+    let w = the-word .ensures in
     let n = length-pairs (word t) ∙ ap (λ (k : ℕ). k / 2) (word-length w) in
-    hex-good _ _ (pairs (word t)) (rw (c .before .before .before .before .before .before .before .enum-told .given .1) at (c .before .before .before .before .before .before .before .before .before .holds-hex .ensures)) _ _ (omega (arith, n, c .before .before .before .before .before .if1 .left)) (sym n) (rw (w .is) at (c .before .before .write-bytes .ensures))
+    hex-good _ _ (pairs (word t)) (rw (enum-told .given .1) at (holds-hex .ensures)) _ _ (omega (arith, n, if1 .left)) (sym n) (rw (w .is) at (c .before .before .write-bytes .ensures))
 
 pub hex-spec : {M : Type 1} → statement M
 hex-spec =

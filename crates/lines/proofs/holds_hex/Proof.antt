@@ -34,7 +34,9 @@ ending-requires c κs = search needs
 
 returns-3 : tie.Need-returns-3
 returns-3 c =
-    let w = c .before .before .before .before .before .word .ensures in hex-ends (c .before .before .before .before .before .before .before .args .line .now) (c .before .before .before .before .before .before .before .args .at) (c .ending .result) (word-some w (c .before .before .before .before .if1 .left)) (rw (w .is) at (sym (c .before .before .is-bytes .ensures) ∙ not-false _ (c .before .if2 .left))) (rw (w .after) at (c .ending .ensures))
+    let args = c .before .before .before .before .before .before .before .args in let word = c .before .before .before .before .before .word in
+    let if1 = c .before .before .before .before .if1 in
+    let w = word .ensures in hex-ends (args .line .now) (args .at) (c .ending .result) (word-some w (if1 .left)) (rw (w .is) at (sym (c .before .before .is-bytes .ensures) ∙ not-false _ (c .before .if2 .left))) (rw (w .after) at (c .ending .ensures))
 
 pub holds-hex-spec : {M : Type 1} → statement M
 holds-hex-spec =

@@ -33,8 +33,9 @@ enum-told c = search needs
 returns-2 : tie.Need-returns-2
 returns-2 c =
     let a = c .before .before .before .before .before .before .args in
+    let ending = c .before .before .before .ending in
     let bs = unbe 32 (nameOf (a .name)) in
-    too-long bs (a .bytes .now) (a .what) (meant (λ _. given (a .what) bs) (readsAt [] (a .line .now) (a .place))) (named-good (given (a .what) bs) (a .line .now) (a .place) _ (c .before .before .before .ending .ensures) _ (c .before .enum-told .given .1)) (omega (arith, length-unbe 32 (nameOf (a .name)), c .if1 .taken))
+    too-long bs (a .bytes .now) (a .what) (meant (λ _. given (a .what) bs) (readsAt [] (a .line .now) (a .place))) (named-good (given (a .what) bs) (a .line .now) (a .place) _ (ending .ensures) _ (c .before .enum-told .given .1)) (omega (arith, length-unbe 32 (nameOf (a .name)), c .if1 .taken))
 
 put-name-requires : tie.Need-put-name-requires
 put-name-requires c κs = search needs
@@ -44,11 +45,22 @@ same-length c = search needs
 
 returns-3 : tie.Need-returns-3
 returns-3 c =
+    let ending = c .before .before .before .before .before .before .before .ending in let enum-told = c .before .before .before .before .before .enum-told in
+    let if1 = c .before .before .before .before .if1 in
     let start = c .before .before .before .before .before .before .before .before .before .before in
     let a = start .args in
     let small = name-lt (a .name) (omega (arith, start .good)) (omega (arith, start .good)) (omega (arith, start .good)) (omega (arith, start .good)) in
     let bs = unbe 32 (nameOf (a .name)) in
-    written-good bs (a .bytes .now) (a .what) (meant (λ _. given (a .what) bs) (readsAt [] (a .line .now) (a .place))) (named-good (given (a .what) bs) (a .line .now) (a .place) _ (c .before .before .before .before .before .before .before .ending .ensures) _ (c .before .before .before .before .before .enum-told .given .1)) (omega (arith, length-unbe 32 (nameOf (a .name)), c .before .before .before .before .if1 .left)) _ _ (sym (length-unbe 32 (nameOf (a .name)))) (c .before .before .put-name .ensures ∙ put-wrote (a .bytes .now) 0 32 (nameOf (a .name)) small)
+    written-good bs
+    (a .bytes .now)
+    (a .what)
+    (meant (λ _. given (a .what) bs) (readsAt [] (a .line .now) (a .place)))
+    (named-good (given (a .what) bs) (a .line .now) (a .place) _ (ending .ensures) _ (enum-told .given .1))
+    (omega (arith, length-unbe 32 (nameOf (a .name)), if1 .left))
+    _
+    _
+    (sym (length-unbe 32 (nameOf (a .name))))
+    (c .before .before .put-name .ensures ∙ put-wrote (a .bytes .now) 0 32 (nameOf (a .name)) small)
 
 pub named-spec : {M : Type 1} → statement M
 named-spec =

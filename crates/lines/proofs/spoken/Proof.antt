@@ -37,7 +37,9 @@ same-length c = search needs
 
 returns-3 : tie.Need-returns-3
 returns-3 c =
-    spoken-good _ _ _ (sym (c .before .before .before .before .before .before .before .before .before .said .ensures .0) ∙ ap heardOf (c .before .before .before .before .before .before .before .message .given .1)) (omega (arith, c .before .before .before .before .before .size .ensures)) _ _ (c .before .before .write-message .ensures)
+    let said = c .before .before .before .before .before .before .before .before .before .said in
+    let message = c .before .before .before .before .before .before .before .message in let size = c .before .before .before .before .before .size in
+    spoken-good _ _ _ (sym (said .ensures .0) ∙ ap heardOf (message .given .1)) (omega (arith, size .ensures)) _ _ (c .before .before .write-message .ensures)
 
 pub spoken-spec : {M : Type 1} → statement M
 spoken-spec =

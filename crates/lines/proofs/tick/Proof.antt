@@ -23,14 +23,17 @@ enum-known-flaw c = search needs
 
 returns-2 : tie.Need-returns-2
 returns-2 c =
-    nothing-bad _ _ (tick-wrong _ _ _ _ _ (word-some (c .before .before .before .before .before .before .before .word .ensures) (c .before .before .before .before .before .if1 .left)) (c .before .before .before .before .field .ensures) (c .before .before .before .ending .ensures) _ (c .before .flaw .given .1))
+    let word = c .before .before .before .before .before .before .before .word in let if1 = c .before .before .before .before .before .if1 in
+    let field = c .before .before .before .before .field in let ending = c .before .before .before .ending in
+    nothing-bad _ _ (tick-wrong _ _ _ _ _ (word-some (word .ensures) (if1 .left)) (field .ensures) (ending .ensures) _ (c .before .flaw .given .1))
 
 enum-told : tie.Need-enum-told
 enum-told c = search needs
 
 returns-3 : tie.Need-returns-3
 returns-3 c =
-    nothing-tick _ _ (tick-good _ _ _ _ _ (word-some (c .before .before .before .before .before .before .word .ensures) (c .before .before .before .before .if1 .left)) (c .before .before .before .field .ensures) (c .before .before .ending .ensures) _ (c .enum-told .given .1))
+    let word = c .before .before .before .before .before .before .word in let if1 = c .before .before .before .before .if1 in let field = c .before .before .before .field in
+    nothing-tick _ _ (tick-good _ _ _ _ _ (word-some (word .ensures) (if1 .left)) (field .ensures) (c .before .before .ending .ensures) _ (c .enum-told .given .1))
 
 pub tick-spec : {M : Type 1} → statement M
 tick-spec =

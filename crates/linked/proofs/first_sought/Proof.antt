@@ -1,5 +1,5 @@
 -- `linked::first_sought` meets its contract. Assumes nothing.
-use mathlib.Core.Path.{_≡_, sym, _∙_}
+use mathlib.Core.Path.{sym, _∙_}
 use native.Mathlib.Omega.{arith}
 use Rattle.laws.proofs.Bounds.{statements-most}
 use Rattle.store.specs.Layout.{sizeIn}

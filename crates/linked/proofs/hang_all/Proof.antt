@@ -47,12 +47,14 @@ loop-less c =
 
 loop-again : tie.Need-loop-again Inv-loop μ-loop
 loop-again c =
-    let start = c .before .before .before .before .before .before .before in
     let loop = c .before .before .before .before .before .loop in
-    let more = c .before .before .before .before .loop-test .taken in
+    let loop-test = c .before .before .before .before .loop-test in
+    let height-at = c .before .before .before .height-at in
+    let start = c .before .before .before .before .before .before .before in
+    let more = loop-test .taken in
     let few = few-statements (start .pre .0) in
     let e : loop .i - 1 + 1 ≡ loop .i = omega (arith, more) in
-    (omega (arith, loop .inv .0), rw (c .hang .ensures .0, c .hang .ensures .1) (chained-more (heightChain (start .args .store .now)) (loop .i - 1) (start .args .count) (loop .heads) (loop .nexts) (omega (arith, loop .inv .0, more)) (rw e (loop .inv .1)) _ (ap (_% chains) (c .before .before .before .height-at .ensures)) (omega arith) (omega (arith, loop .inv .0))))
+    (omega (arith, loop .inv .0), rw (c .hang .ensures .0, c .hang .ensures .1) (chained-more (heightChain (start .args .store .now)) (loop .i - 1) (start .args .count) (loop .heads) (loop .nexts) (omega (arith, loop .inv .0, more)) (rw e (loop .inv .1)) _ (ap (_% chains) (height-at .ensures)) (omega arith) (omega (arith, loop .inv .0))))
 
 returns : tie.Need-returns Inv-loop μ-loop
 returns c =

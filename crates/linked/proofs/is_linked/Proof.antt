@@ -8,7 +8,6 @@ use Rattle.form.proofs.Forms.{few-names, few-statements}
 use Rattle.linked.proofs.Parts.{linkedFrom, linked-start, linked-end, linked-here, linked-next}
 use Rattle.linked.proofs.Heights.{link-none, link-some}
 use Rattle.linked.proofs.Telling.{SoFar, so-far-none, so-far-less, so-far-more}
-use borrow.Author.Needs.{needs}
 use Rattle.linked.proofs.is_linked.Statement.{statement}
 use Rattle.linked.proofs.is_linked.Tie as tie
 

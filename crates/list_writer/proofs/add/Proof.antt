@@ -35,16 +35,28 @@ part-write-record-start : tie.Need-part-write-record-start
 part-write-record-start c = search needs
 
 part-write-record-end : tie.Need-part-write-record-end
-part-write-record-end c = omega (arith, (within (c .before .before .before .before .before .before .before .before .args .list .now) (c .before .before .before .before .before .before .before .before .pre .0) (c .before .before .before .before .before .before .before .before .pre .1) (c .before .before .before .before .get .ensures .0)) .1, c .before .before .put .kept .0)
+part-write-record-end c =
+    let start = c .before .before .before .before .before .before .before .before in let args = start .args in let pre = start .pre in
+    let get = c .before .before .before .before .get in
+    omega (arith, (within (args .list .now) (pre .0) (pre .1) (get .ensures .0)) .1, c .before .before .put .kept .0)
 
 write-record-requires : tie.Need-write-record-requires
-write-record-requires c κs = let w = within (c .before .before .before .before .before .before .before .before .before .args .list .now) (c .before .before .before .before .before .before .before .before .before .pre .0) (c .before .before .before .before .before .before .before .before .before .pre .1) (c .before .before .before .before .before .get .ensures .0) in let f = input-fits (c .before .before .before .before .before .before .before .before .before .args .kind) (c .before .before .before .before .before .before .before .before .before .args .input .now) (c .before .before .before .before .before .before .before .before .before .pre .2) in (mid-len (16 + c .before .before .before .before .before .get .result * 128) (16 + c .before .before .before .before .before .get .result * 128 + 128) (c .before .before .before .put .last .0) (omega (arith, w .1, c .before .before .before .put .kept .0)) ∙ omega arith, omega (arith, w .0), f .0, f .1)
+write-record-requires c κs =
+    let start = c .before .before .before .before .before .before .before .before .before in let args = start .args in let pre = start .pre in
+    let get = c .before .before .before .before .before .get in let put = c .before .before .before .put in
+    let w = within (args .list .now) (pre .0) (pre .1) (get .ensures .0) in
+    let f = input-fits (args .kind) (args .input .now) (pre .2) in
+    let at = 16 + get .result * 128 in
+    (mid-len at (at + 128) (put .last .0) (omega (arith, w .1, put .kept .0)) ∙ omega arith, omega (arith, w .0), f .0, f .1)
 
 same-length : tie.Need-same-length
 same-length c = search needs
 
 returns : tie.Need-returns
-returns c = is-added (c .before .before .before .before .before .before .before .before .before .before .before .before .args .list .now) (c .before .before .before .before .before .before .before .before .before .before .before .before .pre .0) (c .before .before .before .before .before .before .before .before .before .before .before .before .pre .1) (c .before .before .before .before .before .before .before .before .get .ensures .0) (c .before .before .before .before .before .before .before .before .before .before .before .before .args .kind) (c .before .before .before .before .before .before .before .before .before .before .before .before .args .input .now) (c .before .before .before .before .before .before .put .ensures) (c .before .before .write-record .ensures)
+returns c =
+    let start = c .before .before .before .before .before .before .before .before .before .before .before .before in let args = start .args in let pre = start .pre in
+    let get = c .before .before .before .before .before .before .before .before .get in let put = c .before .before .before .before .before .before .put in
+    is-added (args .list .now) (pre .0) (pre .1) (get .ensures .0) (args .kind) (args .input .now) (put .ensures) (c .before .before .write-record .ensures)
 
 pub add-spec : {M : Type 1} → statement M
 add-spec =

@@ -4,7 +4,6 @@ use mathlib.Core.Path.{_≡_, sym, ap, ap₂, _∙_}
 use native.Mathlib.Omega.{arith}
 use Rattle.lookup.specs.Search.{seek, hasMark}
 use Rattle.lookup.proofs.Seeks.{record-within, places-few, seek-end, seek-here, seek-next}
-use borrow.Author.Needs.{needs}
 use Rattle.lookup.proofs.ahead.Statement.{statement}
 use Rattle.lookup.proofs.ahead.Tie as tie
 

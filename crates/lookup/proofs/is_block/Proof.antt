@@ -25,10 +25,11 @@ is-word-requires-2 c κs = search needs
 
 returns-2 : tie.Need-returns-2
 returns-2 c =
+    let shared-slice-known = c .before .before .before .before .shared-slice-known in
     let start = c .before .before .before .before .before in
     let a = start .args in
     let g = start .good .1 .1 .1 .0 in
-    other-key (a .s .now) (c .before .before .before .before .shared-slice-known .given) (a .name) (words (a .name) (g .1 .1 .0 .1) (g .1 .1 .1 .0 .1) (g .1 .1 .1 .1 .0 .1) (g .1 .1 .1 .1 .1 .0 .1)) (a .key) (a .at) (sym (c .before .is-word2 .ensures) ∙ not-true _ (c .if2 .taken))
+    other-key (a .s .now) (shared-slice-known .given) (a .name) (words (a .name) (g .1 .1 .0 .1) (g .1 .1 .1 .0 .1) (g .1 .1 .1 .1 .0 .1) (g .1 .1 .1 .1 .1 .0 .1)) (a .key) (a .at) (sym (c .before .is-word2 .ensures) ∙ not-true _ (c .if2 .taken))
 
 add-is-word-2 : tie.Need-add-is-word-2
 add-is-word-2 c = search needs

@@ -1,10 +1,9 @@
 -- `lookup::marked` meets its contract: what is left to search answers as the whole does. Assumes nothing.
-use Prim.Native.Nat.{ℕ, _+_, _-_}
+use Prim.Native.Nat.{_+_, _-_}
 use mathlib.Core.Path.{_≡_, refl, sym, ap, _∙_}
 use native.Mathlib.Omega.{arith}
 use Rattle.lookup.specs.Search.{seek, hasMark}
 use Rattle.lookup.proofs.Seeks.{record-within, turn-within, seek-end, seek-here, seek-next, seek-stops, seek-passes}
-use borrow.Author.Needs.{needs}
 use Rattle.lookup.proofs.marked.Statement.{statement}
 use Rattle.lookup.proofs.marked.Tie as tie
 

@@ -1,8 +1,7 @@
 -- `lookup::turned` meets its contract: what is left to turn, behind what was turned, gives the whole. Assumes nothing.
-use Prim.Native.Nat.{ℕ, _-_, _^_, _≤_, _<_, suc}
-use mathlib.Core.Path.{_≡_, refl, sym, ap, _∙_}
+use Prim.Native.Nat.{_-_, _^_, _≤_, _<_}
+use mathlib.Core.Path.{_≡_, refl, sym, _∙_}
 use native.Mathlib.Omega.{arith}
-use native.Mathlib.Nat.{pow-suc}
 use Rattle.fields.proofs.Laws.{pow-small}
 use Rattle.lookup.specs.Search.{turn}
 use Rattle.lookup.proofs.Turns.{turn-step, turn-end, turn-room}

@@ -42,9 +42,10 @@ loop-less c = omega arith
 
 loop-again : tie.Need-loop-again Inv-loop μ-loop
 loop-again c =
-    let l = c .before .before .before .loop in
     let a = c .before .before .before .before .before .args in
-    (omega (arith, l .inv .0), l .inv .1 ∙ turn-number _ (c .before .before .before .before .shared-slice-known .given) _ (l .k) _ (omega arith) ∙ ap (λ (x : ℕ). turn (l .k - 1) (number (a .s .now) (a .at) (l .k - 1)) (l .value * 256 + x)) (sym (c .wide .ensures .0)), turn-room (l .k) (l .value) _ (omega arith) (l .inv .0) (l .inv .2) (c .wide .ensures .1))
+    let shared-slice-known = c .before .before .before .before .shared-slice-known in
+    let l = c .before .before .before .loop in
+    (omega (arith, l .inv .0), l .inv .1 ∙ turn-number _ (shared-slice-known .given) _ (l .k) _ (omega arith) ∙ ap (λ (x : ℕ). turn (l .k - 1) (number (a .s .now) (a .at) (l .k - 1)) (l .value * 256 + x)) (sym (c .wide .ensures .0)), turn-room (l .k) (l .value) _ (omega arith) (l .inv .0) (l .inv .2) (c .wide .ensures .1))
 
 returns : tie.Need-returns Inv-loop μ-loop
 returns c = let l = c .before .loop in sym (l .inv .1 ∙ turn-end (l .k) _ _ (omega arith))

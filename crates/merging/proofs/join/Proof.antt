@@ -34,16 +34,20 @@ returns-2 c =
 
 copy-places-requires : tie.Need-copy-places-requires
 copy-places-requires c κs =
-    (omega (arith, c .before .before .before .before .before .before .before .before .before .pre .0 .high, c .before .before .before .before .before .before .before .before .before .pre .0 .whole), omega (arith, c .before .before .before .before .before .before .before .before .before .pre .0 .high, c .before .before .before .before .before .before .before .before .before .pre .0 .long))
+    let pre = c .before .before .before .before .before .before .before .before .before .pre in
+    (omega (arith, pre .0 .high, pre .0 .whole), omega (arith, pre .0 .high, pre .0 .long))
 
 same-length-3 : tie.Need-same-length-3
 same-length-3 c = search needs
 
 returns-3 : tie.Need-returns-3
 returns-3 c =
+    let pre = c .before .before .before .before .before .before .before .before .before .before .before .before .pre in
+    let least = c .before .before .before .before .before .before .before .least in
     let agrees = c .before .before .before .before .before .before .agrees in
-    let long : c .before .before .before .before .before .before .before .before .before .before .before .before .args .len ≤ c .before .before .before .before .before .before .before .before .before .before .before .before .args .height = omega (arith, c .before .before .before .before .if2 .left) in
-    join-grows _ _ _ _ _ _ (c .before .before .before .before .before .before .before .before .before .before .before .before .pre .0) _ (agrees .result) (agrees .ensures) long (c .before .before .before .before .before .before .before .least .ensures .3 long) (not-false _ (c .before .before .before .before .before .if1 .left)) _ (c .before .before .copy-places .ensures)
+    let if1 = c .before .before .before .before .before .if1 in let if2 = c .before .before .before .before .if2 in
+    let long : c .before .before .before .before .before .before .before .before .before .before .before .before .args .len ≤ c .before .before .before .before .before .before .before .before .before .before .before .before .args .height = omega (arith, if2 .left) in
+    join-grows _ _ _ _ _ _ (pre .0) _ (agrees .result) (agrees .ensures) long (least .ensures .3 long) (not-false _ (if1 .left)) _ (c .before .before .copy-places .ensures)
 
 pub join-spec : {M : Type 1} → statement M
 join-spec =

@@ -20,7 +20,8 @@ same-length c = search needs
 returns : tie.Need-returns
 returns c =
     let a = c .before .before .before .before .before .before .before .before .before .before .args in
-    tallied-stops (authorOf (a .voters)) (withVoters (votersOf (a .voters)) (blockOf (a .block))) (stateOf (a .store .now)) (c .before .before .before .before .before .before .before .tallied .ensures) (not-true _ (c .before .before .before .before .if1 .taken)) (c .before .before .stop .ensures)
+    let tallied = c .before .before .before .before .before .before .before .tallied in let if1 = c .before .before .before .before .if1 in
+    tallied-stops (authorOf (a .voters)) (withVoters (votersOf (a .voters)) (blockOf (a .block))) (stateOf (a .store .now)) (tallied .ensures) (not-true _ (if1 .taken)) (c .before .before .stop .ensures)
 
 same-length-2 : tie.Need-same-length-2
 same-length-2 c = search needs

@@ -73,7 +73,9 @@ same-length-2 c = search needs
 
 returns : tie.Need-returns
 returns c =
-    answers-is (stated-handled (stateOf (c .before .before .before .before .before .before .before .before .before .before .before .before .args .store .now)) (c .before .before .before .before .before .before .before .before .message .given .1)) (c .before .before .before .before .stated .ensures)
+    let args = c .before .before .before .before .before .before .before .before .before .before .before .before .args in
+    let message = c .before .before .before .before .before .before .before .before .message in let stated = c .before .before .before .before .stated in
+    answers-is (stated-handled (stateOf (args .store .now)) (message .given .1)) (stated .ensures)
 
 same-length-3 : tie.Need-same-length-3
 same-length-3 c = search needs
@@ -91,7 +93,10 @@ same-length-5 c = search needs
 
 returns-3 : tie.Need-returns-3
 returns-3 c =
-    answers-is (blame-handled (stateOf (c .before .before .before .before .before .before .before .before .before .before .before .before .before .args .store .now)) (c .before .before .before .before .before .before .before .before .before .message3 .given .1) (c .before .before .before .before .before .before .before .voter .ensures)) (c .before .before .before .before .blamed .ensures)
+    let args = c .before .before .before .before .before .before .before .before .before .before .before .before .before .args in
+    let message3 = c .before .before .before .before .before .before .before .before .before .message3 in
+    let voter = c .before .before .before .before .before .before .before .voter in let blamed = c .before .before .before .before .blamed in
+    answers-is (blame-handled (stateOf (args .store .now)) (message3 .given .1) (voter .ensures)) (blamed .ensures)
 
 same-length-6 : tie.Need-same-length-6
 same-length-6 c = search needs
@@ -101,7 +106,9 @@ same-length-7 c = search needs
 
 returns-4 : tie.Need-returns-4
 returns-4 c =
-    answers-is (set-handled (stateOf (c .before .before .before .before .before .before .before .before .before .before .before .before .args .store .now)) (c .before .before .before .before .before .before .before .before .message4 .given .1)) (c .before .before .before .before .blamed2 .ensures)
+    let args = c .before .before .before .before .before .before .before .before .before .before .before .before .args in
+    let message4 = c .before .before .before .before .before .before .before .before .message4 in let blamed2 = c .before .before .before .before .blamed2 in
+    answers-is (set-handled (stateOf (args .store .now)) (message4 .given .1)) (blamed2 .ensures)
 
 same-length-8 : tie.Need-same-length-8
 same-length-8 c = search needs

@@ -26,11 +26,13 @@ same-length c = search needs
 
 returns : tie.Need-returns
 returns c =
+    let planned = c .before .before .before .before .before .before .planned in let fits2 = c .before .before .before .before .before .fits2 in
+    let if1 = c .before .before .before .before .if1 in
     let start = c .before .before .before .before .before .before .before .before .before .before in
     let s = stateOf (start .args .store .now) in
     let x = statementOf (start .args .x) none in
-    let room = c .before .before .before .before .before .fits2 .ensures ∙ plan-room x s (formed-parts (start .pre .0)) (c .before .before .before .before .before .before .planned .result) (c .before .before .before .before .before .before .planned .ensures) in
-    full-answers s (inputs.statement x s) (sym room ∙ not-true _ (c .before .before .before .before .if1 .taken)) (c .before .before .stop .ensures) (start .args .out .now)
+    let room = fits2 .ensures ∙ plan-room x s (formed-parts (start .pre .0)) (planned .result) (planned .ensures) in
+    full-answers s (inputs.statement x s) (sym room ∙ not-true _ (if1 .taken)) (c .before .before .stop .ensures) (start .args .out .now)
 
 statement-requires : tie.Need-statement-requires
 statement-requires c κs =
@@ -48,11 +50,14 @@ same-length-3 c = search needs
 
 returns-2 : tie.Need-returns-2
 returns-2 c =
+    let planned = c .before .before .before .before .before .before .before .before .before .planned in
+    let fits2 = c .before .before .before .before .before .before .before .before .fits2 in let if1 = c .before .before .before .before .before .before .before .if1 in
+    let statement = c .before .before .before .before .statement in
     let start = c .before .before .before .before .before .before .before .before .before .before .before .before .before in
     let s = stateOf (start .args .store .now) in
     let x = statementOf (start .args .x) none in
-    let room = c .before .before .before .before .before .before .before .before .fits2 .ensures ∙ plan-room x s (formed-parts (start .pre .0)) (c .before .before .before .before .before .before .before .before .before .planned .result) (c .before .before .before .before .before .before .before .before .before .planned .ensures) in
-    room-answers s (inputs.statement x s) (sym room ∙ not-false _ (c .before .before .before .before .before .before .before .if1 .left)) (c .before .before .before .before .statement .ensures)
+    let room = fits2 .ensures ∙ plan-room x s (formed-parts (start .pre .0)) (planned .result) (planned .ensures) in
+    room-answers s (inputs.statement x s) (sym room ∙ not-false _ (if1 .left)) (statement .ensures)
 
 pub stated-spec : {M : Type 1} → statement M
 stated-spec =

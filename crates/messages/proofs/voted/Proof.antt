@@ -1,5 +1,4 @@
 -- `messages::voted` meets its contract: refused where its author is used up, else counted. Assumes nothing.
-use mathlib.Core.Path.{refl}
 use borrow.Author.Needs.{needs}
 use Rattle.words.specs.Meaning.{blockOf}
 use Rattle.messages.proofs.Handling.{vote-refused, vote-counted}

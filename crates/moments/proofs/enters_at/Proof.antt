@@ -26,13 +26,15 @@ last-view-in-requires c κs = search needs
 
 returns : tie.Need-returns
 returns c =
-    let args = c .before .before .before .before .before .before .before .before .args in
+    let start = c .before .before .before .before .before .before .before .before in let args = start .args in let pre = start .pre in
+    let phase = c .before .before .before .before .phase in
     (λ i. ltb (args .station .view) (c .last-view-in .ensures i) && c .before .before .is-past .ensures i)
-    ∙ enters-then (c .before .before .before .before .before .before .before .before .pre .0) (args .station) (c .before .before .before .before .before .before .before .before .pre .1) (args .clock) _ (c .before .before .before .before .phase .given .1)
+    ∙ enters-then (pre .0) (args .station) (pre .1) (args .clock) _ (phase .given .1)
 
 returns-2 : tie.Need-returns-2
 returns-2 c =
-    enters-never (c .before .before .before .pre .0) (c .before .before .before .args .station) (c .before .before .before .pre .1) (c .before .before .before .args .clock) (λ q p. let z = ap (tagOf the-type) p in ⊎-elim (λ w. omega arith) (λ w. omega arith) (c .match .keys2))
+    let start = c .before .before .before in let args = start .args in let pre = start .pre in
+    enters-never (pre .0) (args .station) (pre .1) (args .clock) (λ q p. let z = ap (tagOf the-type) p in ⊎-elim (λ w. omega arith) (λ w. omega arith) (c .match .keys2))
 
 pub enters-at-spec : {M : Type 1} → statement M
 enters-at-spec =

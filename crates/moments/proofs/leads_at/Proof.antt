@@ -17,15 +17,17 @@ is-past-requires c κs =
 
 returns : tie.Need-returns
 returns c =
-    loaded-never (c .before .before .before .before .before .pre .0) (c .before .before .before .before .before .args .station) (c .before .before .before .before .before .pre .1) (c .before .before .before .before .before .args .clock) (sym (c .before .is-past .ensures) ∙ not-true _ (c .if1 .taken))
+    let start = c .before .before .before .before .before in let args = start .args in let pre = start .pre in
+    loaded-never (pre .0) (args .station) (pre .1) (args .clock) (sym (c .before .is-past .ensures) ∙ not-true _ (c .if1 .taken))
 
 leads-in-requires : tie.Need-leads-in-requires
 leads-in-requires c κs = search needs
 
 returns-2 : tie.Need-returns-2
 returns-2 c =
+    let start = c .before .before .before .before .before .before in let args = start .args in let pre = start .pre in
     c .leads-in .ensures
-    ∙ loaded-then (c .before .before .before .before .before .before .pre .0) (c .before .before .before .before .before .before .args .station) (c .before .before .before .before .before .before .pre .1) (c .before .before .before .before .before .before .args .clock) (sym (c .before .before .is-past .ensures) ∙ not-false _ (c .before .if1 .left))
+    ∙ loaded-then (pre .0) (args .station) (pre .1) (args .clock) (sym (c .before .before .is-past .ensures) ∙ not-false _ (c .before .if1 .left))
 
 pub leads-at-spec : {M : Type 1} → statement M
 leads-at-spec =

@@ -22,7 +22,9 @@ leader-requires c κs =
 
 returns-2 : tie.Need-returns-2
 returns-2 c =
-    loaded-leads (c .before .before .before .before .before .before .before .pre .0) (c .before .before .before .before .before .before .before .args .station) (c .before .before .before .before .before .before .before .pre .1) _ _ (c .before .before .before .before .before .is-in-view .ensures) (not-false _ (c .before .before .before .before .if1 .left)) (c .before .leader .ensures)
+    let start = c .before .before .before .before .before .before .before in let args = start .args in let pre = start .pre in
+    let is-in-view = c .before .before .before .before .before .is-in-view in let if1 = c .before .before .before .before .if1 in
+    loaded-leads (pre .0) (args .station) (pre .1) _ _ (is-in-view .ensures) (not-false _ (if1 .left)) (c .before .leader .ensures)
 
 pub leads-in-spec : {M : Type 1} → statement M
 leads-in-spec =

@@ -28,11 +28,13 @@ add-wait c =
 
 mul-wait-2 : tie.Need-mul-wait-2
 mul-wait-2 c =
-    omega (arith, short-wait (c .before .before .before .before .before .args .votes) (c .before .before .before .before .before .args .station .settings .delay) (few-votes (c .before .before .before .before .before .pre .0) (c .before .before .before .before .before .args .station) (c .before .before .before .before .before .pre .1) _ (c .before .before .before .before .before .pre .3)) (short-delay (c .before .before .before .before .before .pre .0) (c .before .before .before .before .before .args .station) (c .before .before .before .before .before .pre .1)))
+    let start = c .before .before .before .before .before in let args = start .args in let pre = start .pre in
+    omega (arith, short-wait (args .votes) (args .station .settings .delay) (few-votes (pre .0) (args .station) (pre .1) _ (pre .3)) (short-delay (pre .0) (args .station) (pre .1)))
 
 add-wait-2 : tie.Need-add-wait-2
 add-wait-2 c =
-    omega (arith, short-wait (c .before .before .before .before .before .args .votes) (c .before .before .before .before .before .args .station .settings .delay) (few-votes (c .before .before .before .before .before .pre .0) (c .before .before .before .before .before .args .station) (c .before .before .before .before .before .pre .1) _ (c .before .before .before .before .before .pre .3)) (short-delay (c .before .before .before .before .before .pre .0) (c .before .before .before .before .before .args .station) (c .before .before .before .before .before .pre .1)))
+    let start = c .before .before .before .before .before in let args = start .args in let pre = start .pre in
+    omega (arith, short-wait (args .votes) (args .station .settings .delay) (few-votes (pre .0) (args .station) (pre .1) _ (pre .3)) (short-delay (pre .0) (args .station) (pre .1)))
 
 sub-if2 : tie.Need-sub-if2
 sub-if2 c =
@@ -43,30 +45,37 @@ cast-if2 c = search needs
 
 returns-2 : tie.Need-returns-2
 returns-2 c =
-    loaded-early (c .before .before .before .before .before .before .before .pre .0) (c .before .before .before .before .before .before .before .args .station) (c .before .before .before .before .before .before .before .pre .1) (c .before .before .before .before .before .before .before .args .clock) _ (c .before .before .before .before .before .before .before .pre .3) (c .if2 .taken)
+    let start = c .before .before .before .before .before .before .before in let args = start .args in let pre = start .pre in
+    loaded-early (pre .0) (args .station) (pre .1) (args .clock) _ (pre .3) (c .if2 .taken)
 
 cast-blame-at : tie.Need-cast-blame-at
 cast-blame-at c = search needs
 
 sub-blame-at : tie.Need-sub-blame-at
 sub-blame-at c =
-    view-limits (c .before .before .before .before .before .before .before .before .pre .0) (c .before .before .before .before .before .before .before .before .args .station) (c .before .before .before .before .before .before .before .before .pre .1) .0
+    let start = c .before .before .before .before .before .before .before .before in let args = start .args in let pre = start .pre in
+    view-limits (pre .0) (args .station) (pre .1) .0
 
 blame-at-requires : tie.Need-blame-at-requires
 blame-at-requires c κs =
-    (form-long _ (c .before .before .before .before .before .before .before .before .pre .0 .form), omega (arith, view-limits (c .before .before .before .before .before .before .before .before .pre .0) (c .before .before .before .before .before .before .before .before .args .station) (c .before .before .before .before .before .before .before .before .pre .1)))
+    let start = c .before .before .before .before .before .before .before .before in let args = start .args in let pre = start .pre in
+    (form-long _ (pre .0 .form), omega (arith, view-limits (pre .0) (args .station) (pre .1)))
 
 cast-holds : tie.Need-cast-holds
 cast-holds c = search needs
 
 holds-requires : tie.Need-holds-requires
 holds-requires c κs =
-    own-small (c .before .before .before .before .before .before .before .before .before .pre .0) (c .before .before .before .before .before .before .before .before .before .args .station) (c .before .before .before .before .before .before .before .before .before .pre .1)
+    let start = c .before .before .before .before .before .before .before .before .before in let args = start .args in let pre = start .pre in
+    own-small (pre .0) (args .station) (pre .1)
 
 returns-3 : tie.Need-returns-3
 returns-3 c =
+    let start = c .before .before .before .before .before .before .before .before .before .before in let args = start .args in let pre = start .pre in
+    let is-in-view = c .before .before .before .before .before .before .before .before .is-in-view in let if1 = c .before .before .before .before .before .before .before .if1 in
+    let if2 = c .before .before .before .if2 in
     ap not (c .holds .ensures)
-    ∙ loaded-overdue (c .before .before .before .before .before .before .before .before .before .before .pre .0) (c .before .before .before .before .before .before .before .before .before .before .args .station) (c .before .before .before .before .before .before .before .before .before .before .pre .1) (c .before .before .before .before .before .before .before .before .before .before .args .clock) _ _ _ (c .before .before .before .before .before .before .before .before .is-in-view .ensures) (not-false _ (c .before .before .before .before .before .before .before .if1 .left)) (c .before .blame-at .ensures) (c .before .before .before .before .before .before .before .before .before .before .pre .3) (omega (arith, c .before .before .before .if2 .left))
+    ∙ loaded-overdue (pre .0) (args .station) (pre .1) (args .clock) _ _ _ (is-in-view .ensures) (not-false _ (if1 .left)) (c .before .blame-at .ensures) (pre .3) (omega (arith, if2 .left))
 
 pub overdue-at-spec : {M : Type 1} → statement M
 overdue-at-spec =

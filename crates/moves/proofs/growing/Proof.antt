@@ -19,7 +19,9 @@ same-length-2 c = search needs
 
 returns : tie.Need-returns
 returns c =
-    let p = c .before .before .before .before .before .before .before .before .before .before .before .before .before .before .pre in grown (p .formed) (p .last) (p .gained) (p .next) (c .before .before .before .before .before .before .before .before .before .set-clock .ensures) (c .before .before .before .before .logging .ensures)
+    let pre = c .before .before .before .before .before .before .before .before .before .before .before .before .before .before .pre in
+    let set-clock = c .before .before .before .before .before .before .before .before .before .set-clock in let logging = c .before .before .before .before .logging in
+    grown (pre .formed) (pre .last) (pre .gained) (pre .next) (set-clock .ensures) (logging .ensures)
 
 pub growing-spec : {M : Type 1} → statement M
 growing-spec =

@@ -26,7 +26,8 @@ enters-at-requires c κs = search needs
 
 returns-2 : tie.Need-returns-2
 returns-2 c =
-    calm-by (c .before .before .before .before .before .before .pre .0) (c .before .before .before .before .before .before .args .station) (c .before .before .before .before .before .before .pre .1) _ (c .before .leads-at .result) (c .enters-at .result) (c .before .before .before .overdue-at .ensures) (c .before .before .if1 .left) (c .before .leads-at .ensures) (c .enters-at .ensures)
+    let start = c .before .before .before .before .before .before in let args = start .args in let pre = start .pre in let overdue-at = c .before .before .before .overdue-at in
+    calm-by (pre .0) (args .station) (pre .1) _ (c .before .leads-at .result) (c .enters-at .result) (overdue-at .ensures) (c .before .before .if1 .left) (c .before .leads-at .ensures) (c .enters-at .ensures)
 
 pub is-calm-spec : {M : Type 1} → statement M
 is-calm-spec =

@@ -31,7 +31,10 @@ same-length-2 c = search needs
 
 returns : tie.Need-returns
 returns c =
-    moved (c .before .before .before .before .before .before .before .before .before .before .before .before .before .before .before .before .before .before .before .before .before .before .before .pre .0) (c .before .before .before .before .before .before .before .before .before .before .before .before .before .before .before .before .before .before .complain .ensures) (c .before .before .before .before .before .before .before .before .before .before .before .lead .ensures) (c .before .before .before .before .enter .ensures)
+    let pre = c .before .before .before .before .before .before .before .before .before .before .before .before .before .before .before .before .before .before .before .before .before .before .before .pre in
+    let complain = c .before .before .before .before .before .before .before .before .before .before .before .before .before .before .before .before .before .before .complain in
+    let lead = c .before .before .before .before .before .before .before .before .before .before .before .lead in let enter = c .before .before .before .before .enter in
+    moved (pre .0) (complain .ensures) (lead .ensures) (enter .ensures)
 
 pub moving-spec : {M : Type 1} → statement M
 moving-spec =

@@ -21,11 +21,13 @@ leads-at-requires c κs = search needs
 
 returns : tie.Need-returns
 returns c =
-    never-next (c .before .before .before .before .pre .0) (sym (c .before .leads-at .ensures ∙ loaded-next (c .before .before .before .before .pre .0) (c .before .before .before .before .args .station) (c .before .before .before .before .pre .1)) ∙ not-true _ (c .if1 .taken))
+    let start = c .before .before .before .before in let args = start .args in let pre = start .pre in
+    never-next (pre .0) (sym (c .before .leads-at .ensures ∙ loaded-next (pre .0) (args .station) (pre .1)) ∙ not-true _ (c .if1 .taken))
 
 own-new-view-requires : tie.Need-own-new-view-requires
 own-new-view-requires c κs =
-    (c .before .before .before .before .pre .0, later-leader _ (sym (c .before .leads-at .ensures ∙ loaded-next (c .before .before .before .before .pre .0) (c .before .before .before .before .args .station) (c .before .before .before .before .pre .1)) ∙ not-false _ (c .if1 .left)))
+    let start = c .before .before .before .before in let args = start .args in let pre = start .pre in
+    (pre .0, later-leader _ (sym (c .before .leads-at .ensures ∙ loaded-next (pre .0) (args .station) (pre .1)) ∙ not-false _ (c .if1 .left)))
 
 planned-requires : tie.Need-planned-requires
 planned-requires c κs = search needs
@@ -35,10 +37,12 @@ fits-requires c κs = search needs
 
 returns-2 : tie.Need-returns-2
 returns-2 c =
-    let start = c .before .before .before .before .before .before .before in
+    let pre = c .before .before .before .before .before .before .before .pre in let args = c .before .before .before .before .before .before .before .args in
+    let leads-at = c .before .before .before .before .leads-at in let if1 = c .before .before .before .if1 in
     let own-new-view = c .before .before .own-new-view in
+    let start = c .before .before .before .before .before .before .before in
     c .fits2 .ensures ∙ plan-room (statementOf (own-new-view .result) none) (stateOf (start .args .store .now)) (formed-parts (start .pre .0)) (c .before .planned .result) (c .before .planned .ensures)
-    ∙ fits-next _ (own-new-view .result) (sym (c .before .before .before .before .leads-at .ensures ∙ loaded-next (c .before .before .before .before .before .before .before .pre .0) (c .before .before .before .before .before .before .before .args .station) (c .before .before .before .before .before .before .before .pre .1)) ∙ not-false _ (c .before .before .before .if1 .left)) (own-new-view .ensures .0)
+    ∙ fits-next _ (own-new-view .result) (sym (leads-at .ensures ∙ loaded-next (pre .0) (args .station) (pre .1)) ∙ not-false _ (if1 .left)) (own-new-view .ensures .0)
 
 pub next-fits-spec : {M : Type 1} → statement M
 next-fits-spec =

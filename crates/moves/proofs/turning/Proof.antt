@@ -10,9 +10,11 @@ growing-requires c κs =
 
 moving-requires : tie.Need-moving-requires
 moving-requires c κs =
-    let p = c .before .before .before .before .before .before .before .before .before .before .before .before .pre .0 in
-    let w = c .before .before .before .before .before .before .growing .ensures in
-    (grown-formed (p .formed) (p .last) (p .gained) w, grown-room (p .formed) (p .last) (p .gained) w (p .fits), grown-space (p .formed) (p .last) (p .gained) w (p .space), grown-votes (p .formed) (p .last) (p .gained) w (c .before .before .before .before .before .before .before .before .before .before .before .before .pre .1))
+    let pre = c .before .before .before .before .before .before .before .before .before .before .before .before .pre in
+    let growing = c .before .before .before .before .before .before .growing in
+    let p = pre .0 in
+    let w = growing .ensures in
+    (grown-formed (p .formed) (p .last) (p .gained) w, grown-room (p .formed) (p .last) (p .gained) w (p .fits), grown-space (p .formed) (p .last) (p .gained) w (p .space), grown-votes (p .formed) (p .last) (p .gained) w (pre .1))
 
 same-length : tie.Need-same-length
 same-length c = search needs
@@ -22,7 +24,9 @@ same-length-2 c = search needs
 
 returns : tie.Need-returns
 returns c =
-    let p = c .before .before .before .before .before .before .before .before .before .before .before .before .before .before .before .before .before .pre .0 in turned (p .formed) (p .last) (p .gained) (c .before .before .before .before .before .before .before .before .before .before .before .growing .ensures) (c .before .before .before .before .moving .ensures)
+    let pre = c .before .before .before .before .before .before .before .before .before .before .before .before .before .before .before .before .before .pre in
+    let growing = c .before .before .before .before .before .before .before .before .before .before .before .growing in let moving = c .before .before .before .before .moving in
+    let p = pre .0 in turned (p .formed) (p .last) (p .gained) (growing .ensures) (moving .ensures)
 
 pub turning-spec : {M : Type 1} → statement M
 turning-spec =

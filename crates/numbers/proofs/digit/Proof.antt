@@ -32,7 +32,8 @@ add-result c = search needs
 
 returns-2 : tie.Need-returns-2
 returns-2 c =
-    let e = sym (c .before .within .ensures) ∙ c .if2 .taken in (sym (digit-small _ (sym (c .before .before .before .is-decimal .ensures) ∙ c .before .before .if1 .left) e), omega (arith, within-high 97 102 (c .before .before .before .before .args .b) e))
+    let args = c .before .before .before .before .args in let is-decimal = c .before .before .before .is-decimal in
+    let e = sym (c .before .within .ensures) ∙ c .if2 .taken in (sym (digit-small _ (sym (is-decimal .ensures) ∙ c .before .before .if1 .left) e), omega (arith, within-high 97 102 (args .b) e))
 
 within-requires-2 : tie.Need-within-requires-2
 within-requires-2 c κs = search needs
@@ -46,11 +47,14 @@ add-result-2 c = search needs
 
 returns-3 : tie.Need-returns-3
 returns-3 c =
-    let e = sym (c .before .within2 .ensures) ∙ c .if3 .taken in (sym (digit-capital _ (sym (c .before .before .before .before .before .is-decimal .ensures) ∙ c .before .before .before .before .if1 .left) (sym (c .before .before .before .within .ensures) ∙ c .before .before .if2 .left) e), omega (arith, within-high 65 70 (c .before .before .before .before .before .before .args .b) e))
+    let args = c .before .before .before .before .before .before .args in let is-decimal = c .before .before .before .before .before .is-decimal in
+    let if1 = c .before .before .before .before .if1 in let within = c .before .before .before .within in
+    let e = sym (c .before .within2 .ensures) ∙ c .if3 .taken in (sym (digit-capital _ (sym (is-decimal .ensures) ∙ if1 .left) (sym (within .ensures) ∙ c .before .before .if2 .left) e), omega (arith, within-high 65 70 (args .b) e))
 
 returns-4 : tie.Need-returns-4
 returns-4 c =
-    (sym (digit-none _ (sym (c .before .before .before .before .before .is-decimal .ensures) ∙ c .before .before .before .before .if1 .left) (sym (c .before .before .before .within .ensures) ∙ c .before .before .if2 .left) (sym (c .before .within2 .ensures) ∙ c .if3 .left)), omega arith)
+    let is-decimal = c .before .before .before .before .before .is-decimal in let if1 = c .before .before .before .before .if1 in let within = c .before .before .before .within in
+    (sym (digit-none _ (sym (is-decimal .ensures) ∙ if1 .left) (sym (within .ensures) ∙ c .before .before .if2 .left) (sym (c .before .within2 .ensures) ∙ c .if3 .left)), omega arith)
 
 pub digit-spec : {M : Type 1} → statement M
 digit-spec =

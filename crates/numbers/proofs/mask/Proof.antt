@@ -66,7 +66,9 @@ returns-3 : tie.Need-returns-3 Inv-loop μ-loop
 unfolding union
 returns-3 c =
     let at = c .before .before .before .before .before .before .before .before .loop in
-    sym (at .inv .1 ∙ mask-last _ _ _ _ (c .before .before .before .before .before .before .before .run .ensures) _ (c .if2 .taken) (sym (c .before .before .before .before .before .decimal .ensures) ∙ ap numberOf (c .before .before .before .station .given .1)) ∙ ap (λ (x : ℕ). some (union (at .joined) x)) (sym (c .before .only .ensures)))
+    let run = c .before .before .before .before .before .before .before .run in
+    let decimal = c .before .before .before .before .before .decimal in let station = c .before .before .before .station in
+    sym (at .inv .1 ∙ mask-last _ _ _ _ (run .ensures) _ (c .if2 .taken) (sym (decimal .ensures) ∙ ap numberOf (station .given .1)) ∙ ap (λ (x : ℕ). some (union (at .joined) x)) (sym (c .before .only .ensures)))
 
 add-from : tie.Need-add-from Inv-loop μ-loop
 add-from c = search needs
@@ -77,10 +79,13 @@ loop-less c = search needs
 loop-again : tie.Need-loop-again Inv-loop μ-loop
 unfolding union
 loop-again c =
+    let args = c .before .before .before .before .before .before .before .before .before .before .before .before .before .args in
     let at = c .before .before .before .before .before .before .before .before .loop in
-    let w = c .before .before .before .before .before .before .before .before .before .before .before .before .before .args .word .now in
-    let end = c .before .before .before .before .before .before .before .run .result in
-    (search needs, at .inv .1 ∙ mask-next _ _ _ _ (c .before .before .before .before .before .before .before .run .ensures) _ (c .if2 .left) (sym (c .before .before .before .before .before .decimal .ensures) ∙ ap numberOf (c .before .before .before .station .given .1)) ∙ ap (λ (x : ℕ). stations (union (at .joined) x) (split (drop (end + 1) w))) (sym (c .before .only .ensures)))
+    let run = c .before .before .before .before .before .before .before .run in
+    let decimal = c .before .before .before .before .before .decimal in let station = c .before .before .before .station in
+    let w = args .word .now in
+    let end = run .result in
+    (search needs, at .inv .1 ∙ mask-next _ _ _ _ (run .ensures) _ (c .if2 .left) (sym (decimal .ensures) ∙ ap numberOf (station .given .1)) ∙ ap (λ (x : ℕ). stations (union (at .joined) x) (split (drop (end + 1) w))) (sym (c .before .only .ensures)))
 
 pub mask-spec : {M : Type 1} → statement M
 mask-spec =

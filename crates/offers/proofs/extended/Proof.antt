@@ -48,7 +48,9 @@ returns-2 : tie.Need-returns-2
 returns-2 c =
     let a = c .before .before .before .before .before .before .before .before .before .before .before .before .args in
     let load = c .before .before .before .before .before .before .before .before .before .before .load in
-    top-few (load .result) (a .store .now) (load .ensures) (a .name) (c .before .before .before .before .before .before .before .before .top .ensures) (c .before .before .before .before .before .before .i .given .1) (c .before .before .before .before .statement-at .result) (c .before .before .before .before .statement-at .ensures) (c .before .before .before .own-block .ensures) (c .before .before .voters .ensures) (c .before .quorum .ensures) (c .if1 .taken)
+    let top = c .before .before .before .before .before .before .before .before .top in let i = c .before .before .before .before .before .before .i in
+    let statement-at = c .before .before .before .before .statement-at in let own-block = c .before .before .before .own-block in
+    top-few (load .result) (a .store .now) (load .ensures) (a .name) (top .ensures) (i .given .1) (statement-at .result) (statement-at .ensures) (own-block .ensures) (c .before .before .voters .ensures) (c .before .quorum .ensures) (c .if1 .taken)
 
 cast-if2 : tie.Need-cast-if2
 cast-if2 c = search needs
@@ -57,20 +59,31 @@ returns-3 : tie.Need-returns-3
 returns-3 c =
     let a = c .before .before .before .before .before .before .before .before .before .before .before .before .before .before .args in
     let load = c .before .before .before .before .before .before .before .before .before .before .before .before .load in
-    top-high (load .result) (a .store .now) (load .ensures) (a .name) (c .before .before .before .before .before .before .before .before .before .before .top .ensures) (c .before .before .before .before .before .before .before .before .i .given .1) (c .before .before .before .before .before .before .statement-at .result) (c .before .before .before .before .before .before .statement-at .ensures) (c .before .before .before .before .before .own-block .ensures) (c .before .before .before .before .voters .ensures) (c .if2 .taken)
+    let top = c .before .before .before .before .before .before .before .before .before .before .top in
+    let i = c .before .before .before .before .before .before .before .before .i in let statement-at = c .before .before .before .before .before .before .statement-at in
+    let own-block = c .before .before .before .before .before .own-block in let voters = c .before .before .before .before .voters in
+    top-high (load .result) (a .store .now) (load .ensures) (a .name) (top .ensures) (i .given .1) (statement-at .result) (statement-at .ensures) (own-block .ensures) (voters .ensures) (c .if2 .taken)
 
 add-t15 : tie.Need-add-t15
 add-t15 c = search needs
 
 cast-t16 : tie.Need-cast-t16
 cast-t16 c =
-    record { fits = omega (arith, own-small (c .before .before .before .before .before .before .before .before .before .before .before .before .before .before .before .before .before .pre) (c .before .before .before .before .before .before .before .before .before .before .before .before .before .before .before .load .result) (c .before .before .before .before .before .before .before .before .before .before .before .before .before .before .before .load .ensures)) }
+    let pre = c .before .before .before .before .before .before .before .before .before .before .before .before .before .before .before .before .before .pre in
+    let load = c .before .before .before .before .before .before .before .before .before .before .before .before .before .before .before .load in
+    record { fits = omega (arith, own-small pre (load .result) (load .ensures)) }
 
 returns-4 : tie.Need-returns-4
 returns-4 c =
     let a = c .before .before .before .before .before .before .before .before .before .before .before .before .before .before .before .before .before .args in
     let load = c .before .before .before .before .before .before .before .before .before .before .before .before .before .before .before .load in
-    top-extended (load .result) (a .store .now) (load .ensures) (a .name) (c .before .before .before .before .before .before .before .before .before .before .before .before .before .top .ensures) (c .before .before .before .before .before .before .before .before .before .before .before .i .given .1) (c .before .before .before .before .before .before .before .before .before .statement-at .result) (c .before .before .before .before .before .before .before .before .before .statement-at .ensures) (c .before .before .before .before .before .before .before .before .own-block .ensures) (c .before .before .before .before .before .before .before .voters .ensures) (c .before .before .before .before .before .before .quorum .ensures) (c .before .before .before .before .before .if1 .left) (c .before .before .before .if2 .left)
+    let top = c .before .before .before .before .before .before .before .before .before .before .before .before .before .top in
+    let i = c .before .before .before .before .before .before .before .before .before .before .before .i in
+    let statement-at = c .before .before .before .before .before .before .before .before .before .statement-at in
+    let own-block = c .before .before .before .before .before .before .before .before .own-block in
+    let voters = c .before .before .before .before .before .before .before .voters in let quorum = c .before .before .before .before .before .before .quorum in
+    let if1 = c .before .before .before .before .before .if1 in let if2 = c .before .before .before .if2 in
+    top-extended (load .result) (a .store .now) (load .ensures) (a .name) (top .ensures) (i .given .1) (statement-at .result) (statement-at .ensures) (own-block .ensures) (voters .ensures) (quorum .ensures) (if1 .left) (if2 .left)
 
 pub extended-spec : {M : Type 1} → statement M
 extended-spec =

@@ -56,9 +56,10 @@ loop-less c = search needs
 
 loop-again : tie.Need-loop-again Inv-loop μ-loop
 loop-again c =
-    let l = c .before .before .before .loop in
     let a = c .before .before .before .before .before .args in
-    let small = opener-small (a .store .now) (c .before .before .before .before .shared-slice-known .given) (l .i - 1) in
+    let shared-slice-known = c .before .before .before .before .shared-slice-known in
+    let l = c .before .before .before .loop in
+    let small = opener-small (a .store .now) (shared-slice-known .given) (l .i - 1) in
     (omega (arith, l .inv .0), simp length-set (l .inv .1), counted-more (a .store .now) (l .i) (a .count) (l .counts) (c .before .before .loop-test .taken) (l .inv .0) (c .before .opener-at .result) (c .before .opener-at .ensures) (l .inv .2) (l .inv .1) (c .if1 .taken) (omega (arith, c .before .opener-at .ensures)))
 
 loop-less-2 : tie.Need-loop-less-2 Inv-loop μ-loop

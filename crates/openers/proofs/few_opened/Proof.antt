@@ -40,9 +40,10 @@ loop-less c = search needs
 
 loop-again : tie.Need-loop-again Inv-loop μ-loop
 loop-again c =
+    let counts-of = c .before .before .counts-of in
     let l = c .before .loop in
     let a = c .before .before .before .before in
-    (omega (arith, c .loop-test .taken), few-next (tallies (a .args .store .now)) (l .author) _ (l .few) (counted-author (a .args .store .now) (a .args .count) (c .before .before .counts-of .result) (c .before .before .counts-of .ensures) (a .pre .0 .is) (l .author) (omega (arith, a .pre .1, c .loop-test .taken))) (l .inv .1))
+    (omega (arith, c .loop-test .taken), few-next (tallies (a .args .store .now)) (l .author) _ (l .few) (counted-author (a .args .store .now) (a .args .count) (counts-of .result) (counts-of .ensures) (a .pre .0 .is) (l .author) (omega (arith, a .pre .1, c .loop-test .taken))) (l .inv .1))
 
 returns : tie.Need-returns Inv-loop μ-loop
 returns c =

@@ -4,7 +4,7 @@ use mathlib.Core.Path.{_≡_, _∙_, refl, sym}
 use native.Mathlib.Omega.{arith}
 use borrow.Author.Needs.{needs}
 use lib.ListN.{length, drop}
-use Rattle.page.specs.Page.{typed, pairs, inHex}
+use Rattle.page.specs.Page.{typed, pairs}
 use Rattle.page.proofs.Typing.{next-pair, no-pairs-left, dash, shown-pairs}
 use Rattle.page.proofs.bytes.Statement.{statement}
 use Rattle.page.proofs.bytes.Tie as tie

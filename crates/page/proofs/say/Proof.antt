@@ -32,7 +32,8 @@ loop-less c = omega arith
 
 loop-again : tie.Need-loop-again Inv-loop μ-loop
 loop-again c =
-    (omega arith, rw (c .put .ensures .0, c .put .ensures .1) (c .before .before .before .before .loop .inv .1 ∙ next-byte (c .before .before .before .before .before .before .args .words .now) (c .before .before .before .before .loop .i) (omega arith) _ _))
+    let args = c .before .before .before .before .before .before .args in let loop = c .before .before .before .before .loop in
+    (omega arith, rw (c .put .ensures .0, c .put .ensures .1) (loop .inv .1 ∙ next-byte (args .words .now) (loop .i) (omega arith) _ _))
 
 returns : tie.Need-returns Inv-loop μ-loop
 returns c =

@@ -51,17 +51,21 @@ returns-2 : tie.Need-returns-2
 returns-2 c =
     let a = c .before .before .before .before .before .before .before .before .before .before .args in
     let w = c .before .before .before .before .before .before .before .before .word-of in
-    let sort = c .before .before .before .before .before .before .sort-of .ensures in
-    let none = rw sort at (sym (c .before .before .before .before .value-of .ensures .0) ∙ ap namedOf (c .before .before .enum-told .given .1)) in
-    field-wrong _ _ _ _ _ _ (c .wrong2 .ensures .0) (c .wrong2 .ensures .1 ∙ ap Wrong (c .before .flaw-of .ensures ∙ ap flawOf sort)) (field-not (a .line .now) (a .at) (a .tag) (w .result) (w .ensures) (c .before .before .before .before .before .before .before .if1 .left) none)
+    let if1 = c .before .before .before .before .before .before .before .if1 in
+    let sort-of = c .before .before .before .before .before .before .sort-of in let value-of = c .before .before .before .before .value-of in
+    let sort = sort-of .ensures in
+    let none = rw sort at (sym (value-of .ensures .0) ∙ ap namedOf (c .before .before .enum-told .given .1)) in
+    field-wrong _ _ _ _ _ _ (c .wrong2 .ensures .0) (c .wrong2 .ensures .1 ∙ ap Wrong (c .before .flaw-of .ensures ∙ ap flawOf sort)) (field-not (a .line .now) (a .at) (a .tag) (w .result) (w .ensures) (if1 .left) none)
 
 returns-3 : tie.Need-returns-3
 returns-3 c =
     let a = c .before .before .before .before .before .before .before .before .before .args in
     let w = c .before .before .before .before .before .before .before .word-of in
-    let sort = c .before .before .before .before .before .sort-of .ensures in
+    let if1 = c .before .before .before .before .before .before .if1 in let sort-of = c .before .before .before .before .before .sort-of in
+    let value-of = c .before .before .before .value-of in
+    let sort = sort-of .ensures in
     let value = c .before .value .given .1 in
-    field-is (a .line .now) (a .at) (a .tag) (w .result) (w .ensures) (c .before .before .before .before .before .before .if1 .left) (c .before .value .given .0 .0) (rw sort at (sym (c .before .before .before .value-of .ensures .0) ∙ ap namedOf value)) (rw (sort, value) at (c .before .before .before .value-of .ensures .1))
+    field-is (a .line .now) (a .at) (a .tag) (w .result) (w .ensures) (if1 .left) (c .before .value .given .0 .0) (rw sort at (sym (value-of .ensures .0) ∙ ap namedOf value)) (rw (sort, value) at (value-of .ensures .1))
 
 pub field-at-spec : {M : Type 1} → statement M
 field-at-spec =

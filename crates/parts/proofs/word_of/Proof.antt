@@ -84,7 +84,8 @@ returns-7 c = rw (c .before .before .match .keys7) (c .unlabelled7 .ensures)
 returns-8 : tie.Need-returns-8
 unfolding plain
 returns-8 c =
-    rw (field-plain _ (c .before .before .match .rest .0 .0 .0 .0 .0 .0 .1) (c .before .before .match .rest .0 .0 .0 .0 .0 .1) (c .before .before .match .rest .0 .0 .0 .0 .1) (c .before .before .match .rest .0 .0 .0 .1) (c .before .before .match .rest .0 .0 .1) (c .before .before .match .rest .0 .1) (c .before .before .match .rest .1)) (c .unlabelled8 .ensures)
+    let matched = c .before .before .match in
+    rw (field-plain _ (matched .rest .0 .0 .0 .0 .0 .0 .1) (matched .rest .0 .0 .0 .0 .0 .1) (matched .rest .0 .0 .0 .0 .1) (matched .rest .0 .0 .0 .1) (matched .rest .0 .0 .1) (matched .rest .0 .1) (matched .rest .1)) (c .unlabelled8 .ensures)
 
 pub word-of-spec : {M : Type 1} → statement M
 word-of-spec =

@@ -1,7 +1,6 @@
 -- `plain::plain_offer` meets its contract. Assumes nothing.
-use mathlib.Core.Path.{_≡_, refl}
+use mathlib.Core.Path.{refl}
 use Rattle.lent_list.specs.Lists.{kindOf, bytesOf, inputOf}
-use Rattle.lent_list.specs.Plain.{plainOffer}
 use Rattle.plain.proofs.Offers.{name-short, name-good}
 use borrow.Author.Needs.{needs}
 use Rattle.plain.proofs.plain_offer.Statement.{statement}
@@ -25,7 +24,10 @@ same-length-2 c = search needs
 
 returns-2 : tie.Need-returns-2
 unfolding inputOf
-returns-2 c = let a = c .before .before .before .before .before .before .before .before .before .before .before .args in name-good (a .name .now) (a .list .now) (a .out .now) (c .before .before .before .before .before .before .before .if1 .left) (c .before .before .before .before .answered .ensures)
+returns-2 c =
+    let args = c .before .before .before .before .before .before .before .before .before .before .before .args in
+    let if1 = c .before .before .before .before .before .before .before .if1 in let answered = c .before .before .before .before .answered in
+    name-good (args .name .now) (args .list .now) (args .out .now) (if1 .left) (answered .ensures)
 
 pub plain-offer-spec : {M : Type 1} → statement M
 plain-offer-spec =

@@ -1,5 +1,5 @@
 -- `plain::plain_step` meets its contract. Assumes nothing.
-use mathlib.Core.Path.{_≡_, refl}
+use mathlib.Core.Path.{refl}
 use Rattle.lent_list.specs.Lists.{kindOf, bytesOf, inputOf}
 use Rattle.lent_list.specs.Plain.{plainStep}
 use native.Mathlib.Omega.{arith}

@@ -41,7 +41,11 @@ returns : tie.Need-returns
 unfolding messageOf
 returns c =
     let a = c .before .before .before .before .before .before .before .before .before .before .before .args in
-    set-sent (a .view) (a .mask) (a .e) (c .before .before .before .before .before .before .before .before .before .blamed .result) (c .before .before .before .before .before .before .before .before .before .blamed .ensures) _ (a .at) (c .before .before .before .before .before .blames-of .result) (ap₂ _&&_ (sym (c .before .before .before .before .before .before .before .before .is-in .ensures)) (sym (c .before .before .before .before .before .before .before .blame-full .ensures)) ∙ c .before .before .before .before .before .before .if1 .taken) (c .before .before .before .before .before .blames-of .ensures) (c .quit .ensures) (c .before .before .before .to-all .ensures)
+    let blamed = c .before .before .before .before .before .before .before .before .before .blamed in
+    let is-in = c .before .before .before .before .before .before .before .before .is-in in
+    let blame-full = c .before .before .before .before .before .before .before .blame-full in let if1 = c .before .before .before .before .before .before .if1 in
+    let blames-of = c .before .before .before .before .before .blames-of in let to-all = c .before .before .before .to-all in
+    set-sent (a .view) (a .mask) (a .e) (blamed .result) (blamed .ensures) _ (a .at) (blames-of .result) (ap₂ _&&_ (sym (is-in .ensures)) (sym (blame-full .ensures)) ∙ if1 .taken) (blames-of .ensures) (c .quit .ensures) (to-all .ensures)
 
 returns-2 : tie.Need-returns-2
 returns-2 c =

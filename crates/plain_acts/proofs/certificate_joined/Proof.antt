@@ -25,8 +25,9 @@ with-tables-requires c κs = search needs
 
 returns : tie.Need-returns
 returns c =
-    let a = c .before .before .before .before .before .before .args in
-    given (c .with-tables .ensures) (certificate-gives (a .e) (c .before .before .before .before .before .before .pre .0) (momentOf (c .before .before .before .before .before .moment-of .result)) (statementOf (a .x) none) (certificateOf (c .before .before .before .before .certificate-of .result)) (c .before .join-certificate .result) (c .before .before .before .before .before .moment-of .ensures) (c .before .before .before .before .certificate-of .ensures) (c .before .join-certificate .ensures))
+    let start = c .before .before .before .before .before .before in let a = start .args in let pre = start .pre in
+    let moment-of = c .before .before .before .before .before .moment-of in let certificate-of = c .before .before .before .before .certificate-of in
+    given (c .with-tables .ensures) (certificate-gives (a .e) (pre .0) (momentOf (moment-of .result)) (statementOf (a .x) none) (certificateOf (certificate-of .result)) (c .before .join-certificate .result) (moment-of .ensures) (certificate-of .ensures) (c .before .join-certificate .ensures))
 
 pub certificate-joined-spec : {M : Type 1} → statement M
 certificate-joined-spec =

@@ -31,17 +31,22 @@ join-certificate-requires c κs =
 
 join-requires : tie.Need-join-requires
 join-requires c κs =
-    let a = c .before .before .before .before .before .before .before .args in
-    (c .join-certificate .ensures .within, omega (arith, c .before .before .before .before .before .before .before .pre .2, certificate-count (a .e .tallies) (c .before .before .before .before .before .before .before .pre .0 .tallies) (momentOf (c .before .before .before .before .before .before .moment-of .result)) (certificateOf (c .before .before .before .before .before .certificate-of .result)) (c .join-certificate .result) (c .join-certificate .ensures)))
+    let start = c .before .before .before .before .before .before .before in let a = start .args in let pre = start .pre in
+    let moment-of = c .before .before .before .before .before .before .moment-of in let certificate-of = c .before .before .before .before .before .certificate-of in
+    (c .join-certificate .ensures .within, omega (arith, pre .2, certificate-count (a .e .tallies) (pre .0 .tallies) (momentOf (moment-of .result)) (certificateOf (certificate-of .result)) (c .join-certificate .result) (c .join-certificate .ensures)))
 
 with-tables-requires : tie.Need-with-tables-requires
 with-tables-requires c κs = search needs
 
 returns : tie.Need-returns
 returns c =
-    let a = c .before .before .before .before .before .before .before .before .before .args in
+    let start = c .before .before .before .before .before .before .before .before .before in let a = start .args in let pre = start .pre in
+    let moment-of = c .before .before .before .before .before .before .before .before .moment-of in
+    let certificate-of = c .before .before .before .before .before .before .before .certificate-of in
+    let own-block = c .before .before .before .before .before .before .own-block in let push = c .before .before .before .push in
+    let join-certificate = c .before .before .join-certificate in
     given (c .with-tables .ensures)
-    (stored-gives (a .e) (c .before .before .before .before .before .before .before .before .before .pre .0) (momentOf (c .before .before .before .before .before .before .before .before .moment-of .result)) (statementOf (a .x) none) (certificateOf (c .before .before .before .before .before .before .before .certificate-of .result)) (certificateOf (c .before .before .before .before .before .before .own-block .result)) (c .before .before .before .push .result) (c .before .before .join-certificate .result) (c .before .join .result) (c .before .before .before .before .before .before .before .before .moment-of .ensures) (c .before .before .before .before .before .before .before .certificate-of .ensures) (c .before .before .before .before .before .before .own-block .ensures) (c .before .before .before .push .ensures) (c .before .before .join-certificate .ensures .is) (c .before .join .ensures))
+    (stored-gives (a .e) (pre .0) (momentOf (moment-of .result)) (statementOf (a .x) none) (certificateOf (certificate-of .result)) (certificateOf (own-block .result)) (push .result) (join-certificate .result) (c .before .join .result) (moment-of .ensures) (certificate-of .ensures) (own-block .ensures) (push .ensures) (join-certificate .ensures .is) (c .before .join .ensures))
 
 pub stored-spec : {M : Type 1} → statement M
 stored-spec =

@@ -19,8 +19,8 @@ with-tables-requires c κs = search needs
 
 returns : tie.Need-returns
 returns c =
-    let a = c .before .before .before .before .before .args in
-    given (c .with-tables .ensures) (tallied-gives (a .e) (c .before .before .before .before .before .pre .0) (momentOf (c .before .before .before .before .moment-of .result)) (openerOf (a .opener)) (certificateOf (a .t)) (c .before .join-certificate .result) (c .before .before .before .before .moment-of .ensures) (c .before .join-certificate .ensures))
+    let start = c .before .before .before .before .before in let a = start .args in let pre = start .pre in let moment-of = c .before .before .before .before .moment-of in
+    given (c .with-tables .ensures) (tallied-gives (a .e) (pre .0) (momentOf (moment-of .result)) (openerOf (a .opener)) (certificateOf (a .t)) (c .before .join-certificate .result) (moment-of .ensures) (c .before .join-certificate .ensures))
 
 pub tallied-spec : {M : Type 1} → statement M
 tallied-spec =

@@ -35,10 +35,12 @@ with-tables-requires c κs = search needs
 
 returns : tie.Need-returns
 returns c =
-    let a = c .before .before .before .before .before .before .before .before .before .args in
+    let start = c .before .before .before .before .before .before .before .before .before in let a = start .args in let pre = start .pre in
+    let moment-of = c .before .before .before .before .before .before .before .moment-of in let mask-of = c .before .before .before .before .before .before .mask-of in
+    let own-block = c .before .before .before .before .before .own-block in let noted = c .before .before .noted in
     given (c .with-tables .ensures)
-    (voted-gives (a .e) (c .before .before .before .before .before .before .before .before .before .pre .0) (momentOf (c .before .before .before .before .before .before .before .moment-of .result)) (statementOf (a .x) none) (certificateOf (c .before .before .before .before .before .own-block .result)) (c .before .before .noted .result) (c .before .join .result) (c .before .before .before .before .before .before .before .moment-of .ensures)
-    (c .before .before .before .before .before .own-block .ensures ∙ ap (words.ownBlock (statementOf (a .x) none)) (c .before .before .before .before .before .before .mask-of .ensures)) (c .before .before .noted .ensures) (c .before .join .ensures))
+    (voted-gives (a .e) (pre .0) (momentOf (moment-of .result)) (statementOf (a .x) none) (certificateOf (own-block .result)) (noted .result) (c .before .join .result) (moment-of .ensures)
+    (own-block .ensures ∙ ap (words.ownBlock (statementOf (a .x) none)) (mask-of .ensures)) (noted .ensures) (c .before .join .ensures))
 
 pub voted-for-spec : {M : Type 1} → statement M
 voted-for-spec =

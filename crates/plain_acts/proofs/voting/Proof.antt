@@ -29,8 +29,10 @@ same-length c = search needs
 
 returns-2 : tie.Need-returns-2
 returns-2 c =
-    let a = c .before .before .before .before .before .before .before .before .args in
-    voted-worked (statementOf (a .x) none) (a .e) (c .before .before .before .before .before .before .before .before .pre .0) _ (a .at) (sym (c .before .before .before .before .before .before .below-lock .ensures) ∙ c .before .before .before .before .before .if1 .left) (c .voted-for .ensures) (c .before .before .before .ballot .ensures)
+    let start = c .before .before .before .before .before .before .before .before in let a = start .args in let pre = start .pre in
+    let below-lock = c .before .before .before .before .before .before .below-lock in let if1 = c .before .before .before .before .before .if1 in
+    let ballot = c .before .before .before .ballot in
+    voted-worked (statementOf (a .x) none) (a .e) (pre .0) _ (a .at) (sym (below-lock .ensures) ∙ if1 .left) (c .voted-for .ensures) (ballot .ensures)
 
 pub voting-spec : {M : Type 1} → statement M
 voting-spec =

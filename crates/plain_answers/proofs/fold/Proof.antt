@@ -32,7 +32,14 @@ sub-count : tie.Need-sub-count Inv-loop μ-loop
 sub-count c = omega (arith, lengths (c .before .before .before .args .list .now) (c .before .before .before .pre .0) .0)
 
 loop-holds : tie.Need-loop-holds Inv-loop μ-loop
-loop-holds c = (omega arith, slots-counted _, length-replicate {A = ℕ} leastOutSmall 0, fresh-is-whole (c .before .before .before .args .list .now) (c .before .settings-in .result) (c .fresh .result) (good-head (c .before .before .before .args .list .now) (c .before .settings-in .result) (c .before .before .before .pre .1) (c .before .settings-in .ensures .0)) (c .fresh .ensures), fold-starts (c .before .before .before .args .list .now) (c .before .settings-in .result) (c .fresh .result) (c .before .before .before .pre .1) (c .before .settings-in .ensures .0) (c .fresh .ensures))
+loop-holds c =
+    let start = c .before .before .before in let args = start .args in let pre = start .pre in (
+      omega arith,
+      slots-counted _,
+      length-replicate {A = ℕ} leastOutSmall 0,
+      fresh-is-whole (args .list .now) (c .before .settings-in .result) (c .fresh .result) (good-head (args .list .now) (c .before .settings-in .result) (pre .1) (c .before .settings-in .ensures .0)) (c .fresh .ensures),
+      fold-starts (args .list .now) (c .before .settings-in .result) (c .fresh .result) (pre .1) (c .before .settings-in .ensures .0) (c .fresh .ensures),
+    )
 
 held-at-requires : tie.Need-held-at-requires Inv-loop μ-loop
 held-at-requires c κs = (c .before .before .before .before .before .pre .0, rw (← c .before .loop .inv .1) (c .loop-test .taken))
@@ -47,7 +54,9 @@ loop-less : tie.Need-loop-less Inv-loop μ-loop
 loop-less c = search needs
 
 loop-again : tie.Need-loop-again Inv-loop μ-loop
-loop-again c = let l = c .before .before .before .before .loop in (omega arith, l .inv .1, l .inv .2, l .inv .3, fold-skips (c .before .before .before .before .before .before .before .before .args .list .now) (l .place) (l .engine) (l .inv .4) (c .before .before .held-at .ensures) (c .enum-told .given .1))
+loop-again c =
+    let args = c .before .before .before .before .before .before .before .before .args in let loop = c .before .before .before .before .loop in
+    (omega arith, loop .inv .1, loop .inv .2, loop .inv .3, fold-skips (args .list .now) (loop .place) (loop .engine) (loop .inv .4) (c .before .before .held-at .ensures) (c .enum-told .given .1))
 
 enum-known-kind : tie.Need-enum-known-kind Inv-loop μ-loop
 enum-known-kind c = search needs
@@ -65,22 +74,39 @@ slice-aggregate-turn-by : tie.Need-slice-aggregate-turn-by Inv-loop μ-loop
 slice-aggregate-turn-by c = search needs
 
 turn-by-requires : tie.Need-turn-by-requires Inv-loop μ-loop
-turn-by-requires c κs = let l = c .before .before .before .before .before .before .before .loop in (l .inv .3, name-long _ _ (held-input (c .before .before .before .before .before .held-at .ensures) _ _ _ (c .before .before .before .kind .given .1) .2), omega (arith, l .inv .2))
+turn-by-requires c κs =
+    let loop = c .before .before .before .before .before .before .before .loop in let held-at = c .before .before .before .before .before .held-at in
+    let kind = c .before .before .before .kind in
+    (loop .inv .3, name-long _ _ (held-input (held-at .ensures) _ _ _ (kind .given .1) .2), omega (arith, loop .inv .2))
 
 is-kept-requires : tie.Need-is-kept-requires Inv-loop μ-loop
 is-kept-requires c κs = search needs
 
 returns : tie.Need-returns Inv-loop μ-loop
-returns c = let l = c .before .before .before .before .before .before .before .before .before .before .before .loop in fold-stops (c .before .before .before .before .before .before .before .before .before .before .before .before .before .before .before .args .list .now) (l .place) (l .engine) (l .inv .4) (c .before .before .before .before .before .before .before .before .before .held-at .ensures) (c .before .before .before .before .before .before .before .kind .given .1) (c .before .before .before .turn-by .ensures) (c .before .is-kept .ensures) (l .inv .3) (not-true _ (c .if1 .taken))
+returns c =
+    let args = c .before .before .before .before .before .before .before .before .before .before .before .before .before .before .before .args in
+    let loop = c .before .before .before .before .before .before .before .before .before .before .before .loop in
+    let held-at = c .before .before .before .before .before .before .before .before .before .held-at in
+    let kind = c .before .before .before .before .before .before .before .kind in let turn-by = c .before .before .before .turn-by in
+    fold-stops (args .list .now) (loop .place) (loop .engine) (loop .inv .4) (held-at .ensures) (kind .given .1) (turn-by .ensures) (c .before .is-kept .ensures) (loop .inv .3) (not-true _ (c .if1 .taken))
 
 add-place-2 : tie.Need-add-place-2 Inv-loop μ-loop
-add-place-2 c = omega (arith, c .before .before .before .before .before .before .before .before .before .before .before .loop-test .taken, c .before .before .before .before .before .before .before .before .before .before .before .before .before .before .before .before .good .0 .0)
+add-place-2 c =
+    let good = c .before .before .before .before .before .before .before .before .before .before .before .before .before .before .before .before .good in
+    let loop-test = c .before .before .before .before .before .before .before .before .before .before .before .loop-test in
+    omega (arith, loop-test .taken, good .0 .0)
 
 loop-less-2 : tie.Need-loop-less-2 Inv-loop μ-loop
 loop-less-2 c = search needs
 
 loop-again-2 : tie.Need-loop-again-2 Inv-loop μ-loop
-loop-again-2 c = let l = c .before .before .before .before .before .before .before .before .before .before .before .before .loop in (omega arith, l .inv .1, c .before .before .before .before .turn-by .kept .1 .1 .1 .0 ∙ l .inv .2, c .before .before .before .before .turn-by .ensures .whole, fold-next (c .before .before .before .before .before .before .before .before .before .before .before .before .before .before .before .before .args .list .now) (l .place) (l .engine) (l .inv .4) (c .before .before .before .before .before .before .before .before .before .before .held-at .ensures) (c .before .before .before .before .before .before .before .before .kind .given .1) (c .before .before .before .before .turn-by .ensures) (c .before .before .is-kept .ensures) (not-false _ (c .before .if1 .left)))
+loop-again-2 c =
+    let args = c .before .before .before .before .before .before .before .before .before .before .before .before .before .before .before .before .args in
+    let loop = c .before .before .before .before .before .before .before .before .before .before .before .before .loop in
+    let held-at = c .before .before .before .before .before .before .before .before .before .before .held-at in
+    let kind = c .before .before .before .before .before .before .before .before .kind in let turn-by = c .before .before .before .before .turn-by in
+    let loop-test = c .before .before .before .before .before .before .before .before .before .before .before .loop-test in
+    (omega (arith, loop-test .taken), loop .inv .1, turn-by .kept .1 .1 .1 .0 ∙ loop .inv .2, turn-by .ensures .whole, fold-next (args .list .now) (loop .place) (loop .engine) (loop .inv .4) (held-at .ensures) (kind .given .1) (turn-by .ensures) (c .before .before .is-kept .ensures) (not-false _ (c .before .if1 .left)))
 
 returns-2 : tie.Need-returns-2 Inv-loop μ-loop
 returns-2 c = let l = c .before .loop in fold-ends (c .before .before .before .before .before .args .list .now) (l .place) (l .engine) (l .inv .4) (l .inv .3) (omega (arith, l .inv .1, c .loop-test .left))

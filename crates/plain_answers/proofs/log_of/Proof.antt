@@ -22,13 +22,21 @@ fold-requires : tie.Need-fold-requires
 fold-requires c κs = let a = c .before .before .before .before .before .args in open-list (a .list .now) (a .out .now) (c .before .barred .ensures) (c .if1 .left)
 
 write-log-requires : tie.Need-write-log-requires
-write-log-requires c κs = let a = c .before .before .before .before .before .before .before .before .before .before .args in (c .before .before .before .before .fold .ensures .whole .sized .log, log-fits (a .list .now) (a .out .now) (c .before .before .before .before .before .before .barred .ensures) (c .before .before .before .before .before .if1 .left) (c .before .before .before .before .fold .ensures))
+write-log-requires c κs =
+    let args = c .before .before .before .before .before .before .before .before .before .before .args in let barred = c .before .before .before .before .before .before .barred in
+    let if1 = c .before .before .before .before .before .if1 in let fold = c .before .before .before .before .fold in
+    (fold .ensures .whole .sized .log, log-fits (args .list .now) (args .out .now) (barred .ensures) (if1 .left) (fold .ensures))
 
 same-length-2 : tie.Need-same-length-2
 same-length-2 c = search needs
 
 returns-2 : tie.Need-returns-2
-returns-2 c = let a = c .before .before .before .before .before .before .before .before .before .before .before .before .before .args in log-told (a .list .now) (a .out .now) (c .before .before .before .before .before .before .before .before .before .barred .ensures) (c .before .before .before .before .before .before .before .before .if1 .left) (c .before .before .before .before .before .before .before .fold .ensures) (c .before .before .before .before .before .before .if2 .taken) (c .before .before .write-log .ensures .0) (c .before .before .write-log .ensures .1)
+returns-2 c =
+    let args = c .before .before .before .before .before .before .before .before .before .before .before .before .before .args in
+    let barred = c .before .before .before .before .before .before .before .before .before .barred in
+    let if1 = c .before .before .before .before .before .before .before .before .if1 in let fold = c .before .before .before .before .before .before .before .fold in
+    let if2 = c .before .before .before .before .before .before .if2 in let write-log = c .before .before .write-log in
+    log-told (args .list .now) (args .out .now) (barred .ensures) (if1 .left) (fold .ensures) (if2 .taken) (write-log .ensures .0) (write-log .ensures .1)
 
 refuse-requires-2 : tie.Need-refuse-requires-2
 refuse-requires-2 c κs = search needs
@@ -37,7 +45,10 @@ same-length-3 : tie.Need-same-length-3
 same-length-3 c = search needs
 
 returns-3 : tie.Need-returns-3
-returns-3 c = let a = c .before .before .before .before .before .before .before .before .args in log-none (a .list .now) (a .out .now) (c .before .before .before .before .barred .ensures) (c .before .before .before .if1 .left) (c .before .before .fold .ensures) (c .before .if2 .left) (c .refuse2 .ensures)
+returns-3 c =
+    let args = c .before .before .before .before .before .before .before .before .args in let barred = c .before .before .before .before .barred in
+    let if1 = c .before .before .before .if1 in
+    log-none (args .list .now) (args .out .now) (barred .ensures) (if1 .left) (c .before .before .fold .ensures) (c .before .if2 .left) (c .refuse2 .ensures)
 
 pub log-of-spec : {M : Type 1} → statement M
 log-of-spec =

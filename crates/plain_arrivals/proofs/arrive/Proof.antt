@@ -33,8 +33,10 @@ same-length c = search needs
 returns : tie.Need-returns
 unfolding messageOf
 returns c =
+    let blame-full = c .before .before .before .before .before .before .before .blame-full in let if1 = c .before .before .before .before .before .before .if1 in
+    let blames-of = c .before .before .before .before .before .blames-of in let to-all = c .before .before .before .to-all in
     let s = c .before .before .before .before .before .before .before .before .before in
-    arrives-full (s .args .e) _ (s .args .at) (sym (c .before .before .before .before .before .before .before .blame-full .ensures) ∙ c .before .before .before .before .before .before .if1 .taken) (c .before .before .before .before .before .blames-of .ensures) (c .before .before .before .to-all .ensures) (c .quit .ensures)
+    arrives-full (s .args .e) _ (s .args .at) (sym (blame-full .ensures) ∙ if1 .taken) (blames-of .ensures) (to-all .ensures) (c .quit .ensures)
 
 current-requires : tie.Need-current-requires
 current-requires c κs = search needs
@@ -47,9 +49,10 @@ enum-known-two c = search needs
 
 both-requires : tie.Need-both-requires
 both-requires c κs =
+    let current = c .before .before .before .before .before .current in let pair = c .before .before .before .before .pair in
     let s = c .before .before .before .before .before .before .before .before .before .before in
     let t = c .before .before .two .given in
-    let l = two-linked (s .args .e) (s .pre .0) (c .before .before .before .before .before .current .result) (c .before .before .before .before .before .current .ensures .is) (t .0 .0) (t .0 .1 .0) (ap twoOf (sym (t .1)) ∙ c .before .before .before .before .pair .ensures) in
+    let l = two-linked (s .args .e) (s .pre .0) (current .result) (current .ensures .is) (t .0 .0) (t .0 .1 .0) (ap twoOf (sym (t .1)) ∙ pair .ensures) in
     (l .0, l .1, omega (arith, s .pre .1))
 
 quit-requires-2 : tie.Need-quit-requires-2
@@ -63,9 +66,10 @@ in-order-requires c κs = search needs
 
 voting-all-requires : tie.Need-voting-all-requires
 voting-all-requires c κs =
-    let s = c .before .before .before .before .before .before .before .before .before .before in
+    let current = c .before .before .before .before .before .current in
     let o = c .before .in-order in
-    (o .ensures .within, s .pre .0 .sized, s .pre .0 .free, order-votable (s .args .e) (s .pre .0) (c .before .before .before .before .before .current .result) (c .before .before .before .before .before .current .ensures .is) (o .result) (o .ensures .is), omega (arith, s .pre .1, o .ensures .within .most))
+    let s = c .before .before .before .before .before .before .before .before .before .before in
+    (o .ensures .within, s .pre .0 .sized, s .pre .0 .free, order-votable (s .args .e) (s .pre .0) (current .result) (current .ensures .is) (o .result) (o .ensures .is), omega (arith, s .pre .1, o .ensures .within .most))
 
 same-length-2 : tie.Need-same-length-2
 same-length-2 c = search needs
@@ -73,17 +77,26 @@ same-length-2 c = search needs
 returns-2 : tie.Need-returns-2
 unfolding statementOf heldOf message
 returns-2 c =
+    let blame-full = c .before .before .before .before .before .before .before .before .before .before .before .before .blame-full in
+    let if1 = c .before .before .before .before .before .before .before .before .before .before .before .if1 in
+    let current = c .before .before .before .before .before .before .before .before .before .current in
+    let pair = c .before .before .before .before .before .before .before .before .pair in let two = c .before .before .before .before .before .before .two in
+    let both = c .before .before .before .both in
     let s = c .before .before .before .before .before .before .before .before .before .before .before .before .before .before in
-    let t = c .before .before .before .before .before .before .two .given in
-    arrives-two (s .args .e) _ (s .args .at) (sym (c .before .before .before .before .before .before .before .before .before .before .before .before .blame-full .ensures) ∙ c .before .before .before .before .before .before .before .before .before .before .before .if1 .left) (c .before .before .before .before .before .before .before .before .before .current .result) (current-is (s .args .e) (s .pre .0) (c .before .before .before .before .before .before .before .before .before .current .result) (c .before .before .before .before .before .before .before .before .before .current .ensures .is)) (heldOf (t .0 .0)) (heldOf (t .0 .1 .0)) (ap twoOf (sym (t .1)) ∙ c .before .before .before .before .before .before .before .before .pair .ensures) (c .before .before .before .both .ensures) (c .quit2 .ensures)
+    let t = two .given in
+    arrives-two (s .args .e) _ (s .args .at) (sym (blame-full .ensures) ∙ if1 .left) (current .result) (current-is (s .args .e) (s .pre .0) (current .result) (current .ensures .is)) (heldOf (t .0 .0)) (heldOf (t .0 .1 .0)) (ap twoOf (sym (t .1)) ∙ pair .ensures) (both .ensures) (c .quit2 .ensures)
 
 same-length-3 : tie.Need-same-length-3
 same-length-3 c = search needs
 
 returns-3 : tie.Need-returns-3
 returns-3 c =
+    let blame-full = c .before .before .before .before .before .before .before .before .before .before .before .blame-full in
+    let if1 = c .before .before .before .before .before .before .before .before .before .before .if1 in
+    let current = c .before .before .before .before .before .before .before .before .current in let pair = c .before .before .before .before .before .before .before .pair in
+    let enum-told = c .before .before .before .before .before .enum-told in let in-order = c .before .before .before .before .in-order in
     let s = c .before .before .before .before .before .before .before .before .before .before .before .before .before in
-    arrives-votes (s .args .e) _ (s .args .at) (sym (c .before .before .before .before .before .before .before .before .before .before .before .blame-full .ensures) ∙ c .before .before .before .before .before .before .before .before .before .before .if1 .left) (c .before .before .before .before .before .before .before .before .current .result) (current-is (s .args .e) (s .pre .0) (c .before .before .before .before .before .before .before .before .current .result) (c .before .before .before .before .before .before .before .before .current .ensures .is)) (c .before .before .before .before .in-order .result) (c .before .before .before .before .in-order .ensures .is) (ap twoOf (sym (c .before .before .before .before .before .enum-told .given .1)) ∙ c .before .before .before .before .before .before .before .pair .ensures) (c .before .before .voting-all .ensures)
+    arrives-votes (s .args .e) _ (s .args .at) (sym (blame-full .ensures) ∙ if1 .left) (current .result) (current-is (s .args .e) (s .pre .0) (current .result) (current .ensures .is)) (in-order .result) (in-order .ensures .is) (ap twoOf (sym (enum-told .given .1)) ∙ pair .ensures) (c .before .before .voting-all .ensures)
 
 pub arrive-spec : {M : Type 1} → statement M
 arrive-spec =

@@ -27,8 +27,10 @@ same-length c = search needs
 
 returns-2 : tie.Need-returns-2
 returns-2 c =
+    let enters-now = c .before .before .before .before .before .before .before .before .before .enters-now in
+    let if1 = c .before .before .before .before .before .before .before .before .if1 in let entered = c .before .before .before .before .before .before .entered in
     let s = c .before .before .before .before .before .before .before .before .before .before .before in
-    enters (s .args .e) (s .pre .0) _ (s .args .at) (sym (c .before .before .before .before .before .before .before .before .before .enters-now .ensures) ∙ not-false _ (c .before .before .before .before .before .before .before .before .if1 .left)) (c .before .before .before .before .before .before .entered .ensures) (c .before .before .arrive .ensures)
+    enters (s .args .e) (s .pre .0) _ (s .args .at) (sym (enters-now .ensures) ∙ not-false _ (if1 .left)) (entered .ensures) (c .before .before .arrive .ensures)
 
 pub enter-spec : {M : Type 1} → statement M
 enter-spec =

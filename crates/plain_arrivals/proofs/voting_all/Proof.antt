@@ -31,8 +31,7 @@ add-i c = let p = c .before .before .before .before .pre in omega (arith, p .0 .
 
 voting-requires : tie.Need-voting-requires Inv-loop μ-loop
 voting-requires c κs =
-    let a = c .before .before .before .before .before .args in
-    let p = c .before .before .before .before .before .pre in
+    let start = c .before .before .before .before .before in let a = start .args in let p = start .pre in
     let l = c .before .before .before .loop in
     let x = getD (a .t1 .items) (l .i) blank in
     let v = next-votable (a .t1) (p .0) blank (l .i) (c .before .before .loop-test .taken) (state (l .engine) .tallies) (l .inv .votable) in

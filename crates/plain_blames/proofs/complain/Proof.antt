@@ -47,8 +47,11 @@ same-length c = search needs
 returns-2 : tie.Need-returns-2
 unfolding messageOf
 returns-2 c =
+    let overdue = c .before .before .before .before .before .before .before .before .before .before .before .overdue in
+    let if1 = c .before .before .before .before .before .before .before .before .before .before .if1 in
+    let to-all = c .before .before .before .before .before .before .before .to-all in let only = c .before .before .before .before .only in
     let s = c .before .before .before .before .before .before .before .before .before .before .before .before .before in
-    complained (s .args .e) (s .pre .0) _ (s .args .at) (sym (c .before .before .before .before .before .before .before .before .before .before .before .overdue .ensures) ∙ not-false _ (c .before .before .before .before .before .before .before .before .before .before .if1 .left)) (c .before .before .before .before .before .before .before .to-all .ensures) (c .before .before .before .before .only .ensures) (c .before .before .blaming .ensures)
+    complained (s .args .e) (s .pre .0) _ (s .args .at) (sym (overdue .ensures) ∙ not-false _ (if1 .left)) (to-all .ensures) (only .ensures) (c .before .before .blaming .ensures)
 
 pub complain-spec : {M : Type 1} → statement M
 complain-spec =

@@ -30,7 +30,10 @@ since-requires : tie.Need-since-requires
 since-requires c κs = search needs
 
 returns : tie.Need-returns
-returns c = overdue-parts (c .before .before .before .before .before .before .before .before .args .e) (c .before .before .before .before .before .is-in .ensures) (c .before .before .before .before .blames-of .ensures) (c .before .before .before .holds .ensures) (c .before .before .votes .ensures) (c .before .patience .ensures) (c .since .ensures)
+returns c =
+    let args = c .before .before .before .before .before .before .before .before .args in let is-in = c .before .before .before .before .before .is-in in
+    let blames-of = c .before .before .before .before .blames-of in let holds = c .before .before .before .holds in
+    overdue-parts (args .e) (is-in .ensures) (blames-of .ensures) (holds .ensures) (c .before .before .votes .ensures) (c .before .patience .ensures) (c .since .ensures)
 
 pub overdue-spec : {M : Type 1} → statement M
 overdue-spec =

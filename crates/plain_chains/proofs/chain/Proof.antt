@@ -1,13 +1,12 @@
 -- `plain_chains::chain` meets its contract: the walk goes down, and what it found stands in the array. Assumes nothing.
 use borrow.Author.Needs.{needs}
-use Prim.Native.Nat.{_≤_, _-_}
-use mathlib.Core.Path.{_≡_, refl, sym, ap, _∙_}
-use mathlib.Core.Option.{some}
+use Prim.Native.Nat.{_-_}
+use mathlib.Core.Path.{refl, sym, ap, _∙_}
 use native.Mathlib.Omega.{arith}
 use lib.ListN.{drop, length-set}
 use Rattle.fields.specs.Names.{nameOf}
 use Rattle.wire.specs.Meaning.{statementOf}
-use Rattle.rules.specs.Inputs.{chainTo, chain}
+use Rattle.rules.specs.Inputs.{chainTo}
 use Rattle.plain_words.specs.Places.{firsts}
 use Rattle.plain_statements.specs.Meaning.{heldOf, foundOf, statements}
 use Rattle.plain_tables.specs.Meaning.{room, names}
@@ -67,11 +66,15 @@ enum-told c = search needs
 returns-2 : tie.Need-returns-2 Inv-loop μ-loop
 unfolding maybeOf heldOf statementOf
 returns-2 c =
+    let lower = c .before .before .before .before .before .before .before .before .before .before .lower in
+    let none = c .before .before .before .before .before .before .before .before .before .none in
+    let if1 = c .before .before .before .before .before .before .before .before .if1 in let loop = c .before .before .before .before .loop in
+    let loop-test = c .before .before .before .loop-test in
     let s = c .before .before .before .before .before .before .before .before .before .before .before .before in
     record {
-      within = c .before .before .before .before .before .before .before .before .before .none .ensures .within;
-      is = sym (chain-start (statements (s .args .xs)) (heldOf (s .args .x)) (c .before .before .before .before .before .before .before .before .before .none .result .items) _ (s .args .x .statement .name) (c .before .before .before .before .before .before .before .before .before .before .lower .ensures) (omega (arith, c .before .before .before .before .before .before .before .before .before .none .ensures .within .long, c .before .before .before .before .before .before .before .before .if1 .left)) refl
-          ∙ walk-broken (c .before .before .before .before .loop .inv) (c .before .before .before .loop-test .taken) (sym (c .before .before .first-block .ensures) ∙ ap foundOf (c .enum-told .given .1)));
+      within = none .ensures .within;
+      is = sym (chain-start (statements (s .args .xs)) (heldOf (s .args .x)) (none .result .items) _ (s .args .x .statement .name) (lower .ensures) (omega (arith, none .ensures .within .long, if1 .left)) refl
+          ∙ walk-broken (loop .inv) (loop-test .taken) (sym (c .before .before .first-block .ensures) ∙ ap foundOf (c .enum-told .given .1)));
     }
 
 sub-k : tie.Need-sub-k Inv-loop μ-loop
@@ -88,16 +91,21 @@ loop-less c = omega arith
 
 loop-again : tie.Need-loop-again Inv-loop μ-loop
 unfolding heldOf statementOf
-loop-again c = walk-next (c .before .before .before .before .before .before .before .loop .inv) _ _ refl (c .before .before .before .before .before .before .loop-test .taken) (sym (c .before .before .before .before .before .first-block .ensures) ∙ ap foundOf (c .before .before .before .y .given .1))
+loop-again c =
+    let loop = c .before .before .before .before .before .before .before .loop in let loop-test = c .before .before .before .before .before .before .loop-test in
+    let first-block = c .before .before .before .before .before .first-block in let y = c .before .before .before .y in
+    walk-next (loop .inv) _ _ refl (loop-test .taken) (sym (first-block .ensures) ∙ ap foundOf (y .given .1))
 
 returns-3 : tie.Need-returns-3 Inv-loop μ-loop
 unfolding maybeOf heldOf statementOf names
 returns-3 c =
+    let lower = c .before .before .before .before .before .before .before .lower in let none = c .before .before .before .before .before .before .none in
+    let if1 = c .before .before .before .before .before .if1 in
     let s = c .before .before .before .before .before .before .before .before .before in
     let w = c .before .loop .inv in
     record {
       within = record { long = w .long; most = w .fits };
-      is = sym (chain-start (statements (s .args .xs)) (heldOf (s .args .x)) (c .before .before .before .before .before .before .none .result .items) _ (s .args .x .statement .name) (c .before .before .before .before .before .before .before .lower .ensures) (omega (arith, c .before .before .before .before .before .before .none .ensures .within .long, c .before .before .before .before .before .if1 .left)) refl ∙ walk-end w (c .loop-test .left));
+      is = sym (chain-start (statements (s .args .xs)) (heldOf (s .args .x)) (none .result .items) _ (s .args .x .statement .name) (lower .ensures) (omega (arith, none .ensures .within .long, if1 .left)) refl ∙ walk-end w (c .loop-test .left));
     }
 
 pub chain-spec : {M : Type 1} → statement M

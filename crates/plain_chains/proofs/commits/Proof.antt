@@ -1,5 +1,4 @@
 -- `plain_chains::commits` meets its contract: what is left of the due ones joins the log as it then stands. Assumes nothing.
-use borrow.Author.Needs.{needs}
 use Prim.Native.Nat.{_≤_, _-_}
 use mathlib.Core.Path.{_≡_, refl, sym, _∙_}
 use native.Mathlib.Omega.{arith}
@@ -39,9 +38,10 @@ commit-requires c κs = let s = c .before .before .before in (s .pre .0, s .pre 
 returns : tie.Need-returns Inv-loop μ-loop
 unfolding maybeOf
 returns c =
-    let s = c .before .before .before .before .before .before in
     let l = c .before .before .before .before .before .loop in
-    record { within = l .inv .1; is = sym (l .inv .2 ∙ commits-differ (statements (s .args .xs)) (s .args .t2 .items) (s .args .t2 .count) _ (l .i) (tables.names (l .names)) (omega (arith, s .pre .2 .long, s .pre .2 .most)) (c .before .before .before .before .loop-test .taken) (gives-none (c .before .before .commit .ensures) (not-true _ (c .if1 .taken)))) }
+    let loop-test = c .before .before .before .before .loop-test in
+    let s = c .before .before .before .before .before .before in
+    record { within = l .inv .1; is = sym (l .inv .2 ∙ commits-differ (statements (s .args .xs)) (s .args .t2 .items) (s .args .t2 .count) _ (l .i) (tables.names (l .names)) (omega (arith, s .pre .2 .long, s .pre .2 .most)) (loop-test .taken) (gives-none (c .before .before .commit .ensures) (not-true _ (c .if1 .taken)))) }
 
 add-i : tie.Need-add-i Inv-loop μ-loop
 add-i c = omega arith
@@ -51,9 +51,11 @@ loop-less c = omega arith
 
 loop-again : tie.Need-loop-again Inv-loop μ-loop
 loop-again c =
-    let s = c .before .before .before .before .before .before .before in
     let l = c .before .before .before .before .before .before .loop in
-    (omega arith, c .before .before .before .commit .ensures .within, l .inv .2 ∙ commits-go (statements (s .args .xs)) (s .args .t2 .items) (s .args .t2 .count) _ (l .i) (tables.names (l .names)) (omega (arith, s .pre .2 .long, s .pre .2 .most)) (c .before .before .before .before .before .loop-test .taken) _ (gives-some (c .before .before .before .commit .ensures) (not-false _ (c .before .if1 .left))))
+    let loop-test = c .before .before .before .before .before .loop-test in
+    let commit = c .before .before .before .commit in
+    let s = c .before .before .before .before .before .before .before in
+    (omega arith, commit .ensures .within, l .inv .2 ∙ commits-go (statements (s .args .xs)) (s .args .t2 .items) (s .args .t2 .count) _ (l .i) (tables.names (l .names)) (omega (arith, s .pre .2 .long, s .pre .2 .most)) (loop-test .taken) _ (gives-some (commit .ensures) (not-false _ (c .before .if1 .left))))
 
 returns-2 : tie.Need-returns-2 Inv-loop μ-loop
 unfolding maybeOf

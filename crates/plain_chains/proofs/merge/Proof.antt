@@ -1,12 +1,10 @@
 -- `plain_chains::merge` meets its contract: so far they agree. Assumes nothing.
 use borrow.Author.Needs.{needs}
-use Prim.Native.Nat.{_≤_, _-_}
-use mathlib.Core.Path.{_≡_, refl, sym, _∙_}
+use Prim.Native.Nat.{_-_}
+use mathlib.Core.Path.{_≡_, sym, _∙_}
 use mathlib.Core.Bool.{true}
 use native.Mathlib.Omega.{arith}
 use borrow.Author.Tests.{not-true, not-false}
-use Rattle.fields.specs.Names.{nameOf}
-use Rattle.plain_words.specs.Places.{firsts}
 use Rattle.plain_tables.specs.Meaning.{names}
 use Rattle.plain_chains.specs.Meaning.{maybeOf}
 use Rattle.plain_chains.proofs.Merges.{agree, agree-none, stays, grows, differs, agrees}

@@ -17,7 +17,9 @@ same-length : tie.Need-same-length
 same-length c = search needs
 
 returns : tie.Need-returns
-returns c = let s = c .before .before .before .before .before .before .before in entered-worked (s .args .e) (s .pre .0) (c .before .before .before .before .before .next-lock .result) (c .before .before .before .before .before .next-lock .ensures) (c .entering .ensures) (c .before .before .before .report .ensures)
+returns c =
+    let next-lock = c .before .before .before .before .before .next-lock in let report = c .before .before .before .report in
+    let s = c .before .before .before .before .before .before .before in entered-worked (s .args .e) (s .pre .0) (next-lock .result) (next-lock .ensures) (c .entering .ensures) (report .ensures)
 
 pub entered-spec : {M : Type 1} → statement M
 entered-spec =

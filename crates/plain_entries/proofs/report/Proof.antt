@@ -41,7 +41,9 @@ same-length c = search needs
 
 returns-2 : tie.Need-returns-2
 unfolding messageOf
-returns-2 c = let s = c .before .before .before .before .before .before .before .before .before .before .before in reported (s .args .e) _ (s .args .at) _ (c .before .before .before .before .before .before .before .leader .ensures) (s .args .lock) (s .pre .2) (c .before .before .before .before .before .if1 .left) (c .before .before .to-one .ensures)
+returns-2 c =
+    let leader = c .before .before .before .before .before .before .before .leader in let if1 = c .before .before .before .before .before .if1 in
+    let s = c .before .before .before .before .before .before .before .before .before .before .before in reported (s .args .e) _ (s .args .at) _ (leader .ensures) (s .args .lock) (s .pre .2) (if1 .left) (c .before .before .to-one .ensures)
 
 pub report-spec : {M : Type 1} → statement M
 report-spec =

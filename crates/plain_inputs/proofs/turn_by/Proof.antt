@@ -24,7 +24,10 @@ same-length-2 : tie.Need-same-length-2
 same-length-2 c = search needs
 
 returns-2 : tie.Need-returns-2
-returns-2 c = let k = c .before .before .before .before .before .before .before .before .before in by-offer (k .args .kind) (k .args .input .now) _ (c .before .before .before .before .before .before .if1 .left) (c .before .before .before .before .before .if2 .taken) (k .pre .1 (c .before .before .before .before .before .if2 .taken)) (c .before .before .before .before .get-name .ensures .0) (c .before .before .offer .ensures)
+returns-2 c =
+    let if1 = c .before .before .before .before .before .before .if1 in let if2 = c .before .before .before .before .before .if2 in
+    let get-name = c .before .before .before .before .get-name in
+    let k = c .before .before .before .before .before .before .before .before .before in by-offer (k .args .kind) (k .args .input .now) _ (if1 .left) (if2 .taken) (k .pre .1 (if2 .taken)) (get-name .ensures .0) (c .before .before .offer .ensures)
 
 step-requires : tie.Need-step-requires
 step-requires c κs = search needs
@@ -33,7 +36,9 @@ same-length-3 : tie.Need-same-length-3
 same-length-3 c = search needs
 
 returns-3 : tie.Need-returns-3
-returns-3 c = let k = c .before .before .before .before .before .before .before .before in by-step (k .args .kind) (k .args .input .now) _ (c .before .before .before .before .before .if1 .left) (c .before .before .before .before .if2 .left) (c .before .before .step .ensures)
+returns-3 c =
+    let if1 = c .before .before .before .before .before .if1 in let if2 = c .before .before .before .before .if2 in
+    let k = c .before .before .before .before .before .before .before .before in by-step (k .args .kind) (k .args .input .now) _ (if1 .left) (if2 .left) (c .before .before .step .ensures)
 
 pub turn-by-spec : {M : Type 1} → statement M
 turn-by-spec =

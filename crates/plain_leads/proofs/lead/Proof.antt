@@ -25,8 +25,10 @@ same-length c = search needs
 
 returns-2 : tie.Need-returns-2
 returns-2 c =
+    let leads-now = c .before .before .before .before .before .before .leads-now in let if1 = c .before .before .before .before .before .if1 in
+    let own-new-view = c .before .before .before .before .own-new-view in
     let s = c .before .before .before .before .before .before .before .before in
-    leading (s .args .e) _ (s .args .at) (c .before .before .before .before .own-new-view .result) (sym (c .before .before .before .before .before .before .leads-now .ensures) ∙ not-false _ (c .before .before .before .before .before .if1 .left)) (c .before .before .before .before .own-new-view .ensures) (c .before .before .handled .ensures)
+    leading (s .args .e) _ (s .args .at) (own-new-view .result) (sym (leads-now .ensures) ∙ not-false _ (if1 .left)) (own-new-view .ensures) (c .before .before .handled .ensures)
 
 pub lead-spec : {M : Type 1} → statement M
 lead-spec =

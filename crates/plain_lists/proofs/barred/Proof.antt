@@ -15,10 +15,16 @@ has-form-requires : tie.Need-has-form-requires
 has-form-requires c κs = sym (c .before .has-length .ensures) ∙ c .if2 .taken
 
 returns-2 : tie.Need-returns-2
-returns-2 c = form-good (c .before .before .before .before .before .before .before .args .list .now) (c .before .before .before .before .before .before .before .args .out .now) (c .before .before .before .before .if1 .left) (c .before .before .before .has-length .ensures) (c .before .before .if2 .taken) (c .before .has-form .ensures) (c .if3 .taken)
+returns-2 c =
+    let args = c .before .before .before .before .before .before .before .args in let if1 = c .before .before .before .before .if1 in
+    let has-length = c .before .before .before .has-length in
+    form-good (args .list .now) (args .out .now) (if1 .left) (has-length .ensures) (c .before .before .if2 .taken) (c .before .has-form .ensures) (c .if3 .taken)
 
 returns-3 : tie.Need-returns-3
-returns-3 c = form-wrong (c .before .before .before .before .before .before .before .args .list .now) (c .before .before .before .before .before .before .before .args .out .now) (c .before .before .before .before .if1 .left) (c .before .before .before .has-length .ensures) (c .before .before .if2 .taken) (c .before .has-form .ensures) (c .if3 .left)
+returns-3 c =
+    let args = c .before .before .before .before .before .before .before .args in let if1 = c .before .before .before .before .if1 in
+    let has-length = c .before .before .before .has-length in
+    form-wrong (args .list .now) (args .out .now) (if1 .left) (has-length .ensures) (c .before .before .if2 .taken) (c .before .has-form .ensures) (c .if3 .left)
 
 returns-4 : tie.Need-returns-4
 returns-4 c = list-wrong (c .before .before .before .before .before .args .list .now) (c .before .before .before .before .before .args .out .now) (c .before .before .if1 .left) (c .before .has-length .ensures) (c .if2 .left)

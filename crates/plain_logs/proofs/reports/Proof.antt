@@ -1,12 +1,11 @@
 -- `plain_logs::reports` meets its contract: what is left is still to be said. Assumes nothing.
 use Prim.Native.Nat.{_+_, _-_}
-use mathlib.Core.Path.{_≡_, refl}
+use mathlib.Core.Path.{refl}
 use native.Mathlib.Omega.{arith}
 use lib.ListN.{getD}
 use Rattle.fields.specs.Names.{nameOf}
 use Rattle.outgoing.proofs.Writing.{length-committed}
 use Rattle.plain_logs.proofs.Saying.{Reporting, report-end, report-again}
-use borrow.Author.Needs.{needs}
 use Rattle.plain_logs.proofs.reports.Statement.{statement}
 use Rattle.plain_logs.proofs.reports.Tie as tie
 
@@ -41,7 +40,10 @@ loop-less : tie.Need-loop-less Inv-loop μ-loop
 loop-less c = omega (arith, c .before .before .before .before .before .loop-test .taken)
 
 loop-again : tie.Need-loop-again Inv-loop μ-loop
-loop-again c = let a = c .before .before .before .before .before .before .before .before .args in report-again (a .t1) (c .before .before .before .before .before .before .before .before .pre .0) _ (c .before .before .before .before .before .loop-test .taken) (c .before .before .before .before .before .before .loop .inv) (c .before .before .committed .ensures)
+loop-again c =
+    let start = c .before .before .before .before .before .before .before .before in let args = start .args in let pre = start .pre in
+    let loop = c .before .before .before .before .before .before .loop in let loop-test = c .before .before .before .before .before .loop-test in
+    report-again (args .t1) (pre .0) _ (loop-test .taken) (loop .inv) (c .before .before .committed .ensures)
 
 same-length : tie.Need-same-length Inv-loop μ-loop
 same-length c = c .before .loop .inv .long

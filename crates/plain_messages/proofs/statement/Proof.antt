@@ -39,9 +39,10 @@ is-in-requires c κs = search needs
 returns-2 : tie.Need-returns-2
 unfolding statementOf
 returns-2 c =
-    let a = c .before .before .before .before .before .before .before .args in
-    let k = c .before .before .before .before .before .before .before .pre .0 in
-    elsewhere (statementOf (a .x) none) (a .e) _ (a .at) (sym (c .before .before .before .before .any-same .ensures) ∙ c .before .before .before .if1 .left) (sym (c .before .is-in .ensures) ∙ not-true _ (c .if2 .taken)) (c .before .before .stored .ensures)
+    let start = c .before .before .before .before .before .before .before in let a = start .args in let pre = start .pre in
+    let any-same = c .before .before .before .before .any-same in let if1 = c .before .before .before .if1 in
+    let k = pre .0 in
+    elsewhere (statementOf (a .x) none) (a .e) _ (a .at) (sym (any-same .ensures) ∙ if1 .left) (sym (c .before .is-in .ensures) ∙ not-true _ (c .if2 .taken)) (c .before .before .stored .ensures)
 
 first-conflict-requires : tie.Need-first-conflict-requires
 first-conflict-requires c κs = search needs
@@ -54,18 +55,20 @@ quit-requires c κs = search needs
 
 both-requires : tie.Need-both-requires
 both-requires c κs =
-    let a = c .before .before .before .before .before .before .before .before .before .before .before .before .before .args in
-    let k = c .before .before .before .before .before .before .before .before .before .before .before .before .before .pre .0 in
-    (found-linked (a .e) k (conflict (statementOf (a .x) none)) (c .before .before .before .found .given .0 .0) (ap foundOf (sym (c .before .before .before .found .given .1)) ∙ c .before .before .before .before .before .first-conflict .ensures), links (state (a .e) .settings) (a .x) (c .before .before .before .before .before .before .before .before .before .before .before .before .before .pre .1), c .before .before .before .before .before .before .before .before .before .before .before .before .before .pre .2)
+    let start = c .before .before .before .before .before .before .before .before .before .before .before .before .before in let a = start .args in let pre = start .pre in
+    let first-conflict = c .before .before .before .before .before .first-conflict in let found = c .before .before .before .found in
+    let k = pre .0 in
+    (found-linked (a .e) k (conflict (statementOf (a .x) none)) (found .given .0 .0) (ap foundOf (sym (found .given .1)) ∙ first-conflict .ensures), links (state (a .e) .settings) (a .x) (pre .1), pre .2)
 
 enum-told : tie.Need-enum-told
 enum-told c = search needs
 
 voting-requires : tie.Need-voting-requires
 voting-requires c κs =
-    let a = c .before .before .before .before .before .before .before .before .before .before .before .args in
-    let k = c .before .before .before .before .before .before .before .before .before .before .before .pre .0 in
-    (c .before .before .before .before .before .before .stored .ensures .sized, stored-room (a .e) k (statementOf (a .x) none) (c .before .before .before .before .before .before .stored .result) (c .before .before .before .before .before .before .stored .ensures), certifies (state (a .e) .settings) (statementOf (a .x) none) (c .before .before .before .before .before .before .before .before .before .before .before .pre .1), links (state (a .e) .settings) (a .x) (c .before .before .before .before .before .before .before .before .before .before .before .pre .1), c .before .before .before .before .before .before .before .before .before .before .before .pre .2)
+    let start = c .before .before .before .before .before .before .before .before .before .before .before in let a = start .args in let pre = start .pre in
+    let stored = c .before .before .before .before .before .before .stored in
+    let k = pre .0 in
+    (stored .ensures .sized, stored-room (a .e) k (statementOf (a .x) none) (stored .result) (stored .ensures), certifies (state (a .e) .settings) (statementOf (a .x) none) (pre .1), links (state (a .e) .settings) (a .x) (pre .1), pre .2)
 
 same-length : tie.Need-same-length
 same-length c = search needs
@@ -73,9 +76,16 @@ same-length c = search needs
 returns-3 : tie.Need-returns-3
 unfolding statementOf heldOf message
 returns-3 c =
-    let a = c .before .before .before .before .before .before .before .before .before .before .before .before .before .before .before .before .args in
-    let k = c .before .before .before .before .before .before .before .before .before .before .before .before .before .before .before .before .pre .0 in
-    against (statementOf (a .x) none) (a .e) _ (a .at) (sym (c .before .before .before .before .before .before .before .before .before .before .before .before .before .any-same .ensures) ∙ c .before .before .before .before .before .before .before .before .before .before .before .before .if1 .left) (sym (c .before .before .before .before .before .before .before .before .before .before .is-in .ensures) ∙ not-false _ (c .before .before .before .before .before .before .before .before .before .if2 .left)) (c .before .before .before .before .before .before .before .before .before .before .before .stored .result) (c .before .before .before .before .before .before .before .before .before .before .before .stored .ensures) (heldOf (c .before .before .before .before .before .before .found .given .0 .0)) (ap foundOf (sym (c .before .before .before .before .before .before .found .given .1)) ∙ c .before .before .before .before .before .before .before .before .first-conflict .ensures) (c .before .before .before .before .quit .ensures) (c .before .before .both .ensures)
+    let start = c .before .before .before .before .before .before .before .before .before .before .before .before .before .before .before .before in let a = start .args in
+    let pre = start .pre in let any-same = c .before .before .before .before .before .before .before .before .before .before .before .before .before .any-same in
+    let if1 = c .before .before .before .before .before .before .before .before .before .before .before .before .if1 in
+    let stored = c .before .before .before .before .before .before .before .before .before .before .before .stored in
+    let is-in = c .before .before .before .before .before .before .before .before .before .before .is-in in
+    let if2 = c .before .before .before .before .before .before .before .before .before .if2 in
+    let first-conflict = c .before .before .before .before .before .before .before .before .first-conflict in
+    let found = c .before .before .before .before .before .before .found in let quit = c .before .before .before .before .quit in
+    let k = pre .0 in
+    against (statementOf (a .x) none) (a .e) _ (a .at) (sym (any-same .ensures) ∙ if1 .left) (sym (is-in .ensures) ∙ not-false _ (if2 .left)) (stored .result) (stored .ensures) (heldOf (found .given .0 .0)) (ap foundOf (sym (found .given .1)) ∙ first-conflict .ensures) (quit .ensures) (c .before .before .both .ensures)
 
 same-length-2 : tie.Need-same-length-2
 same-length-2 c = search needs
@@ -83,9 +93,14 @@ same-length-2 c = search needs
 returns-4 : tie.Need-returns-4
 unfolding statementOf
 returns-4 c =
-    let a = c .before .before .before .before .before .before .before .before .before .before .before .before .before .before .args in
-    let k = c .before .before .before .before .before .before .before .before .before .before .before .before .before .before .pre .0 in
-    alone (statementOf (a .x) none) (a .e) _ (a .at) (sym (c .before .before .before .before .before .before .before .before .before .before .before .any-same .ensures) ∙ c .before .before .before .before .before .before .before .before .before .before .if1 .left) (sym (c .before .before .before .before .before .before .before .before .is-in .ensures) ∙ not-false _ (c .before .before .before .before .before .before .before .if2 .left)) (c .before .before .before .before .before .before .before .before .before .stored .result) (c .before .before .before .before .before .before .before .before .before .stored .ensures) (ap foundOf (sym (c .before .before .before .before .enum-told .given .1)) ∙ c .before .before .before .before .before .before .first-conflict .ensures) (c .before .before .voting .ensures)
+    let start = c .before .before .before .before .before .before .before .before .before .before .before .before .before .before in let a = start .args in let pre = start .pre in
+    let any-same = c .before .before .before .before .before .before .before .before .before .before .before .any-same in
+    let if1 = c .before .before .before .before .before .before .before .before .before .before .if1 in
+    let stored = c .before .before .before .before .before .before .before .before .before .stored in
+    let is-in = c .before .before .before .before .before .before .before .before .is-in in let if2 = c .before .before .before .before .before .before .before .if2 in
+    let first-conflict = c .before .before .before .before .before .before .first-conflict in let enum-told = c .before .before .before .before .enum-told in
+    let k = pre .0 in
+    alone (statementOf (a .x) none) (a .e) _ (a .at) (sym (any-same .ensures) ∙ if1 .left) (sym (is-in .ensures) ∙ not-false _ (if2 .left)) (stored .result) (stored .ensures) (ap foundOf (sym (enum-told .given .1)) ∙ first-conflict .ensures) (c .before .before .voting .ensures)
 
 pub statement-spec : {M : Type 1} → statement M
 statement-spec =

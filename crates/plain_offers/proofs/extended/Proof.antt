@@ -1,12 +1,14 @@
 -- `plain_offers::extended` meets its contract. Assumes nothing.
 use lib.Dec.{ltb}
 use Rattle.rules.specs.Limits.{lastHeight}
-use mathlib.Core.Path.{sym, ap, _∙_}
+use mathlib.Core.Path.{_≡_, sym, ap, _∙_}
+use mathlib.Core.Bool.{_&&_}
 use native.Mathlib.Omega.{arith}
 use mathlib.Core.Option.{none, some}
 use borrow.Author.Tests.{ltb-true}
 use Rattle.rules.specs.Sizes.{quorum}
 use Rattle.rules.specs.Messages as messages
+use Rattle.rules.specs.Inputs as inputs
 use Rattle.rules.specs.Words.{message}
 use Rattle.rules.specs.Words as words
 use Rattle.laws.proofs.Tests.{and-right}
@@ -45,18 +47,35 @@ add-t14 c =
     let h = c .before .before .before .before .before .before .before .before .before .before .before .args .x .height in
     omega (arith, ltb-true h lastHeight (and-right (c .before .before .before .before .before .quorum .result) (ltb h lastHeight) (c .before .before .before .if1 .taken)))
 
+-- the voters are those of the top's own block, and the tests are those of an extension
+held : (k : tie.After-quorum) → let a = k .before .before .before .before .before .before .args in k .before .before .voters .result ≡ words.voters (words.ownBlock (statementOf (a .x) none) 0) (state (a .e) .tallies)
+unfolding statementOf state
+held k =
+    let a = k .before .before .before .before .before .before .args in
+    k .before .before .voters .ensures ∙ ap (λ (t : words.Certificate). words.voters t (tallies (a .e .tallies))) (k .before .before .before .own-block .ensures)
+
+extends : (k : tie.After-quorum) → let a = k .before .before .before .before .before .before .args in
+    (k .quorum .result && ltb (a .x .height) lastHeight) ≡ inputs.extendable (statementOf (a .x) none) (state (a .e))
+unfolding statementOf state
+extends k =
+    let a = k .before .before .before .before .before .before .args in
+    extendable-is (statementOf (a .x) none) (nameOf (a .name)) (state (a .e)) (k .before .before .voters .result) (held k) (k .quorum .result) (k .quorum .ensures ∙ ap (quorum (settingsOf (a .e .settings))) (k .before .wide .ensures .0))
+
 returns : tie.Need-returns
 unfolding messageOf message statementOf state
 returns c =
-    let a = c .before .before .before .before .before .before .before .before .before .before .before .args in
-    ap (λ (m : messages.Message). some m) (above-is (statementOf (a .x) none) (nameOf (a .name)) (state (a .e)) (c .before .before .before .before .before .before .before .voters .result) (c .before .before .before .before .before .before .before .voters .ensures ∙ ap (λ (t : words.Certificate). words.voters t (tallies (a .e .tallies))) (c .before .before .before .before .before .before .before .before .own-block .ensures)))
-    ∙ extension-made (statementOf (a .x) none) (nameOf (a .name)) (state (a .e)) (sym (extendable-is (statementOf (a .x) none) (nameOf (a .name)) (state (a .e)) (c .before .before .before .before .before .before .before .voters .result) (c .before .before .before .before .before .before .before .voters .ensures ∙ ap (λ (t : words.Certificate). words.voters t (tallies (a .e .tallies))) (c .before .before .before .before .before .before .before .before .own-block .ensures)) (c .before .before .before .before .before .quorum .result) (c .before .before .before .before .before .quorum .ensures ∙ ap (quorum (settingsOf (a .e .settings))) (c .before .before .before .before .before .before .wide .ensures .0))) ∙ c .before .before .before .if1 .taken)
+    let k = c .before .before .before .before .before in
+    let a = k .before .before .before .before .before .before .args in
+    let x = statementOf (a .x) none in
+    ap (λ (m : messages.Message). some m) (above-is x (nameOf (a .name)) (state (a .e)) (k .before .before .voters .result) (held k))
+    ∙ extension-made x (nameOf (a .name)) (state (a .e)) (sym (extends k) ∙ c .before .before .before .if1 .taken)
 
 returns-2 : tie.Need-returns-2
 unfolding statementOf state
 returns-2 c =
-    let a = c .before .before .before .before .before .before .before .before .args in
-    extension-none (statementOf (a .x) none) (nameOf (a .name)) (state (a .e)) (sym (extendable-is (statementOf (a .x) none) (nameOf (a .name)) (state (a .e)) (c .before .before .before .before .voters .result) (c .before .before .before .before .voters .ensures ∙ ap (λ (t : words.Certificate). words.voters t (tallies (a .e .tallies))) (c .before .before .before .before .before .own-block .ensures)) (c .before .before .quorum .result) (c .before .before .quorum .ensures ∙ ap (quorum (settingsOf (a .e .settings))) (c .before .before .before .wide .ensures .0))) ∙ c .if1 .left)
+    let k = c .before .before in
+    let a = k .before .before .before .before .before .before .args in
+    extension-none (statementOf (a .x) none) (nameOf (a .name)) (state (a .e)) (sym (extends k) ∙ c .if1 .left)
 
 pub extended-spec : {M : Type 1} → statement M
 extended-spec =

@@ -40,9 +40,10 @@ enum-known-made c = search needs
 
 handled-requires : tie.Need-handled-requires
 handled-requires c κs =
-    let a = c .before .before .before .before .before .before .before .before .args in
-    let k = c .before .before .before .before .before .before .before .before .pre .0 in
-    (k, made-allowed (nameOf (a .name)) (a .e) k (c .before .before .before .before .before .before .before .before .pre .1) (messageOf (Stated (c .before .before .made .given .0 .0))) (ap offerOf (sym (c .before .before .made .given .1)) ∙ c .before .before .before .before .offered .ensures), omega (arith, c .before .before .before .before .before .before .before .before .pre .2))
+    let start = c .before .before .before .before .before .before .before .before in let a = start .args in let pre = start .pre in
+    let offered = c .before .before .before .before .offered in let made = c .before .before .made in
+    let k = pre .0 in
+    (k, made-allowed (nameOf (a .name)) (a .e) k (pre .1) (messageOf (Stated (made .given .0 .0))) (ap offerOf (sym (made .given .1)) ∙ offered .ensures), omega (arith, pre .2))
 
 if-room-requires : tie.Need-if-room-requires
 if-room-requires c κs =
@@ -50,22 +51,27 @@ if-room-requires c κs =
 
 returns-2 : tie.Need-returns-2
 returns-2 c =
-    let a = c .before .before .before .before .before .before .before .args in
-    let k = c .before .before .before .before .before .before .before .pre .0 in
-    offer-answered (nameOf (a .name)) (a .e) k (c .before .before .before .before .before .before .before .pre .1) _ _
-    (turn-is (c .refused2 .ensures) (turn-as (offer-none (nameOf (a .name)) (state (a .e)) (sym (c .before .before .before .before .before .running .ensures) ∙ not-false _ (c .before .before .before .before .if1 .left)) (ap offerOf (sym (c .before .enum-told .given .1)) ∙ c .before .before .before .offered .ensures)) (refused-turned 9 (a .e) _ (k .sized))))
+    let start = c .before .before .before .before .before .before .before in let a = start .args in let pre = start .pre in
+    let running = c .before .before .before .before .before .running in let if1 = c .before .before .before .before .if1 in let offered = c .before .before .before .offered in
+    let k = pre .0 in
+    offer-answered (nameOf (a .name)) (a .e) k (pre .1) _ _
+    (turn-is (c .refused2 .ensures) (turn-as (offer-none (nameOf (a .name)) (state (a .e)) (sym (running .ensures) ∙ not-false _ (if1 .left)) (ap offerOf (sym (c .before .enum-told .given .1)) ∙ offered .ensures)) (refused-turned 9 (a .e) _ (k .sized))))
 
 same-length : tie.Need-same-length
 same-length c = search needs
 
 returns-3 : tie.Need-returns-3
 returns-3 c =
-    let a = c .before .before .before .before .before .before .before .before .before .before .before .before .args in
-    let k = c .before .before .before .before .before .before .before .before .before .before .before .before .pre .0 in
-    offer-answered (nameOf (a .name)) (a .e) k (c .before .before .before .before .before .before .before .before .before .before .before .before .pre .1) _ _
+    let start = c .before .before .before .before .before .before .before .before .before .before .before .before in let a = start .args in let pre = start .pre in
+    let running = c .before .before .before .before .before .before .before .before .before .before .running in
+    let if1 = c .before .before .before .before .before .before .before .before .before .if1 in
+    let offered = c .before .before .before .before .before .before .before .before .offered in let made = c .before .before .before .before .before .before .made in
+    let handled = c .before .before .before .handled in
+    let k = pre .0 in
+    offer-answered (nameOf (a .name)) (a .e) k (pre .1) _ _
     (turn-is (c .if-room .ensures)
-    (turn-as (offer-made (nameOf (a .name)) (state (a .e)) (sym (c .before .before .before .before .before .before .before .before .before .before .running .ensures) ∙ not-false _ (c .before .before .before .before .before .before .before .before .before .if1 .left)) (messageOf (Stated (c .before .before .before .before .before .before .made .given .0 .0))) (ap offerOf (sym (c .before .before .before .before .before .before .made .given .1)) ∙ c .before .before .before .before .before .before .before .before .offered .ensures))
-    (room-turned (a .e) (k .sized) (messageOf (Stated (c .before .before .before .before .before .before .made .given .0 .0))) _ (c .before .before .before .before .before .before .before .before .before .before .before .before .pre .2) (c .before .before .before .handled .result) _ (c .before .before .before .handled .ensures))))
+    (turn-as (offer-made (nameOf (a .name)) (state (a .e)) (sym (running .ensures) ∙ not-false _ (if1 .left)) (messageOf (Stated (made .given .0 .0))) (ap offerOf (sym (made .given .1)) ∙ offered .ensures))
+    (room-turned (a .e) (k .sized) (messageOf (Stated (made .given .0 .0))) _ (pre .2) (handled .result) _ (handled .ensures))))
 
 pub offer-spec : {M : Type 1} → statement M
 offer-spec =

@@ -33,15 +33,19 @@ returns-2 : tie.Need-returns-2
 unfolding state
 returns-2 c =
     let a = c .before .before .before .before .before .before .args in
-    offered-topless (nameOf (a .name)) (state (a .e)) (sym (c .before .before .before .before .before .may-offer .ensures) ∙ not-false _ (c .before .before .before .before .if1 .left)) (ap foundOf (sym (c .enum-told .given .1)) ∙ c .before .before .top .ensures)
+    let may-offer = c .before .before .before .before .before .may-offer in
+    let if1 = c .before .before .before .before .if1 in
+    offered-topless (nameOf (a .name)) (state (a .e)) (sym (may-offer .ensures) ∙ not-false _ (if1 .left)) (ap foundOf (sym (c .enum-told .given .1)) ∙ c .before .before .top .ensures)
 
 returns-3 : tie.Need-returns-3
 unfolding state
 returns-3 c =
     let a = c .before .before .before .before .before .before .before .before .args in
-    let h = c .before .before .found .given .0 .0 in
+    let may-offer = c .before .before .before .before .before .before .before .may-offer in
+    let if1 = c .before .before .before .before .before .before .if1 in let top = c .before .before .before .before .top in let found = c .before .before .found in
+    let h = found .given .0 .0 in
     c .extended .ensures ∙ extension-held h (nameOf (a .name)) (state (a .e))
-    ∙ offered-top (nameOf (a .name)) (state (a .e)) (sym (c .before .before .before .before .before .before .before .may-offer .ensures) ∙ not-false _ (c .before .before .before .before .before .before .if1 .left)) (heldOf h) (ap foundOf (sym (c .before .before .found .given .1)) ∙ c .before .before .before .before .top .ensures)
+    ∙ offered-top (nameOf (a .name)) (state (a .e)) (sym (may-offer .ensures) ∙ not-false _ (if1 .left)) (heldOf h) (ap foundOf (sym (found .given .1)) ∙ top .ensures)
 
 pub offered-spec : {M : Type 1} → statement M
 offered-spec =

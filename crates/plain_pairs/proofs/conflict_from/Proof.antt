@@ -37,10 +37,11 @@ conflict-requires c κs = search needs
 returns : tie.Need-returns Inv-loop μ-loop
 unfolding statements
 returns c =
-    let a = c .before .before .before .before .before .args in
-    let w = c .before .before .before .before .before .pre .0 in
+    let start = c .before .before .before .before .before in let a = start .args in let pre = start .pre in
     let l = c .before .before .before .before .loop in
-    sym (l .inv .1 ∙ first-here heldOf (words.conflict (statementOf (a .x) none)) (a .t1 .items) (a .t1 .count) blank (l .i) (omega (arith, w .long, w .most)) (c .before .before .before .loop-test .taken) (conflict-held (a .x) (getD (a .t1 .items) (l .i) blank) ∙ sym (c .before .conflict .ensures) ∙ c .if1 .taken))
+    let loop-test = c .before .before .before .loop-test in
+    let w = pre .0 in
+    sym (l .inv .1 ∙ first-here heldOf (words.conflict (statementOf (a .x) none)) (a .t1 .items) (a .t1 .count) blank (l .i) (omega (arith, w .long, w .most)) (loop-test .taken) (conflict-held (a .x) (getD (a .t1 .items) (l .i) blank) ∙ sym (c .before .conflict .ensures) ∙ c .if1 .taken))
 
 add-i : tie.Need-add-i Inv-loop μ-loop
 add-i c = let w = c .before .before .before .before .before .pre .0 in omega (arith, w .most, c .before .before .before .loop-test .taken)
@@ -50,10 +51,11 @@ loop-less c = omega (arith, c .before .before .before .loop-test .taken)
 
 loop-again : tie.Need-loop-again Inv-loop μ-loop
 loop-again c =
-    let a = c .before .before .before .before .before .args in
-    let w = c .before .before .before .before .before .pre .0 in
+    let start = c .before .before .before .before .before in let a = start .args in let pre = start .pre in
     let l = c .before .before .before .before .loop in
-    (omega (arith, c .before .before .before .loop-test .taken), l .inv .1 ∙ first-next heldOf (words.conflict (statementOf (a .x) none)) (a .t1 .items) (a .t1 .count) blank (l .i) (omega (arith, w .long, w .most)) (c .before .before .before .loop-test .taken) (conflict-held (a .x) (getD (a .t1 .items) (l .i) blank) ∙ sym (c .before .conflict .ensures) ∙ c .if1 .left))
+    let loop-test = c .before .before .before .loop-test in
+    let w = pre .0 in
+    (omega (arith, loop-test .taken), l .inv .1 ∙ first-next heldOf (words.conflict (statementOf (a .x) none)) (a .t1 .items) (a .t1 .count) blank (l .i) (omega (arith, w .long, w .most)) (loop-test .taken) (conflict-held (a .x) (getD (a .t1 .items) (l .i) blank) ∙ sym (c .before .conflict .ensures) ∙ c .if1 .left))
 
 returns-2 : tie.Need-returns-2 Inv-loop μ-loop
 unfolding statements

@@ -39,10 +39,11 @@ enum-known-found c = search needs
 returns : tie.Need-returns Inv-loop μ-loop
 unfolding statements
 returns c =
-    let a = c .before .before .before .before .before .before .before .args in
-    let w = c .before .before .before .before .before .before .before .pre in
+    let start = c .before .before .before .before .before .before .before in let a = start .args in let w = start .pre in
     let l = c .before .before .before .before .before .before .loop in
-    sym (l .inv .1 ∙ pair-here (a .t1 .items) (a .t1 .count) blank (l .i) (omega (arith, w .long, w .most)) (c .before .before .before .before .before .loop-test .taken) _ (sym (c .before .before .before .conflict-from .ensures) ∙ ap foundOf (c .before .found .given .1)))
+    let loop-test = c .before .before .before .before .before .loop-test in
+    let conflict-from = c .before .before .before .conflict-from in
+    sym (l .inv .1 ∙ pair-here (a .t1 .items) (a .t1 .count) blank (l .i) (omega (arith, w .long, w .most)) (loop-test .taken) _ (sym (conflict-from .ensures) ∙ ap foundOf (c .before .found .given .1)))
 
 enum-told : tie.Need-enum-told Inv-loop μ-loop
 enum-told c = search needs
@@ -53,10 +54,10 @@ loop-less c = omega (arith, c .before .before .before .before .loop-test .taken)
 loop-again : tie.Need-loop-again Inv-loop μ-loop
 unfolding statements
 loop-again c =
-    let a = c .before .before .before .before .before .before .args in
-    let w = c .before .before .before .before .before .before .pre in
+    let start = c .before .before .before .before .before .before in let a = start .args in let w = start .pre in
     let l = c .before .before .before .before .before .loop in
-    (omega (arith, c .before .before .before .before .loop-test .taken), l .inv .1 ∙ pair-next (a .t1 .items) (a .t1 .count) blank (l .i) (omega (arith, w .long, w .most)) (c .before .before .before .before .loop-test .taken) (sym (c .before .before .conflict-from .ensures) ∙ ap foundOf (c .enum-told .given .1)))
+    let loop-test = c .before .before .before .before .loop-test in
+    (omega (arith, loop-test .taken), l .inv .1 ∙ pair-next (a .t1 .items) (a .t1 .count) blank (l .i) (omega (arith, w .long, w .most)) (loop-test .taken) (sym (c .before .before .conflict-from .ensures) ∙ ap foundOf (c .enum-told .given .1)))
 
 returns-2 : tie.Need-returns-2 Inv-loop μ-loop
 unfolding statements

@@ -26,15 +26,19 @@ returns : tie.Need-returns
 unfolding tallyOf words.certified
 returns c =
     let a = c .before .before .before .before .before .before .args in
-    best-own (settingsOf (a .settings)) (a .view) (tallyOf (a .t)) (certificateOf (a .best)) (certificateOf (c .before .before .before .before .before .certificate-of .result)) (c .before .before .before .quorum .result) (c .before .before .higher .result) (c .before .before .before .before .before .certificate-of .ensures)
-    (c .before .before .before .quorum .ensures ∙ ap (quorum (settingsOf (a .settings))) (c .before .before .before .before .wide .ensures .0)) (c .before .before .higher .ensures) (c .if1 .taken)
+    let certificate-of = c .before .before .before .before .before .certificate-of in
+    let wide = c .before .before .before .before .wide in let the-quorum = c .before .before .before .quorum in let higher = c .before .before .higher in
+    best-own (settingsOf (a .settings)) (a .view) (tallyOf (a .t)) (certificateOf (a .best)) (certificateOf (certificate-of .result)) (the-quorum .result) (higher .result) (certificate-of .ensures)
+    (the-quorum .ensures ∙ ap (quorum (settingsOf (a .settings))) (wide .ensures .0)) (higher .ensures) (c .if1 .taken)
 
 returns-2 : tie.Need-returns-2
 unfolding tallyOf words.certified
 returns-2 c =
     let a = c .before .before .before .before .before .before .args in
-    best-other (settingsOf (a .settings)) (a .view) (tallyOf (a .t)) (certificateOf (a .best)) (certificateOf (c .before .before .before .before .before .certificate-of .result)) (c .before .before .before .quorum .result) (c .before .before .higher .result) (c .before .before .before .before .before .certificate-of .ensures)
-    (c .before .before .before .quorum .ensures ∙ ap (quorum (settingsOf (a .settings))) (c .before .before .before .before .wide .ensures .0)) (c .before .before .higher .ensures) (c .if1 .left)
+    let certificate-of = c .before .before .before .before .before .certificate-of in
+    let wide = c .before .before .before .before .wide in let the-quorum = c .before .before .before .quorum in let higher = c .before .before .higher in
+    best-other (settingsOf (a .settings)) (a .view) (tallyOf (a .t)) (certificateOf (a .best)) (certificateOf (certificate-of .result)) (the-quorum .result) (higher .result) (certificate-of .ensures)
+    (the-quorum .ensures ∙ ap (quorum (settingsOf (a .settings))) (wide .ensures .0)) (higher .ensures) (c .if1 .left)
 
 pub better-spec : {M : Type 1} → statement M
 better-spec =

@@ -47,10 +47,12 @@ same-length c = search needs
 returns-3 : tie.Need-returns-3
 unfolding state
 returns-3 c =
+    let running = c .before .before .before .before .before .before .before .running in let if1 = c .before .before .before .before .before .before .if1 in
+    let if2 = c .before .before .before .before .if2 in
     let s = c .before .before .before .before .before .before .before .before .before in
     let e = s .args .e in
     tick-answered e (s .pre .0) _ _
-    (turn-as (tick-ticking (state e) (sym (c .before .before .before .before .before .before .before .running .ensures) ∙ not-false _ (c .before .before .before .before .before .before .if1 .left)) (c .before .before .before .before .if2 .left)) (c .before .before .ticked .ensures))
+    (turn-as (tick-ticking (state e) (sym (running .ensures) ∙ not-false _ (if1 .left)) (if2 .left)) (c .before .before .ticked .ensures))
 
 pub tick-spec : {M : Type 1} → statement M
 tick-spec =

@@ -51,13 +51,14 @@ same-length c = search needs
 
 returns-2 : tie.Need-returns-2
 returns-2 c =
-    let s = c .before .before .before .before .before .before .before .before .before .before .before in
     let t = c .before .before .before .before .before .before .before .before .with-clock in
-    let k = later-whole (s .args .e) (t .result) (t .ensures) (s .pre .0) (s .pre .2) in
     let m = c .before .before .before .before .before .before .before .commits in
-    let l = later-commits (s .args .e) (t .result) (t .ensures) (some-log (t .result) k (m .result) (m .ensures) (not-false _ (c .before .before .before .before .before .if1 .left))) in
+    let if1 = c .before .before .before .before .before .if1 in let turned = c .before .before .before .turned in
+    let s = c .before .before .before .before .before .before .before .before .before .before .before in
+    let k = later-whole (s .args .e) (t .result) (t .ensures) (s .pre .0) (s .pre .2) in
+    let l = later-commits (s .args .e) (t .result) (t .ensures) (some-log (t .result) k (m .result) (m .ensures) (not-false _ (if1 .left))) in
     turn-is (c .if-room .ensures)
-    (ticked-turned (s .args .e) (s .pre .0) (s .pre .1) (s .pre .2) (names (m .result .names)) l _ (s .pre .3) (c .before .before .before .turned .result) _ (later-worked (s .args .e) (t .result) (t .ensures) (names (m .result .names)) (c .before .before .before .turned .ensures)))
+    (ticked-turned (s .args .e) (s .pre .0) (s .pre .1) (s .pre .2) (names (m .result .names)) l _ (s .pre .3) (turned .result) _ (later-worked (s .args .e) (t .result) (t .ensures) (names (m .result .names)) (turned .ensures)))
 
 pub ticked-spec : {M : Type 1} → statement M
 ticked-spec =

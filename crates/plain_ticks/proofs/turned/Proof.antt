@@ -39,10 +39,19 @@ enter-requires c κs =
     (led-ready (b .result .engine) k′ _ (b .result .at) (l .ensures), led-space (b .result .engine) k′ _ (b .result .at) (l .ensures) h′)
 
 same-length : tie.Need-same-length
-same-length c = says-length (c .before .before .enter .ensures .says) ∙ says-length (c .before .before .before .before .before .before .lead .ensures .says) ∙ says-length (c .before .before .before .before .before .before .before .before .before .before .complain .ensures .says) ∙ says-length (c .before .before .before .before .before .before .before .before .before .before .before .before .before .before .logging .ensures .says)
+same-length c =
+    let logging = c .before .before .before .before .before .before .before .before .before .before .before .before .before .before .logging in
+    let complain = c .before .before .before .before .before .before .before .before .before .before .complain in
+    let lead = c .before .before .before .before .before .before .lead in
+    says-length (c .before .before .enter .ensures .says) ∙ says-length (lead .ensures .says) ∙ says-length (complain .ensures .says) ∙ says-length (logging .ensures .says)
 
 returns : tie.Need-returns
-returns c = let a = c .before .before .before .before .before .before .before .before .before .before .before .before .before .before .before .before .before .args in turned-worked (names (a .log)) (state (a .e)) (c .before .before .before .before .before .before .before .before .before .before .before .before .before .before .logging .ensures) (c .before .before .before .before .before .before .before .before .before .before .complain .ensures) (c .before .before .before .before .before .before .lead .ensures) (c .before .before .enter .ensures)
+returns c =
+    let args = c .before .before .before .before .before .before .before .before .before .before .before .before .before .before .before .before .before .args in
+    let logging = c .before .before .before .before .before .before .before .before .before .before .before .before .before .before .logging in
+    let complain = c .before .before .before .before .before .before .before .before .before .before .complain in
+    let lead = c .before .before .before .before .before .before .lead in
+    turned-worked (names (args .log)) (state (args .e)) (logging .ensures) (complain .ensures) (lead .ensures) (c .before .before .enter .ensures)
 
 pub turned-spec : {M : Type 1} → statement M
 turned-spec = tie.close (tie.spec logging-requires complain-requires lead-requires enter-requires same-length returns)

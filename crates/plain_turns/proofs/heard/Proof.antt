@@ -32,10 +32,12 @@ same-length c = search needs
 
 returns-2 : tie.Need-returns-2
 returns-2 c =
-    let a = c .before .before .before .before .before .before .before .before .args in
+    let start = c .before .before .before .before .before .before .before .before in let a = start .args in let pre = start .pre in
+    let used-up = c .before .before .before .before .before .before .used-up in let if1 = c .before .before .before .before .before .if1 in
+    let handled = c .before .before .before .handled in
     turn-is (c .if-room .ensures)
-    (turn-as (heard-free (messageOf (a .message)) (state (a .e)) (sym (c .before .before .before .before .before .before .used-up .ensures) ∙ c .before .before .before .before .before .if1 .left))
-    (room-turned (a .e) (c .before .before .before .before .before .before .before .before .pre .0 .sized) (messageOf (a .message)) _ (c .before .before .before .before .before .before .before .before .pre .2) (c .before .before .before .handled .result) _ (c .before .before .before .handled .ensures)))
+    (turn-as (heard-free (messageOf (a .message)) (state (a .e)) (sym (used-up .ensures) ∙ if1 .left))
+    (room-turned (a .e) (pre .0 .sized) (messageOf (a .message)) _ (pre .2) (handled .result) _ (handled .ensures)))
 
 pub heard-spec : {M : Type 1} → statement M
 heard-spec =

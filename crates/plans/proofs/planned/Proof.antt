@@ -52,7 +52,9 @@ needed-requires-2 c κs = search needs
 
 add-records : tie.Need-add-records
 add-records c =
-    omega (arith, c .before .needed .ensures, needed-few (blockOf (c .before .before .before .before .before .certificate-of .result)) (c .before .before .before .before .find-certificate .result), c .needed2 .ensures, needed-few (blockOf (c .before .before .before .own-block .result)) (c .before .before .find-tally .result))
+    let certificate-of = c .before .before .before .before .before .certificate-of in let find-certificate = c .before .before .before .before .find-certificate in
+    let own-block = c .before .before .before .own-block in
+    omega (arith, c .before .needed .ensures, needed-few (blockOf (certificate-of .result)) (find-certificate .result), c .needed2 .ensures, needed-few (blockOf (own-block .result)) (c .before .before .find-tally .result))
 
 load-requires : tie.Need-load-requires
 load-requires c κs =
@@ -63,9 +65,13 @@ most-statements-in-requires c κs = search needs
 
 add-room : tie.Need-add-room
 add-room c =
-    let start = c .before .before .before .before .before .before .before .before .before .before .before .before .before .before in
+    let certificate-of = c .before .before .before .before .before .before .before .before .before .certificate-of in
+    let find-certificate = c .before .before .before .before .before .before .before .before .find-certificate in
+    let own-block = c .before .before .before .before .before .before .before .own-block in let find-tally = c .before .before .before .before .before .before .find-tally in
+    let needed = c .before .before .before .before .before .needed in let needed2 = c .before .before .before .before .needed2 in
     let load = c .before .before .before .load in
-    omega (arith, loaded-tallies (load .result) (start .args .store .now) (load .ensures), form-tallies _ (start .pre .0 .form), c .before .before .before .before .before .needed .ensures, needed-few (blockOf (c .before .before .before .before .before .before .before .before .before .certificate-of .result)) (c .before .before .before .before .before .before .before .before .find-certificate .result), c .before .before .before .before .needed2 .ensures, needed-few (blockOf (c .before .before .before .before .before .before .before .own-block .result)) (c .before .before .before .before .before .before .find-tally .result))
+    let start = c .before .before .before .before .before .before .before .before .before .before .before .before .before .before in
+    omega (arith, loaded-tallies (load .result) (start .args .store .now) (load .ensures), form-tallies _ (start .pre .0 .form), needed .ensures, needed-few (blockOf (certificate-of .result)) (find-certificate .result), needed2 .ensures, needed-few (blockOf (own-block .result)) (find-tally .result))
 
 most-tallies-in-requires : tie.Need-most-tallies-in-requires
 most-tallies-in-requires c κs = search needs
@@ -75,17 +81,22 @@ new-plan-requires c κs = search needs
 
 returns-2 : tie.Need-returns-2
 returns-2 c =
-    let start = c .before .before .before .before .before .before .before .before .before .before .before .before .before .before .before .before in
-    let b = start .args .store .now in
-    let x = statementOf (start .args .x) none in
     let found = c .before .before .before .before .before .before .before .before .before .before .before .before .before .before .find-statement in
+    let enum-told = c .before .before .before .before .before .before .before .before .before .before .before .before .enum-told in
     let certificate = c .before .before .before .before .before .before .before .before .before .before .before .certificate-of in
     let certified = c .before .before .before .before .before .before .before .before .before .before .find-certificate in
     let block = c .before .before .before .before .before .before .before .before .before .own-block in
     let own = c .before .before .before .before .before .before .before .before .find-tally in
+    let needed = c .before .before .before .before .before .before .before .needed in
+    let needed2 = c .before .before .before .before .before .before .needed2 in
     let load = c .before .before .before .before .before .load in
+    let most-statements-in = c .before .before .before .before .most-statements-in in
+    let start = c .before .before .before .before .before .before .before .before .before .before .before .before .before .before .before .before in
+    let b = start .args .store .now in
+    let x = statementOf (start .args .x) none in
     c .new-plan .ensures
-    ∙ new-planned b x (start .pre .1) (blockOf (certificate .result)) (blockOf (block .result)) (certificate .ensures) (block .ensures) (own .result) (own .ensures) (is-new b x (found .result) (found .ensures) (c .before .before .before .before .before .before .before .before .before .before .before .before .enum-told .given .1)) (certified .result) (certified .ensures) _ _ _ _ _ _ (c .before .before .before .before .most-statements-in .ensures) (c .before .most-tallies-in .ensures) (loaded-statements (load .result) b (load .ensures)) (loaded-tallies (load .result) b (load .ensures)) (c .before .before .before .before .before .before .before .needed .ensures) (c .before .before .before .before .before .before .needed2 .ensures)
+    ∙ new-planned b x (start .pre .1) (blockOf (certificate .result)) (blockOf (block .result)) (certificate .ensures) (block .ensures) (own .result) (own .ensures)
+    (is-new b x (found .result) (found .ensures) (enum-told .given .1)) (certified .result) (certified .ensures) _ _ _ _ _ _ (most-statements-in .ensures) (c .before .most-tallies-in .ensures) (loaded-statements (load .result) b (load .ensures)) (loaded-tallies (load .result) b (load .ensures)) (needed .ensures) (needed2 .ensures)
 
 pub planned-spec : {M : Type 1} → statement M
 planned-spec =

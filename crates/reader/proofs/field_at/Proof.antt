@@ -50,23 +50,26 @@ add-next-2 c =
 add-t13 : tie.Need-add-t13
 unfolding placeOf
 add-t13 c =
+    let if1 = c .before .before .before .before .if1 in let width-of = c .before .before .before .width-of in
     let after-has = c .before .before .before .before .before in
     let a = after-has .before .before .args in
-    omega (arith, head-room (a .s .now) (a .tag) (placeOf (a .cursor)) (after-has .has .ensures) (c .before .before .before .before .if1 .left) (c .before .before .before .width-of .ensures) (c .before .before .stands .ensures) (c .before .if2 .left))
+    omega (arith, head-room (a .s .now) (a .tag) (placeOf (a .cursor)) (after-has .has .ensures) (if1 .left) (width-of .ensures) (c .before .before .stands .ensures) (c .before .if2 .left))
 
 shared-slice-read-t15 : tie.Need-shared-slice-read-t15
 unfolding placeOf
 shared-slice-read-t15 c =
+    let if1 = c .before .before .before .before .before .if1 in let width-of = c .before .before .before .before .width-of in let stands = c .before .before .before .stands in
     let after-has = c .before .before .before .before .before .before in
     let a = after-has .before .before .args in
-    kind-room (a .s .now) (a .tag) (placeOf (a .cursor)) (after-has .has .ensures) (c .before .before .before .before .before .if1 .left) (c .before .before .before .before .width-of .ensures) (c .before .before .before .stands .ensures) (c .before .before .if2 .left) (c .before .if3 .taken)
+    kind-room (a .s .now) (a .tag) (placeOf (a .cursor)) (after-has .has .ensures) (if1 .left) (width-of .ensures) (stands .ensures) (c .before .before .if2 .left) (c .before .if3 .taken)
 
 returns-3 : tie.Need-returns-3
 unfolding placeOf
 returns-3 c =
+    let if1 = c .before .before .before .before .before .if1 in let width-of = c .before .before .before .before .width-of in let stands = c .before .before .before .stands in
     let after-has = c .before .before .before .before .before .before in
     let a = after-has .before .before .args in
-    moved-first (a .s .now) (a .tag) (placeOf (a .cursor)) (after-has .has .ensures) (c .before .before .before .before .before .if1 .left) (c .before .before .before .before .width-of .ensures) (c .before .before .before .stands .ensures) (c .before .before .if2 .left) (c .before .if3 .taken)
+    moved-first (a .s .now) (a .tag) (placeOf (a .cursor)) (after-has .has .ensures) (if1 .left) (width-of .ensures) (stands .ensures) (c .before .before .if2 .left) (c .before .if3 .taken)
 
 returns-4 : tie.Need-returns-4
 unfolding placeOf

@@ -46,7 +46,10 @@ link-is v = zero-add v
 
 returns : tie.Need-returns
 unfolding readOf messageOf statementOf message made valuesFrom rowOf table width
-returns c = rw (link-is (c .before .before .before .before .before .get .result), c .before .before .before .before .before .get .ensures .0, c .before .before .before .before .get-name .ensures .0, c .before .before .before .get2 .ensures .0, c .before .before .get3 .ensures .0, c .before .get4 .ensures .0, number-byte (c .before .before .before .before .before .before .before .args .s .now) 68)
+returns c =
+    let args = c .before .before .before .before .before .before .before .args in let get = c .before .before .before .before .before .get in
+    let get-name = c .before .before .before .before .get-name in let get2 = c .before .before .before .get2 in
+    rw (link-is (get .result), get .ensures .0, get-name .ensures .0, get2 .ensures .0, c .before .before .get3 .ensures .0, c .before .get4 .ensures .0, number-byte (args .s .now) 68)
 
 pub new-view-spec : {M : Type 1} → statement M
 new-view-spec =

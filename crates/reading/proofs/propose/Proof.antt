@@ -37,7 +37,10 @@ shared-slice-read-t11 c = search needs
 
 returns : tie.Need-returns
 unfolding readOf messageOf statementOf message made valuesFrom rowOf table width
-returns c = rw (c .before .before .before .before .before .get-name .ensures .0, c .before .before .before .before .get-name2 .ensures .0, c .before .before .before .get .ensures .0, c .before .before .get2 .ensures .0, c .before .get3 .ensures .0, number-byte (c .before .before .before .before .before .before .before .args .s .now) 96)
+returns c =
+    let args = c .before .before .before .before .before .before .before .args in let get-name = c .before .before .before .before .before .get-name in
+    let get-name2 = c .before .before .before .before .get-name2 in let get = c .before .before .before .get in
+    rw (get-name .ensures .0, get-name2 .ensures .0, get .ensures .0, c .before .before .get2 .ensures .0, c .before .get3 .ensures .0, number-byte (args .s .now) 96)
 
 pub propose-spec : {M : Type 1} → statement M
 propose-spec =

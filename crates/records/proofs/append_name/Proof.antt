@@ -1,6 +1,5 @@
 -- `append_name` meets its contract: a name is put behind the last, and counted. Assumes nothing.
 use Rattle.fields.proofs.Names.{name-lt}
-use Rattle.fields.specs.Names.{nameOf}
 use Rattle.records.proofs.Changes.{add-name}
 use Rattle.store.proofs.Forms.{form-long, behind-last}
 use native.Mathlib.Omega.{arith}
@@ -28,9 +27,13 @@ same-length c = search needs
 
 returns : tie.Need-returns
 returns c =
-    let n = c .before .before .before .before .before .before .before .before .before .before .before .before .before .good .1 .0 .1 .1 in
-    rw (c .before .before .put .ensures, c .before .before .before .before .before .before .put-name .ensures, c .before .before .before .before .before .before .before .name-place .ensures .0, c .before .before .before .before .before .before .before .before .before .before .get-count .ensures .0)
-    (add-name _ (c .before .before .before .before .before .before .before .before .before .before .before .before .before .pre .0) _ (c .before .before .before .before .before .before .before .before .before .before .before .before .before .pre .1) (name-lt _ (n .0 .1) (n .1 .0 .1) (n .1 .1 .0 .1) (n .1 .1 .1 .0 .1)))
+    let good = c .before .before .before .before .before .before .before .before .before .before .before .before .before .good in
+    let pre = c .before .before .before .before .before .before .before .before .before .before .before .before .before .pre in
+    let get-count = c .before .before .before .before .before .before .before .before .before .before .get-count in
+    let name-place = c .before .before .before .before .before .before .before .name-place in let put-name = c .before .before .before .before .before .before .put-name in
+    let n = good .1 .0 .1 .1 in
+    rw (c .before .before .put .ensures, put-name .ensures, name-place .ensures .0, get-count .ensures .0)
+    (add-name _ (pre .0) _ (pre .1) (name-lt _ (n .0 .1) (n .1 .0 .1) (n .1 .1 .0 .1) (n .1 .1 .1 .0 .1)))
 
 pub append-name-spec : {M : Type 1} → statement M
 append-name-spec =

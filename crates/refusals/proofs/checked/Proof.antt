@@ -23,20 +23,26 @@ returns-2 c =
 
 well-formed-told-requires : tie.Need-well-formed-told-requires
 well-formed-told-requires c κs =
-    let a = c .before .before .before .before .before .before .before .args in (lent-long (a .store .now) (a .out .now) (c .before .before .before .before .is-whole .ensures) (c .before .before .before .if1 .left), c .before .before .before .before .before .before .before .pre)
+    let start = c .before .before .before .before .before .before .before in let args = start .args in let pre = start .pre in
+    let is-whole = c .before .before .before .before .is-whole in let if1 = c .before .before .before .if1 in
+    (lent-long (args .store .now) (args .out .now) (is-whole .ensures) (if1 .left), pre)
 
 returns-3 : tie.Need-returns-3
 returns-3 c =
     let a = c .before .before .before .before .before .before .before .before .before .args in
-    checks-untold (omega arith) (unformed-bytes (a .store .now) (a .out .now) (c .before .before .before .before .before .before .is-whole .ensures) (c .before .before .before .before .before .if1 .left) (omega (arith, c .before .before .before .if2 .left, c .before .before .before .before .least-out-in .ensures)) (sym (c .before .well-formed-told .ensures .is) ∙ not-true _ (c .if3 .taken)))
+    let is-whole = c .before .before .before .before .before .before .is-whole in
+    let if1 = c .before .before .before .before .before .if1 in let least-out-in = c .before .before .before .before .least-out-in in let if2 = c .before .before .before .if2 in
+    checks-untold (omega arith) (unformed-bytes (a .store .now) (a .out .now) (is-whole .ensures) (if1 .left) (omega (arith, if2 .left, least-out-in .ensures)) (sym (c .before .well-formed-told .ensures .is) ∙ not-true _ (c .if3 .taken)))
 
 returns-4 : tie.Need-returns-4
 returns-4 c =
     let a = c .before .before .before .before .before .before .before .before .before .args in
+    let is-whole = c .before .before .before .before .before .before .is-whole in
+    let if1 = c .before .before .before .before .before .if1 in let least-out-in = c .before .before .before .before .least-out-in in let if2 = c .before .before .before .if2 in
     let told = c .before .well-formed-told .ensures in
     let good = not-false _ (c .if3 .left) in
     record {
-      is = unformed-not (a .store .now) (a .out .now) (c .before .before .before .before .before .before .is-whole .ensures) (c .before .before .before .before .before .if1 .left) (omega (arith, c .before .before .before .if2 .left, c .before .before .before .before .least-out-in .ensures)) (sym (told .is) ∙ good);
+      is = unformed-not (a .store .now) (a .out .now) (is-whole .ensures) (if1 .left) (omega (arith, if2 .left, least-out-in .ensures)) (sym (told .is) ∙ good);
       told = λ z. told .told good;
     }
 

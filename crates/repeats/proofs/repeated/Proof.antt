@@ -1,3 +1,4 @@
+-- `repeats::repeated` meets its contract. Assumes nothing.
 use Rattle.repeats.proofs.Hanging.{met-start, met-is, met-hangs}
 use Rattle.form.proofs.Forms.{few-statements}
 use Rattle.laws.proofs.Tests.{no-bool}
@@ -6,20 +7,13 @@ use mathlib.Core.Path.{sym, _∙_}
 use borrow.Author.Needs.{needs}
 use Rattle.repeats.proofs.repeated.Statement.{statement}
 use Rattle.repeats.proofs.repeated.Tie as tie
-use Rattle.repeats.proofs.repeated.Reads as reads
-use Rattle.repeats.proofs.repeated.Lts as lts
-use Rattle.chains.proofs.hang.Reads as hang-reads
-use Rattle.repeats.proofs.met.Reads as met-reads
 
--- src/there.rt:208:16
 mul-left : tie.Need-mul-left
 mul-left c = search needs
 
--- src/there.rt:208:16
 element-copy-out-left : tie.Need-element-copy-out-left
 element-copy-out-left c = search needs
 
--- src/there.rt:208:16
 cast-left : tie.Need-cast-left
 cast-left c =
     let start = c .before .before in
@@ -27,14 +21,12 @@ cast-left c =
     let walk = met-start (a .store .now) (c .before .shared-slice-known .given) (a .salt) (a .count) (a .i) (start .pre .2) (start .pre .1) _ (start .pre .3) (start .pre .4) in
     record { fits = omega (arith, walk .within, few-statements (start .pre .0)) }
 
--- src/there.rt:209:8
 met-requires : tie.Need-met-requires
 met-requires c κs =
     let start = c .before .before .before in
     let a = start .args in
     (start .pre .0, start .pre .1, met-start (a .store .now) (c .before .before .shared-slice-known .given) (a .salt) (a .count) (a .i) (start .pre .2) (start .pre .1) _ (start .pre .3) (start .pre .4))
 
--- src/there.rt:210:9
 returns : tie.Need-returns
 returns c =
     let start = c .before .before .before .before .before in
@@ -42,18 +34,15 @@ returns c =
     let met = met-is (a .store .now) (c .before .before .before .before .shared-slice-known .given) (a .salt) (a .count) (a .i) (start .pre .2) (start .pre .1) _ (start .pre .3) (start .pre .4) in
     record { is = sym (c .if1 .taken) ∙ c .before .met .ensures ∙ met; hangs = λ e. no-bool e }
 
--- src/there.rt:212:42
 sub-hang : tie.Need-sub-hang
 sub-hang c = search needs
 
--- src/there.rt:212:5
 hang-requires : tie.Need-hang-requires
 hang-requires c κs =
     let start = c .before .before .before .before .before .before .before in
     let few = few-statements (start .pre .0) in
     (start .pre .4, omega (arith, start .pre .1), omega arith)
 
--- src/there.rt:196:1
 returns-2 : tie.Need-returns-2
 returns-2 c =
     let start = c .before .before .before .before .before .before .before .before in

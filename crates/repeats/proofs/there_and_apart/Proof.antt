@@ -15,7 +15,7 @@ use borrow.Author.Tests.{not-true, not-false}
 use native.Mathlib.Omega.{arith}
 use mathlib.Core.Bool.{Bool, true, _&&_, and-false}
 use mathlib.Core.Path.{_≡_, refl, sym, ap, ap₂, _∙_}
-use Prim.Native.Nat.{ℕ, _-_, _+_, _<_, _≤_}
+use Prim.Native.Nat.{_-_, _+_, _<_, _≤_}
 use borrow.Author.Needs.{needs}
 use Rattle.repeats.proofs.there_and_apart.Statement.{statement}
 use Rattle.repeats.proofs.there_and_apart.Tie as tie
@@ -75,9 +75,10 @@ there-requires c κs =
 returns-2 : tie.Need-returns-2 Inv-loop μ-loop
 unfolding statements
 returns-2 c =
-    let start = c .before .before .before .before .before .before .before .before in
     let loop = c .before .before .before .before .before .loop in
-    let more = c .before .before .before .before .loop-test .taken in
+    let loop-test = c .before .before .before .before .loop-test in
+    let start = c .before .before .before .before .before .before .before .before in
+    let more = loop-test .taken in
     let store = start .args .store .now in
     ap (λ (x : Bool). x && distinct sameStatement (statements store)) (sym (all-not (statementAt store) (talliesThere (tallies store)) (loop .i - 1) _ _ (start .pre .2 .is) (omega (arith, loop .inv .0, more)) (sym (c .before .there .ensures) ∙ not-true _ (c .if2 .taken))))
 
@@ -89,16 +90,19 @@ chain-of-requires c κs = search needs
 
 repeated-requires : tie.Need-repeated-requires Inv-loop μ-loop
 repeated-requires c κs =
-    let start = c .before .before .before .before .before .before .before .before .before .before .before .before in
+    let shared-slice-known = c .before .before .before .before .before .before .before .before .before .before .before .shared-slice-known in
     let loop = c .before .before .before .before .before .before .before .before .before .loop in
-    let more = c .before .before .before .before .before .before .before .before .loop-test .taken in
-    let bytes = c .before .before .before .before .before .before .before .before .before .before .before .shared-slice-known .given in
+    let loop-test = c .before .before .before .before .before .before .before .before .loop-test in
     let block = c .before .before .before .before .before .before .before .certified-block in
     let own = c .before .before .before .before .before .before .own-block in
+    let stirred = c .before .before .before .stirred in let chain-of = c .before .before .chain-of in
+    let start = c .before .before .before .before .before .before .before .before .before .before .before .before in
+    let more = loop-test .taken in
+    let bytes = shared-slice-known .given in
     let store = start .args .store .now in
-    let chain = c .before .before .chain-of .ensures .0 ∙ ap chainOf (c .before .before .before .stirred .ensures ∙ ap₂ stir (own .ensures .mixes ∙ keyed-stirs store bytes (start .args .salt) _ _ _ (own .ensures .keyed)) (block .ensures .mixes ∙ keyed-stirs store bytes (start .args .salt) _ _ _ (block .ensures .keyed))) in
+    let chain = chain-of .ensures .0 ∙ ap chainOf (stirred .ensures ∙ ap₂ stir (own .ensures .mixes ∙ keyed-stirs store bytes (start .args .salt) _ _ _ (own .ensures .keyed)) (block .ensures .mixes ∙ keyed-stirs store bytes (start .args .salt) _ _ _ (block .ensures .keyed))) in
     let e : loop .i - 1 + 1 ≡ loop .i = omega (arith, more) in
-    (start .pre .2, omega (arith, loop .inv .0, more), rw e (loop .inv .1), chain, c .before .before .chain-of .ensures .1)
+    (start .pre .2, omega (arith, loop .inv .0, more), rw e (loop .inv .1), chain, chain-of .ensures .1)
 
 returns-3 : tie.Need-returns-3 Inv-loop μ-loop
 unfolding statements

@@ -14,11 +14,14 @@ least-out-in-requires c κs = search needs
 
 returns : tie.Need-returns
 returns c =
-    let a = c .before .before .before .before .before .before .before .before .args in no-out (a .journal .now) (a .store .now) (a .out .now) (a .report .now) (c .before .before .before .is-whole .ensures) (c .before .before .if1 .taken) (omega (arith, c .if2 .taken, c .before .least-out-in .ensures))
+    let args = c .before .before .before .before .before .before .before .before .args in let is-whole = c .before .before .before .is-whole in
+    no-out (args .journal .now) (args .store .now) (args .out .now) (args .report .now) (is-whole .ensures) (c .before .before .if1 .taken) (omega (arith, c .if2 .taken, c .before .least-out-in .ensures))
 
 returns-2 : tie.Need-returns-2
 returns-2 c =
-    let a = c .before .before .before .before .before .before .before .before .before .args in too-long (a .journal .now) (a .store .now) (a .out .now) (a .report .now) (c .before .before .before .before .is-whole .ensures) (c .before .before .before .if1 .taken) (omega (arith, c .before .if2 .left, c .before .before .least-out-in .ensures)) (slot-count (a .journal .now)) (c .if3 .taken)
+    let args = c .before .before .before .before .before .before .before .before .before .args in let is-whole = c .before .before .before .before .is-whole in
+    let if1 = c .before .before .before .if1 in
+    too-long (args .journal .now) (args .store .now) (args .out .now) (args .report .now) (is-whole .ensures) (if1 .taken) (omega (arith, c .before .if2 .left, c .before .before .least-out-in .ensures)) (slot-count (args .journal .now)) (c .if3 .taken)
 
 mul-result : tie.Need-mul-result
 mul-result c = search needs
@@ -28,7 +31,9 @@ add-result c = search needs
 
 returns-3 : tie.Need-returns-3
 returns-3 c =
-    let a = c .before .before .before .before .before .before .before .before .before .args in by-report (a .journal .now) (a .store .now) (a .out .now) (a .report .now) (c .before .before .before .before .is-whole .ensures) (c .before .before .before .if1 .taken) (omega (arith, c .before .if2 .left, c .before .before .least-out-in .ensures)) (slot-count (a .journal .now)) (c .if3 .left)
+    let args = c .before .before .before .before .before .before .before .before .before .args in let is-whole = c .before .before .before .before .is-whole in
+    let if1 = c .before .before .before .if1 in
+    by-report (args .journal .now) (args .store .now) (args .out .now) (args .report .now) (is-whole .ensures) (if1 .taken) (omega (arith, c .before .if2 .left, c .before .before .least-out-in .ensures)) (slot-count (args .journal .now)) (c .if3 .left)
 
 returns-4 : tie.Need-returns-4
 returns-4 c =

@@ -12,22 +12,33 @@ has-lengths-requires c κs = search needs
 
 well-formed-requires : tie.Need-well-formed-requires
 well-formed-requires c κs =
-    let a = c .before .before .before .before .before .before .before .before .before .before .args in let p = lengths-parts (a .journal .now) (a .store .now) (a .out .now) (a .report .now) (c .before .before .has-lengths .ensures) (c .before .if1 .taken) in p .0
+    let args = c .before .before .before .before .before .before .before .before .before .before .args in
+    let p = lengths-parts (args .journal .now) (args .store .now) (args .out .now) (args .report .now) (c .before .before .has-lengths .ensures) (c .before .if1 .taken) in p .0
 
 replay-slots-requires : tie.Need-replay-slots-requires
 replay-slots-requires c κs =
-    let a = c .before .before .before .before .before .before .before .before .before .before .before .before .before .before .before .args in let p = lengths-parts (a .journal .now) (a .store .now) (a .out .now) (a .report .now) (c .before .before .before .before .before .before .before .has-lengths .ensures) (c .before .before .before .before .before .before .if1 .taken) in (p .1, p .2)
+    let args = c .before .before .before .before .before .before .before .before .before .before .before .before .before .before .before .args in
+    let has-lengths = c .before .before .before .before .before .before .before .has-lengths in let if1 = c .before .before .before .before .before .before .if1 in
+    let p = lengths-parts (args .journal .now) (args .store .now) (args .out .now) (args .report .now) (has-lengths .ensures) (if1 .taken) in (p .1, p .2)
 
 write-head-requires : tie.Need-write-head-requires
 write-head-requires c κs =
-    let a = c .before .before .before .before .before .before .before .before .before .before .before .before .before .before .before .before .before .before .before .before .before .before .before .args in let p = lengths-parts (a .journal .now) (a .store .now) (a .out .now) (a .report .now) (c .before .before .before .before .before .before .before .before .before .before .before .before .before .before .before .has-lengths .ensures) (c .before .before .before .before .before .before .before .before .before .before .before .before .before .before .if1 .taken) in omega (arith, c .before .before .before .before .before .before .before .replay-slots .kept .1 .1 .1 .0, p .2)
+    let args = c .before .before .before .before .before .before .before .before .before .before .before .before .before .before .before .before .before .before .before .before .before .before .before .args in
+    let has-lengths = c .before .before .before .before .before .before .before .before .before .before .before .before .before .before .before .has-lengths in
+    let if1 = c .before .before .before .before .before .before .before .before .before .before .before .before .before .before .if1 in
+    let replay-slots = c .before .before .before .before .before .before .before .replay-slots in
+    let p = lengths-parts (args .journal .now) (args .store .now) (args .out .now) (args .report .now) (has-lengths .ensures) (if1 .taken) in omega (arith, replay-slots .kept .1 .1 .1 .0, p .2)
 
 refuse-requires : tie.Need-refuse-requires
 refuse-requires c κs = search needs
 
 add-result : tie.Need-add-result
 add-result c =
-    let a = c .before .before .before .before .before .before .before .before .before .before .before .before .before .before .before .before .before .before .before .before .before .before .before .before .before .before .before .before .args in let p = lengths-parts (a .journal .now) (a .store .now) (a .out .now) (a .report .now) (c .before .before .before .before .before .before .before .before .before .before .before .before .before .before .before .before .before .before .before .before .has-lengths .ensures) (c .before .before .before .before .before .before .before .before .before .before .before .before .before .before .before .before .before .before .before .if1 .taken) in omega (arith, c .refuse .ensures, c .before .before .before .before .before .before .before .before .before .before .before .before .replay-slots .ensures .bounded .place, p .1)
+    let args = c .before .before .before .before .before .before .before .before .before .before .before .before .before .before .before .before .before .before .before .before .before .before .before .before .before .before .before .before .args in
+    let has-lengths = c .before .before .before .before .before .before .before .before .before .before .before .before .before .before .before .before .before .before .before .before .has-lengths in
+    let if1 = c .before .before .before .before .before .before .before .before .before .before .before .before .before .before .before .before .before .before .before .if1 in
+    let replay-slots = c .before .before .before .before .before .before .before .before .before .before .before .before .replay-slots in
+    let p = lengths-parts (args .journal .now) (args .store .now) (args .out .now) (args .report .now) (has-lengths .ensures) (if1 .taken) in omega (arith, c .refuse .ensures, replay-slots .ensures .bounded .place, p .1)
 
 same-length : tie.Need-same-length
 same-length c = search needs
@@ -40,7 +51,26 @@ same-length-3 c = search needs
 
 returns : tie.Need-returns
 returns c =
-    let a = c .before .before .before .before .before .before .before .before .before .before .before .before .before .before .before .before .before .before .before .before .before .before .before .before .before .before .before .before .args in ends-stopped (a .journal .now) (a .store .now) (a .out .now) (a .report .now) (c .before .before .before .before .before .before .before .before .before .before .before .before .before .before .before .before .before .before .before .before .has-lengths .ensures) (c .before .before .before .before .before .before .before .before .before .before .before .before .before .before .before .before .before .before .before .if1 .taken) (c .before .before .before .before .before .before .before .before .before .before .before .before .before .before .before .before .before .well-formed .ensures) (c .before .before .before .before .before .before .before .before .before .before .before .before .before .before .before .before .if2 .taken) (c .before .before .before .before .before .before .before .before .before .before .before .before .replay-slots .ensures) (c .before .before .before .before .write-head .ensures) (c .before .if3 .taken) (ap (λ (x : ℕ). x + c .before .before .before .before .before .before .before .before .before .before .before .before .replay-slots .result .place) (c .refuse .ensures))
+    let args = c .before .before .before .before .before .before .before .before .before .before .before .before .before .before .before .before .before .before .before .before .before .before .before .before .before .before .before .before .args in
+    let has-lengths = c .before .before .before .before .before .before .before .before .before .before .before .before .before .before .before .before .before .before .before .before .has-lengths in
+    let if1 = c .before .before .before .before .before .before .before .before .before .before .before .before .before .before .before .before .before .before .before .if1 in
+    let well-formed = c .before .before .before .before .before .before .before .before .before .before .before .before .before .before .before .before .before .well-formed in
+    let if2 = c .before .before .before .before .before .before .before .before .before .before .before .before .before .before .before .before .if2 in
+    let replay-slots = c .before .before .before .before .before .before .before .before .before .before .before .before .replay-slots in
+    let write-head = c .before .before .before .before .write-head in
+    ends-stopped
+    (args .journal .now)
+    (args .store .now)
+    (args .out .now)
+    (args .report .now)
+    (has-lengths .ensures)
+    (if1 .taken)
+    (well-formed .ensures)
+    (if2 .taken)
+    (replay-slots .ensures)
+    (write-head .ensures)
+    (c .before .if3 .taken)
+    (ap (λ (x : ℕ). x + c .before .before .before .before .before .before .before .before .before .before .before .before .replay-slots .result .place) (c .refuse .ensures))
 
 same-length-4 : tie.Need-same-length-4
 same-length-4 c = search needs
@@ -53,7 +83,14 @@ same-length-6 c = search needs
 
 returns-2 : tie.Need-returns-2
 returns-2 c =
-    let a = c .before .before .before .before .before .before .before .before .before .before .before .before .before .before .before .before .before .before .before .before .before .before .before .before .before .before .before .args in ends-well (a .journal .now) (a .store .now) (a .out .now) (a .report .now) (c .before .before .before .before .before .before .before .before .before .before .before .before .before .before .before .before .before .before .before .has-lengths .ensures) (c .before .before .before .before .before .before .before .before .before .before .before .before .before .before .before .before .before .before .if1 .taken) (c .before .before .before .before .before .before .before .before .before .before .before .before .before .before .before .before .well-formed .ensures) (c .before .before .before .before .before .before .before .before .before .before .before .before .before .before .before .if2 .taken) (c .before .before .before .before .before .before .before .before .before .before .before .replay-slots .ensures) (c .before .before .before .write-head .ensures) (c .if3 .left) refl
+    let args = c .before .before .before .before .before .before .before .before .before .before .before .before .before .before .before .before .before .before .before .before .before .before .before .before .before .before .before .args in
+    let has-lengths = c .before .before .before .before .before .before .before .before .before .before .before .before .before .before .before .before .before .before .before .has-lengths in
+    let if1 = c .before .before .before .before .before .before .before .before .before .before .before .before .before .before .before .before .before .before .if1 in
+    let well-formed = c .before .before .before .before .before .before .before .before .before .before .before .before .before .before .before .before .well-formed in
+    let if2 = c .before .before .before .before .before .before .before .before .before .before .before .before .before .before .before .if2 in
+    let replay-slots = c .before .before .before .before .before .before .before .before .before .before .before .replay-slots in
+    let write-head = c .before .before .before .write-head in
+    ends-well (args .journal .now) (args .store .now) (args .out .now) (args .report .now) (has-lengths .ensures) (if1 .taken) (well-formed .ensures) (if2 .taken) (replay-slots .ensures) (write-head .ensures) (c .if3 .left) refl
 
 refuse-requires-2 : tie.Need-refuse-requires-2
 refuse-requires-2 c κs = search needs
@@ -69,7 +106,9 @@ same-length-9 c = search needs
 
 returns-3 : tie.Need-returns-3
 returns-3 c =
-    let a = c .before .before .before .before .before .before .before .before .before .before .before .before .before .args in no-form (a .journal .now) (a .store .now) (a .out .now) (a .report .now) (c .before .before .before .before .before .has-lengths .ensures) (c .before .before .before .before .if1 .taken) (c .before .before .well-formed .ensures) (c .before .if2 .left) (c .refuse2 .ensures)
+    let args = c .before .before .before .before .before .before .before .before .before .before .before .before .before .args in
+    let has-lengths = c .before .before .before .before .before .has-lengths in let if1 = c .before .before .before .before .if1 in
+    no-form (args .journal .now) (args .store .now) (args .out .now) (args .report .now) (has-lengths .ensures) (if1 .taken) (c .before .before .well-formed .ensures) (c .before .if2 .left) (c .refuse2 .ensures)
 
 refuse-requires-3 : tie.Need-refuse-requires-3
 refuse-requires-3 c κs = search needs
@@ -85,7 +124,8 @@ same-length-12 c = search needs
 
 returns-4 : tie.Need-returns-4
 returns-4 c =
-    let a = c .before .before .before .before .before .before .before .before .before .before .args in no-lengths (a .journal .now) (a .store .now) (a .out .now) (a .report .now) (c .before .before .has-lengths .ensures) (c .before .if1 .left) (c .refuse3 .ensures)
+    let args = c .before .before .before .before .before .before .before .before .before .before .args in
+    no-lengths (args .journal .now) (args .store .now) (args .out .now) (args .report .now) (c .before .before .has-lengths .ensures) (c .before .if1 .left) (c .refuse3 .ensures)
 
 pub journal-replay-spec : {M : Type 1} → statement M
 journal-replay-spec =

@@ -22,7 +22,8 @@ same-length c = search needs
 returns : tie.Need-returns
 returns c =
     let a = c .before .before .before .before .before .before .before .before .before .before .before .before .before .args in
-    c .before .before .put3 .ensures ∙ ap (λ (x : List ℕ). put x 8 4 (a .torn)) (c .before .before .before .before .before .before .put2 .ensures ∙ ap (λ (x : List ℕ). put x 4 4 (a .place)) (c .before .before .before .before .before .before .before .before .before .before .put .ensures))
+    let the-put = c .before .before .before .before .before .before .before .before .before .before .put in let put2 = c .before .before .before .before .before .before .put2 in
+    c .before .before .put3 .ensures ∙ ap (λ (x : List ℕ). put x 8 4 (a .torn)) (put2 .ensures ∙ ap (λ (x : List ℕ). put x 4 4 (a .place)) (the-put .ensures))
 
 pub write-head-spec : {M : Type 1} → statement M
 write-head-spec =

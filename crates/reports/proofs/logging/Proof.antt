@@ -25,8 +25,7 @@ get-count-requires c κs =
 
 loop-holds : tie.Need-loop-holds Inv-loop μ-loop
 loop-holds c =
-    let a = c .before .before .before .before .before .args in
-    let p = c .before .before .before .before .before .pre in
+    let start = c .before .before .before .before .before in let a = start .args in let p = start .pre in
     (omega (arith, c .get-count .ensures, p .more), logged-none (a .store .now) (a .gained .now) (a .out .now) (a .at) _ (c .get-count .ensures .0) (p .form))
 
 mul-statement-at : tie.Need-mul-statement-at Inv-loop μ-loop
@@ -52,27 +51,37 @@ statement-at-requires c κs =
 
 append-name-requires : tie.Need-append-name-requires Inv-loop μ-loop
 append-name-requires c κs =
+    let pre = c .before .before .before .before .before .before .before .before .before .before .before .before .pre in
     let loop = c .before .before .before .before .before .before .loop in
-    ((loop .inv .1 .left .form), omega (arith, logged-count _ _ _ _ (loop .inv .1), c .before .before .before .before .before .loop-test .taken, c .before .before .before .before .before .before .before .before .before .before .before .before .pre .fits, ap mostStatements (logged-size _ _ _ _ (loop .inv .1))))
+    let loop-test = c .before .before .before .before .before .loop-test in
+    ((loop .inv .1 .left .form), omega (arith, logged-count _ _ _ _ (loop .inv .1), loop-test .taken, pre .fits, ap mostStatements (logged-size _ _ _ _ (loop .inv .1))))
 
 add-committed : tie.Need-add-committed Inv-loop μ-loop
 add-committed c =
-    omega (arith, c .before .before .before .before .before .before .before .before .before .loop-test .taken, enough-few (c .before .before .before .before .before .before .before .before .before .before .before .before .before .before .before .before .pre))
+    let pre = c .before .before .before .before .before .before .before .before .before .before .before .before .before .before .before .before .pre in
+    let loop-test = c .before .before .before .before .before .before .before .before .before .loop-test in
+    omega (arith, loop-test .taken, enough-few pre)
 
 cast-committed : tie.Need-cast-committed Inv-loop μ-loop
 cast-committed c =
-    omega (arith, c .before .before .before .before .before .before .before .before .before .loop-test .taken, enough-few (c .before .before .before .before .before .before .before .before .before .before .before .before .before .before .before .before .pre))
+    let pre = c .before .before .before .before .before .before .before .before .before .before .before .before .before .before .before .before .pre in
+    let loop-test = c .before .before .before .before .before .before .before .before .before .loop-test in
+    omega (arith, loop-test .taken, enough-few pre)
 
 committed-requires : tie.Need-committed-requires Inv-loop μ-loop
 committed-requires c κs =
+    let start = c .before .before .before .before .before .before .before .before .before .before .before .before .before .before .before .before in let a = start .args in
+    let p = start .pre in
     let l = c .before .before .before .before .before .before .before .before .before .before .loop in
-    let p = c .before .before .before .before .before .before .before .before .before .before .before .before .before .before .before .before .pre in
-    let a = c .before .before .before .before .before .before .before .before .before .before .before .before .before .before .before .before .args in
-    omega (arith, logged-ends (a .store .now) (a .gained .now) (a .out .now) (a .at) (l .inv .1), l .inv .1 .low, c .before .before .before .before .before .before .before .before .before .loop-test .taken, p .space, says-length (l .inv .1 .says), committed-bytes (l .k + 1) (nameOf (c .before .before .before .before .before .before .statement-at .result .name)))
+    let loop-test = c .before .before .before .before .before .before .before .before .before .loop-test in
+    let statement-at = c .before .before .before .before .before .before .statement-at in
+    omega (arith, logged-ends (a .store .now) (a .gained .now) (a .out .now) (a .at) (l .inv .1), l .inv .1 .low, loop-test .taken, p .space, says-length (l .inv .1 .says), committed-bytes (l .k + 1) (nameOf (statement-at .result .name)))
 
 add-k : tie.Need-add-k Inv-loop μ-loop
 add-k c =
-    omega (arith, c .before .before .before .before .before .before .before .before .before .before .before .before .loop-test .taken, enough-few (c .before .before .before .before .before .before .before .before .before .before .before .before .before .before .before .before .before .before .before .pre))
+    let pre = c .before .before .before .before .before .before .before .before .before .before .before .before .before .before .before .before .before .before .before .pre in
+    let loop-test = c .before .before .before .before .before .before .before .before .before .before .before .before .loop-test in
+    omega (arith, loop-test .taken, enough-few pre)
 
 loop-less : tie.Need-loop-less Inv-loop μ-loop
 loop-less c =
@@ -80,12 +89,13 @@ loop-less c =
 
 loop-again : tie.Need-loop-again Inv-loop μ-loop
 loop-again c =
+    let start = c .before .before .before .before .before .before .before .before .before .before .before .before .before .before .before .before .before .before .before in
+    let a = start .args in let p = start .pre in
+    let l = c .before .before .before .before .before .before .before .before .before .before .before .before .before .loop in
     let loop-test = c .before .before .before .before .before .before .before .before .before .before .before .before .loop-test in
     let statement-at = c .before .before .before .before .before .before .before .before .before .statement-at in
-    let l = c .before .before .before .before .before .before .before .before .before .before .before .before .before .loop in
-    let p = c .before .before .before .before .before .before .before .before .before .before .before .before .before .before .before .before .before .before .before .pre in
-    let a = c .before .before .before .before .before .before .before .before .before .before .before .before .before .before .before .before .before .before .before .args in
-    (omega (arith, loop-test .taken), logged-next (a .store .now) (a .gained .now) (a .out .now) (a .at) (l .inv .1) _ (logged-name (a .store .now) (a .gained .now) (a .out .now) (a .at) (l .inv .1) (statement-at .result) (p .stored (l .k) (l .inv .1 .low) (loop-test .taken)) (statement-at .ensures)) (c .before .before .before .before .before .before .append-name .ensures) (c .before .before .committed .ensures))
+    let append-name = c .before .before .before .before .before .before .append-name in
+    (omega (arith, loop-test .taken), logged-next (a .store .now) (a .gained .now) (a .out .now) (a .at) (l .inv .1) _ (logged-name (a .store .now) (a .gained .now) (a .out .now) (a .at) (l .inv .1) (statement-at .result) (p .stored (l .k) (l .inv .1 .low) (loop-test .taken)) (statement-at .ensures)) (append-name .ensures) (c .before .before .committed .ensures))
 
 same-length : tie.Need-same-length Inv-loop μ-loop
 same-length c =

@@ -52,8 +52,9 @@ loop-less c = omega arith
 loop-again : tie.Need-loop-again Inv-loop μ-loop
 loop-again c =
     let a = c .before .before .before .before .before .before .before .args in
+    let statement-count = c .before .before .before .before .before .statement-count in
     let l = c .before .before .before .before .loop in
-    l .inv ∙ pair-step (statementAt (a .store .now)) (a .view) (countOf statementTable (a .store .now)) (l .i) (omega (arith, c .before .before .before .before .before .statement-count .ensures .0)) none (finds-nothing (c .before .before .rival-of .ensures) (c .enum-told .given .1))
+    l .inv ∙ pair-step (statementAt (a .store .now)) (a .view) (countOf statementTable (a .store .now)) (l .i) (omega (arith, statement-count .ensures .0)) none (finds-nothing (c .before .before .rival-of .ensures) (c .enum-told .given .1))
 
 returns : tie.Need-returns Inv-loop μ-loop
 returns c =
@@ -63,13 +64,15 @@ returns c =
 returns-2 : tie.Need-returns-2 Inv-loop μ-loop
 returns-2 c =
     let a = c .before .before .before .before .before .before .before .before .args in
+    let statement-count = c .before .before .before .before .before .before .statement-count in
+    let loop = c .before .before .before .before .before .loop in let rival-of = c .before .before .before .rival-of in
     let f = statementAt (a .store .now) in
     let j = c .before .found .given .0 .0 in
     let e = c .before .found .given .1 in
-    let l : c .before .before .before .before .before .loop .i < countOf statementTable (a .store .now) = omega (arith, c .before .before .before .before .before .before .statement-count .ensures .0) in
+    let l : c .before .before .before .before .before .loop .i < countOf statementTable (a .store .now) = omega (arith, statement-count .ensures .0) in
     record {
-      is = sym (c .before .before .before .before .before .loop .inv ∙ pair-step f (a .view) (countOf statementTable (a .store .now)) (c .before .before .before .before .before .loop .i) l (some (f j)) (finds-at (c .before .before .before .rival-of .ensures) j e));
-      inside = (l, finds-inside (c .before .before .before .rival-of .ensures) j e);
+      is = sym (loop .inv ∙ pair-step f (a .view) (countOf statementTable (a .store .now)) (loop .i) l (some (f j)) (finds-at (rival-of .ensures) j e));
+      inside = (l, finds-inside (rival-of .ensures) j e);
     }
 
 pub find-pair-spec : {M : Type 1} → statement M

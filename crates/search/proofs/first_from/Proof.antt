@@ -54,8 +54,9 @@ returns c =
 returns-2 : tie.Need-returns-2 Inv-loop μ-loop
 returns-2 c =
     let a = c .before .before .before .before .before .before .args in
+    let statement-count = c .before .before .before .before .statement-count in
     let l = c .before .before .before .loop in
-    sym (l .inv ∙ find-here (statementAt (a .store .now)) (asked (a .ask)) (countOf statementTable (a .store .now)) (l .i) (omega (arith, c .before .before .before .before .statement-count .ensures .0)) (sym (c .before .asked-at .ensures) ∙ c .if2 .taken))
+    sym (l .inv ∙ find-here (statementAt (a .store .now)) (asked (a .ask)) (countOf statementTable (a .store .now)) (l .i) (omega (arith, statement-count .ensures .0)) (sym (c .before .asked-at .ensures) ∙ c .if2 .taken))
 
 pub first-from-spec : {M : Type 1} → statement M
 first-from-spec =

@@ -35,8 +35,18 @@ first-from-requires c κs = search needs
 
 returns-2 : tie.Need-returns-2
 returns-2 c =
-    let a = c .before .before .before .before .before .args in
-    rival-found (statementAt (a .store .now)) (a .view) (countOf statementTable (a .store .now)) (a .i) (c .before .before .before .before .before .pre .1) (sym (c .before .before .before .view-at .ensures) ∙ c .before .before .if1 .left) (conflict (statementOf (c .before .statement-at .result) none)) (read-conflicts (c .before .statement-at .result) (statementAt (a .store .now) (a .i)) (c .before .statement-at .ensures)) (c .first-from .result) (c .first-from .ensures)
+    let start = c .before .before .before .before .before in let a = start .args in let pre = start .pre in let view-at = c .before .before .before .view-at in
+    rival-found
+    (statementAt (a .store .now))
+    (a .view)
+    (countOf statementTable (a .store .now))
+    (a .i)
+    (pre .1)
+    (sym (view-at .ensures) ∙ c .before .before .if1 .left)
+    (conflict (statementOf (c .before .statement-at .result) none))
+    (read-conflicts (c .before .statement-at .result) (statementAt (a .store .now) (a .i)) (c .before .statement-at .ensures))
+    (c .first-from .result)
+    (c .first-from .ensures)
 
 pub rival-of-spec : {M : Type 1} → statement M
 rival-of-spec =

@@ -55,7 +55,9 @@ loop-again-2 : tie.Need-loop-again-2 Inv-loop μ-loop
 loop-again-2 c =
     let a = c .before .before .before .before .before .before .before .before .before .args in
     let l = c .before .before .before .before .before .before .loop in
-    (omega arith, topmost-lower (statementAt (a .store .now)) (a .view) (countOf statementTable (a .store .now)) (l .i) (c .before .before .before .before .before .loop-test .taken) (l .inv .0) (sym (c .before .before .before .before .view-at .ensures) ∙ c .before .before .before .if1 .left) (l .best) (l .height) (l .inv .1) (omega (arith, read-height (c .before .before .statement-at .result) (statementAt (a .store .now) (l .i - 1)) (c .before .before .statement-at .ensures))))
+    let loop-test = c .before .before .before .before .before .loop-test in let view-at = c .before .before .before .before .view-at in let if1 = c .before .before .before .if1 in
+    let statement-at = c .before .before .statement-at in
+    (omega arith, topmost-lower (statementAt (a .store .now)) (a .view) (countOf statementTable (a .store .now)) (l .i) (loop-test .taken) (l .inv .0) (sym (view-at .ensures) ∙ if1 .left) (l .best) (l .height) (l .inv .1) (omega (arith, read-height (statement-at .result) (statementAt (a .store .now) (l .i - 1)) (statement-at .ensures))))
 
 loop-less-3 : tie.Need-loop-less-3 Inv-loop μ-loop
 loop-less-3 c = omega arith
@@ -64,7 +66,9 @@ loop-again-3 : tie.Need-loop-again-3 Inv-loop μ-loop
 loop-again-3 c =
     let a = c .before .before .before .before .before .before .before .before .before .args in
     let l = c .before .before .before .before .before .before .loop in
-    (omega arith, topmost-here (statementAt (a .store .now)) (a .view) (countOf statementTable (a .store .now)) (l .i) (c .before .before .before .before .before .loop-test .taken) (l .inv .0) (sym (c .before .before .before .before .view-at .ensures) ∙ c .before .before .before .if1 .left) (l .best) (l .height) (l .inv .1) (c .before .before .statement-at .result .height) (read-height (c .before .before .statement-at .result) (statementAt (a .store .now) (l .i - 1)) (c .before .before .statement-at .ensures)) (c .if2 .left))
+    let loop-test = c .before .before .before .before .before .loop-test in let view-at = c .before .before .before .before .view-at in let if1 = c .before .before .before .if1 in
+    let statement-at = c .before .before .statement-at in
+    (omega arith, topmost-here (statementAt (a .store .now)) (a .view) (countOf statementTable (a .store .now)) (l .i) (loop-test .taken) (l .inv .0) (sym (view-at .ensures) ∙ if1 .left) (l .best) (l .height) (l .inv .1) (statement-at .result .height) (read-height (statement-at .result) (statementAt (a .store .now) (l .i - 1)) (statement-at .ensures)) (c .if2 .left))
 
 returns : tie.Need-returns Inv-loop μ-loop
 unfolding statements

@@ -1,3 +1,4 @@
+-- `settings::only` meets its contract. Assumes nothing.
 use Rattle.rules.specs.Sizes.{only}
 use lib.Pow.{pow-lt}
 use native.Mathlib.Omega.{arith}

@@ -1,6 +1,6 @@
 -- `slip::judge` meets its contract. The invariant: what is judged from this place on is what is judged. The measure is the height. Assumes nothing.
 use Prim.Native.Nat.{_≤_}
-use mathlib.Core.Path.{_≡_, sym, ap, _∙_}
+use mathlib.Core.Path.{_≡_, ap}
 use native.Mathlib.Omega.{arith}
 use lib.ListN.{length}
 use Rattle.fields.specs.Names.{nameOf}

@@ -1,5 +1,4 @@
 -- `slip_check` meets its contract: no such group, accepted, or refused. Assumes nothing.
-use Prim.Native.Nat.{_+_, _^_}
 use mathlib.Core.Path.{_≡_, sym, ap, _∙_}
 use Rattle.settings.specs.Made.{settingsOf}
 use Rattle.settings.specs.Made.{madeOf}

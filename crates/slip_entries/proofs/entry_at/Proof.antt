@@ -23,8 +23,9 @@ propose-at-requires c κs = search needs
 
 returns-2 : tie.Need-returns-2
 returns-2 c =
+    let shared-slice-known = c .before .before .before .before .shared-slice-known in let if1 = c .before .before .before .if1 in
     let start = c .before .before .before .before .before in
-    ap some (c .propose-at .ensures) ∙ entry-here (start .args .slip .now) (c .before .before .before .before .shared-slice-known .given) (start .args .at) (omega (arith, c .before .before .before .if1 .left, start .pre)) (sym (c .before .before .heads-stand .ensures) ∙ c .before .if2 .taken)
+    ap some (c .propose-at .ensures) ∙ entry-here (start .args .slip .now) (shared-slice-known .given) (start .args .at) (omega (arith, if1 .left, start .pre)) (sym (c .before .before .heads-stand .ensures) ∙ c .before .if2 .taken)
 
 returns-3 : tie.Need-returns-3
 returns-3 c =

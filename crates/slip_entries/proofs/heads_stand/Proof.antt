@@ -47,7 +47,9 @@ get-requires-7 c κs = search needs
 returns : tie.Need-returns
 unfolding headsStand
 returns c =
-    rw (c .before .before .before .before .before .before .get .ensures .0, c .before .before .before .before .before .get2 .ensures .0, c .before .before .before .before .get3 .ensures .0, c .before .before .before .get4 .ensures .0, c .before .before .get5 .ensures .0, c .before .get6 .ensures .0, c .get7 .ensures .0)
+    let get = c .before .before .before .before .before .before .get in let get2 = c .before .before .before .before .before .get2 in
+    let get3 = c .before .before .before .before .get3 in let get4 = c .before .before .before .get4 in
+    rw (get .ensures .0, get2 .ensures .0, get3 .ensures .0, get4 .ensures .0, c .before .before .get5 .ensures .0, c .before .get6 .ensures .0, c .get7 .ensures .0)
     refl
 
 pub heads-stand-spec : {M : Type 1} → statement M

@@ -29,12 +29,16 @@ statement-allowed-requires c κs = search needs
 returns-2 : tie.Need-returns-2
 unfolding statementOf
 returns-2 c =
-    parent-here _ _ _ (sym (c .before .before .before .before .before .before .before .before .entry-at .ensures) ∙ ap entryOf (c .before .before .before .before .before .before .x .given .1)) (c .before .before .before .before .same .ensures) (c .before .before .statement-allowed .ensures) (c .before .if1 .taken)
+    let entry-at = c .before .before .before .before .before .before .before .before .entry-at in let x = c .before .before .before .before .before .before .x in
+    let same = c .before .before .before .before .same in
+    parent-here _ _ _ (sym (entry-at .ensures) ∙ ap entryOf (x .given .1)) (same .ensures) (c .before .before .statement-allowed .ensures) (c .before .if1 .taken)
 
 returns-3 : tie.Need-returns-3
 unfolding statementOf
 returns-3 c =
-    parent-other _ _ _ (sym (c .before .before .before .before .before .before .before .entry-at .ensures) ∙ ap entryOf (c .before .before .before .before .before .x .given .1)) (c .before .before .before .same .ensures) (c .before .statement-allowed .ensures) (c .if1 .left)
+    let entry-at = c .before .before .before .before .before .before .before .entry-at in let x = c .before .before .before .before .before .x in
+    let same = c .before .before .before .same in
+    parent-other _ _ _ (sym (entry-at .ensures) ∙ ap entryOf (x .given .1)) (same .ensures) (c .before .statement-allowed .ensures) (c .if1 .left)
 
 pub parent-at-spec : {M : Type 1} → statement M
 parent-at-spec =

@@ -57,7 +57,8 @@ cast-author c = search needs
 returns : tie.Need-returns
 unfolding proposeAt statementOf
 returns c =
-    rw (c .before .before .before .before .before .get .ensures .0, c .before .before .before .before .get2 .ensures .0, c .before .before .before .get-name .ensures .0, c .before .before .get-name2 .ensures .0, c .before .get3 .ensures .0, c .get4 .ensures .0)
+    let get = c .before .before .before .before .before .get in let get2 = c .before .before .before .before .get2 in let get-name = c .before .before .before .get-name in
+    rw (get .ensures .0, get2 .ensures .0, get-name .ensures .0, c .before .before .get-name2 .ensures .0, c .before .get3 .ensures .0, c .get4 .ensures .0)
     refl
 
 pub propose-at-spec : {M : Type 1} → statement M

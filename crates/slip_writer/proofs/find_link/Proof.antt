@@ -9,7 +9,6 @@ use Rattle.store.specs.Searches.{firstFrom}
 use Rattle.store.proofs.Forms.{form-long, form-statements}
 use Rattle.store.proofs.Searches.{find-none, find-here, find-next}
 use Rattle.linked.specs.Links.{isLink}
-use borrow.Author.Needs.{needs}
 use Rattle.slip_writer.proofs.find_link.Statement.{statement}
 use Rattle.slip_writer.proofs.find_link.Tie as tie
 

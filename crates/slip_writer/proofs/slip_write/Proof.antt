@@ -35,12 +35,17 @@ well-formed-requires c κs =
 returns-4 : tie.Need-returns-4
 returns-4 c =
     let a = c .before .before .before .before .before .before .before .before .before .before .args in
-    refused-formless (a .store .now) (a .name .now) (a .out .now) (c .before .before .before .before .before .before .is-whole .ensures) (c .before .before .before .before .before .if1 .left) (c .before .before .before .before .if2 .left) (omega (arith, c .before .before .if3 .left, c .before .before .before .least-out-in .ensures)) (c .before .well-formed .ensures) refl (c .if4 .taken)
+    let is-whole = c .before .before .before .before .before .before .is-whole in
+    let if1 = c .before .before .before .before .before .if1 in let if2 = c .before .before .before .before .if2 in let least-out-in = c .before .before .before .least-out-in in
+    refused-formless (a .store .now) (a .name .now) (a .out .now) (is-whole .ensures) (if1 .left) (if2 .left) (omega (arith, c .before .before .if3 .left, least-out-in .ensures)) (c .before .well-formed .ensures) refl (c .if4 .taken)
 
 load-requires : tie.Need-load-requires
 load-requires c κs =
     let a = c .before .before .before .before .before .before .before .before .before .before .args in
-    let f = (has-form (a .store .now) (a .name .now) (a .out .now) (c .before .before .before .before .before .before .is-whole .ensures) (c .before .before .before .before .before .if1 .left) (c .before .before .before .before .if2 .left) (omega (arith, c .before .before .if3 .left, c .before .before .before .least-out-in .ensures)) (c .before .well-formed .ensures) (c .before .before .before .before .before .before .before .before .before .shared-slice-known .given) (c .if4 .left)) in
+    let shared-slice-known = c .before .before .before .before .before .before .before .before .before .shared-slice-known in
+    let is-whole = c .before .before .before .before .before .before .is-whole in let if1 = c .before .before .before .before .before .if1 in
+    let if2 = c .before .before .before .before .if2 in let least-out-in = c .before .before .before .least-out-in in
+    let f = (has-form (a .store .now) (a .name .now) (a .out .now) (is-whole .ensures) (if1 .left) (if2 .left) (omega (arith, c .before .before .if3 .left, least-out-in .ensures)) (c .before .well-formed .ensures) (shared-slice-known .given) (c .if4 .left)) in
     omega (arith, form-long _ f)
 
 get-name-requires : tie.Need-get-name-requires
@@ -49,7 +54,11 @@ get-name-requires c κs = search needs
 find-name-requires : tie.Need-find-name-requires
 find-name-requires c κs =
     let a = c .before .before .before .before .before .before .before .before .before .before .before .before .args in
-    ((has-form (a .store .now) (a .name .now) (a .out .now) (c .before .before .before .before .before .before .before .before .is-whole .ensures) (c .before .before .before .before .before .before .before .if1 .left) (c .before .before .before .before .before .before .if2 .left) (omega (arith, c .before .before .before .before .if3 .left, c .before .before .before .before .before .least-out-in .ensures)) (c .before .before .before .well-formed .ensures) (c .before .before .before .before .before .before .before .before .before .before .before .shared-slice-known .given) (c .before .before .if4 .left)), loaded-logged _ _ (c .before .load .ensures))
+    let shared-slice-known = c .before .before .before .before .before .before .before .before .before .before .before .shared-slice-known in
+    let is-whole = c .before .before .before .before .before .before .before .before .is-whole in let if1 = c .before .before .before .before .before .before .before .if1 in
+    let if2 = c .before .before .before .before .before .before .if2 in let least-out-in = c .before .before .before .before .before .least-out-in in
+    let if3 = c .before .before .before .before .if3 in let well-formed = c .before .before .before .well-formed in
+    ((has-form (a .store .now) (a .name .now) (a .out .now) (is-whole .ensures) (if1 .left) (if2 .left) (omega (arith, if3 .left, least-out-in .ensures)) (well-formed .ensures) (shared-slice-known .given) (c .before .before .if4 .left)), loaded-logged _ _ (c .before .load .ensures))
 
 enum-known-i : tie.Need-enum-known-i
 enum-known-i c = search needs
@@ -60,19 +69,44 @@ enum-told c = search needs
 returns-5 : tie.Need-returns-5
 returns-5 c =
     let a = c .before .before .before .before .before .before .before .before .before .before .before .before .before .before .before .args in
-    gives-unlogged (a .store .now) (a .name .now) (a .out .now) (c .before .before .before .before .before .before .before .before .before .before .before .is-whole .ensures) (c .before .before .before .before .before .before .before .before .before .before .if1 .left) (c .before .before .before .before .before .before .before .before .before .if2 .left) (omega (arith, c .before .before .before .before .before .before .before .if3 .left, c .before .before .before .before .before .before .before .before .least-out-in .ensures)) (c .before .before .before .before .before .before .well-formed .ensures) (c .before .before .before .before .before .if4 .left)
-    (c .before .before .before .get-name .ensures .0) (c .before .before .find-name .ensures) refl (c .enum-told .given .1)
+    let is-whole = c .before .before .before .before .before .before .before .before .before .before .before .is-whole in
+    let if1 = c .before .before .before .before .before .before .before .before .before .before .if1 in
+    let if2 = c .before .before .before .before .before .before .before .before .before .if2 in
+    let least-out-in = c .before .before .before .before .before .before .before .before .least-out-in in
+    let if3 = c .before .before .before .before .before .before .before .if3 in let well-formed = c .before .before .before .before .before .before .well-formed in
+    let if4 = c .before .before .before .before .before .if4 in let get-name = c .before .before .before .get-name in
+    gives-unlogged (a .store .now) (a .name .now) (a .out .now) (is-whole .ensures) (if1 .left) (if2 .left) (omega (arith, if3 .left, least-out-in .ensures)) (well-formed .ensures) (if4 .left)
+    (get-name .ensures .0) (c .before .before .find-name .ensures) refl (c .enum-told .given .1)
 
 add-write-slip : tie.Need-add-write-slip
 add-write-slip c =
     let a = c .before .before .before .before .before .before .before .before .before .before .before .before .before .before .before .before .args in
-    let f = (has-form (a .store .now) (a .name .now) (a .out .now) (c .before .before .before .before .before .before .before .before .before .before .before .before .is-whole .ensures) (c .before .before .before .before .before .before .before .before .before .before .before .if1 .left) (c .before .before .before .before .before .before .before .before .before .before .if2 .left) (omega (arith, c .before .before .before .before .before .before .before .before .if3 .left, c .before .before .before .before .before .before .before .before .before .least-out-in .ensures)) (c .before .before .before .before .before .before .before .well-formed .ensures) (c .before .before .before .before .before .before .before .before .before .before .before .before .before .before .before .shared-slice-known .given) (c .before .before .before .before .before .before .if4 .left)) in
-    omega (arith, name-found (a .store .now) _ (c .before .before .before .find-name .ensures) (c .before .i .given .1) .1, form-log _ f)
+    let shared-slice-known = c .before .before .before .before .before .before .before .before .before .before .before .before .before .before .before .shared-slice-known in
+    let is-whole = c .before .before .before .before .before .before .before .before .before .before .before .before .is-whole in
+    let if1 = c .before .before .before .before .before .before .before .before .before .before .before .if1 in
+    let if2 = c .before .before .before .before .before .before .before .before .before .before .if2 in
+    let least-out-in = c .before .before .before .before .before .before .before .before .before .least-out-in in
+    let if3 = c .before .before .before .before .before .before .before .before .if3 in let well-formed = c .before .before .before .before .before .before .before .well-formed in
+    let if4 = c .before .before .before .before .before .before .if4 in let find-name = c .before .before .before .find-name in
+    let f = (has-form (a .store .now) (a .name .now) (a .out .now) (is-whole .ensures) (if1 .left) (if2 .left) (omega (arith, if3 .left, least-out-in .ensures)) (well-formed .ensures) (shared-slice-known .given) (if4 .left)) in
+    omega (arith, name-found (a .store .now) _ (find-name .ensures) (c .before .i .given .1) .1, form-log _ f)
 
 write-slip-requires : tie.Need-write-slip-requires
 write-slip-requires c κs =
     let a = c .before .before .before .before .before .before .before .before .before .before .before .before .before .before .before .before .before .args in
-    ((has-form (a .store .now) (a .name .now) (a .out .now) (c .before .before .before .before .before .before .before .before .before .before .before .before .before .is-whole .ensures) (c .before .before .before .before .before .before .before .before .before .before .before .before .if1 .left) (c .before .before .before .before .before .before .before .before .before .before .before .if2 .left) (omega (arith, c .before .before .before .before .before .before .before .before .before .if3 .left, c .before .before .before .before .before .before .before .before .before .before .least-out-in .ensures)) (c .before .before .before .before .before .before .before .before .well-formed .ensures) (c .before .before .before .before .before .before .before .before .before .before .before .before .before .before .before .before .shared-slice-known .given) (c .before .before .before .before .before .before .before .if4 .left)), loaded-statements _ _ (c .before .before .before .before .before .before .load .ensures), omega (arith, name-found (a .store .now) _ (c .before .before .before .before .find-name .ensures) (c .before .before .i .given .1) .1), omega (arith, c .before .before .before .before .before .before .before .before .before .if3 .left, c .before .before .before .before .before .before .before .before .before .before .least-out-in .ensures))
+    let shared-slice-known = c .before .before .before .before .before .before .before .before .before .before .before .before .before .before .before .before .shared-slice-known in
+    let is-whole = c .before .before .before .before .before .before .before .before .before .before .before .before .before .is-whole in
+    let if1 = c .before .before .before .before .before .before .before .before .before .before .before .before .if1 in
+    let if2 = c .before .before .before .before .before .before .before .before .before .before .before .if2 in
+    let least-out-in = c .before .before .before .before .before .before .before .before .before .before .least-out-in in
+    let if3 = c .before .before .before .before .before .before .before .before .before .if3 in
+    let well-formed = c .before .before .before .before .before .before .before .before .well-formed in let if4 = c .before .before .before .before .before .before .before .if4 in
+    let load = c .before .before .before .before .before .before .load in let find-name = c .before .before .before .before .find-name in (
+      (has-form (a .store .now) (a .name .now) (a .out .now) (is-whole .ensures) (if1 .left) (if2 .left) (omega (arith, if3 .left, least-out-in .ensures)) (well-formed .ensures) (shared-slice-known .given) (if4 .left)),
+      loaded-statements _ _ (load .ensures),
+      omega (arith, name-found (a .store .now) _ (find-name .ensures) (c .before .before .i .given .1) .1),
+      omega (arith, if3 .left, least-out-in .ensures),
+    )
 
 same-length : tie.Need-same-length
 same-length c = search needs
@@ -80,13 +114,23 @@ same-length c = search needs
 returns-6 : tie.Need-returns-6
 returns-6 c =
     let a = c .before .before .before .before .before .before .before .before .before .before .before .before .before .before .before .before .before .before .before .before .args in
-    let f = (has-form (a .store .now) (a .name .now) (a .out .now) (c .before .before .before .before .before .before .before .before .before .before .before .before .before .before .before .before .is-whole .ensures) (c .before .before .before .before .before .before .before .before .before .before .before .before .before .before .before .if1 .left) (c .before .before .before .before .before .before .before .before .before .before .before .before .before .before .if2 .left) (omega (arith, c .before .before .before .before .before .before .before .before .before .before .before .before .if3 .left, c .before .before .before .before .before .before .before .before .before .before .before .before .before .least-out-in .ensures)) (c .before .before .before .before .before .before .before .before .before .before .before .well-formed .ensures) (c .before .before .before .before .before .before .before .before .before .before .before .before .before .before .before .before .before .before .before .shared-slice-known .given) (c .before .before .before .before .before .before .before .before .before .before .if4 .left)) in
-    let n = nameOf (c .before .before .before .before .before .before .before .before .get-name .result) in
-    let i = c .before .before .before .before .before .i .given .0 .0 in
+    let shared-slice-known = c .before .before .before .before .before .before .before .before .before .before .before .before .before .before .before .before .before .before .before .shared-slice-known in
+    let is-whole = c .before .before .before .before .before .before .before .before .before .before .before .before .before .before .before .before .is-whole in
+    let if1 = c .before .before .before .before .before .before .before .before .before .before .before .before .before .before .before .if1 in
+    let if2 = c .before .before .before .before .before .before .before .before .before .before .before .before .before .before .if2 in
+    let least-out-in = c .before .before .before .before .before .before .before .before .before .before .before .before .before .least-out-in in
+    let if3 = c .before .before .before .before .before .before .before .before .before .before .before .before .if3 in
+    let well-formed = c .before .before .before .before .before .before .before .before .before .before .before .well-formed in
+    let if4 = c .before .before .before .before .before .before .before .before .before .before .if4 in
+    let get-name = c .before .before .before .before .before .before .before .before .get-name in
+    let find-name = c .before .before .before .before .before .before .before .find-name in let the-i = c .before .before .before .before .before .i in
+    let f = (has-form (a .store .now) (a .name .now) (a .out .now) (is-whole .ensures) (if1 .left) (if2 .left) (omega (arith, if3 .left, least-out-in .ensures)) (well-formed .ensures) (shared-slice-known .given) (if4 .left)) in
+    let n = nameOf (get-name .result) in
+    let i = the-i .given .0 .0 in
     let l = slip-most n (statements (a .store .now)) (names (a .store .now)) (i + 1) in
-    gives-slip (a .store .now) (a .name .now) (a .out .now) (c .before .before .before .before .before .before .before .before .before .before .before .before .before .before .before .before .is-whole .ensures) (c .before .before .before .before .before .before .before .before .before .before .before .before .before .before .before .if1 .left) (c .before .before .before .before .before .before .before .before .before .before .before .before .before .before .if2 .left) (omega (arith, c .before .before .before .before .before .before .before .before .before .before .before .before .if3 .left, c .before .before .before .before .before .before .before .before .before .before .before .before .before .least-out-in .ensures)) (c .before .before .before .before .before .before .before .before .before .before .before .well-formed .ensures) (c .before .before .before .before .before .before .before .before .before .before .if4 .left)
-    (c .before .before .before .before .before .before .before .before .get-name .ensures .0) (c .before .before .before .before .before .before .before .find-name .ensures) (c .before .before .before .before .before .i .given .1) refl (c .before .before .write-slip .ensures)
-    (omega (arith, l, name-found (a .store .now) _ (c .before .before .before .before .before .before .before .find-name .ensures) (c .before .before .before .before .before .i .given .1) .1, form-log _ f, slip-fits (sizeIn (a .store .now)), c .before .before .before .before .before .before .before .before .before .before .before .before .if3 .left, c .before .before .before .before .before .before .before .before .before .before .before .before .before .least-out-in .ensures))
+    gives-slip (a .store .now) (a .name .now) (a .out .now) (is-whole .ensures) (if1 .left) (if2 .left) (omega (arith, if3 .left, least-out-in .ensures)) (well-formed .ensures) (if4 .left)
+    (get-name .ensures .0) (find-name .ensures) (the-i .given .1) refl (c .before .before .write-slip .ensures)
+    (omega (arith, l, name-found (a .store .now) _ (find-name .ensures) (the-i .given .1) .1, form-log _ f, slip-fits (sizeIn (a .store .now)), if3 .left, least-out-in .ensures))
 
 pub slip-write-spec : {M : Type 1} → statement M
 slip-write-spec =

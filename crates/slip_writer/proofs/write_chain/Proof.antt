@@ -54,7 +54,9 @@ same-length c = says-length (c .before .before .before .before .before .before .
 returns : tie.Need-returns Inv-loop μ-loop
 returns c =
     let l = c .before .before .before .before .before .before .loop in
-    far-missing _ _ (c .before .before .before .before .before .loop-test .taken) (c .before .before .before .before .logged-at .ensures) (c .before .before .before .logged-at2 .ensures) (c .before .before .find-link .ensures) (l .inv .2) (c .enum-told .given .1)
+    let loop-test = c .before .before .before .before .before .loop-test in
+    let logged-at = c .before .before .before .before .logged-at in let logged-at2 = c .before .before .before .logged-at2 in
+    far-missing _ _ (loop-test .taken) (logged-at .ensures) (logged-at2 .ensures) (c .before .before .find-link .ensures) (l .inv .2) (c .enum-told .given .1)
 
 write-entry-requires : tie.Need-write-entry-requires Inv-loop μ-loop
 write-entry-requires c κs =

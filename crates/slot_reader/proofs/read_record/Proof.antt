@@ -55,15 +55,26 @@ is-record-requires c κs = search needs
 
 returns-3 : tie.Need-returns-3
 returns-3 c =
-    let z = c .before .before .before .before .before .before .before .before .before .before .get .result in is-whole _ (c .before .before .before .before .before .before .before .before .before .before .before .before .pre) {m = (11 + (z - 1)) - 11} (c .before .before .before .before .before .before .before .before .before .before .get .ensures .0) (c .before .before .before .before .before .before .before .before .before .if1 .left) (c .before .before .before .before .before .before .before .get2 .ensures .0) (c .before .before .before .before .before .is-input .ensures) (omega arith) {j = (11 + (z - 1)) - 11} (c .before .before .before .get3 .ensures .0) (c .before .is-record .ensures) (omega arith) (c .before .before .before .before .if3 .taken) (c .if4 .taken) (c .before .before .before .before .before .before .before .before .if2 .left) (c .before .before .before .get3 .ensures .1)
+    let pre = c .before .before .before .before .before .before .before .before .before .before .before .before .pre in
+    let get = c .before .before .before .before .before .before .before .before .before .before .get in
+    let if1 = c .before .before .before .before .before .before .before .before .before .if1 in let if2 = c .before .before .before .before .before .before .before .before .if2 in
+    let get2 = c .before .before .before .before .before .before .before .get2 in let is-input = c .before .before .before .before .before .is-input in
+    let if3 = c .before .before .before .before .if3 in let get3 = c .before .before .before .get3 in
+    let z = get .result in is-whole _ pre {m = (11 + (z - 1)) - 11} (get .ensures .0) (if1 .left) (get2 .ensures .0) (is-input .ensures) (omega arith) {j = (11 + (z - 1)) - 11} (get3 .ensures .0) (c .before .is-record .ensures) (omega arith) (if3 .taken) (c .if4 .taken) (if2 .left) (get3 .ensures .1)
 
 returns-4 : tie.Need-returns-4
 returns-4 c =
-    let z = c .before .before .before .before .before .before .before .before .before .before .get .result in not-same _ (c .before .before .before .before .before .before .before .before .before .before .before .before .pre) {m = (11 + (z - 1)) - 11} (c .before .before .before .before .before .before .before .before .before .before .get .ensures .0) (c .before .before .before .before .before .before .before .before .before .if1 .left) (c .before .before .before .before .before .before .before .get2 .ensures .0) (c .before .before .before .before .before .is-input .ensures) (omega arith) {j = (11 + (z - 1)) - 11} (c .before .before .before .get3 .ensures .0) (c .before .is-record .ensures) (omega arith) (c .before .before .before .before .if3 .taken) (c .if4 .left)
+    let pre = c .before .before .before .before .before .before .before .before .before .before .before .before .pre in
+    let get = c .before .before .before .before .before .before .before .before .before .before .get in
+    let if1 = c .before .before .before .before .before .before .before .before .before .if1 in let get2 = c .before .before .before .before .before .before .before .get2 in
+    let is-input = c .before .before .before .before .before .is-input in let if3 = c .before .before .before .before .if3 in let get3 = c .before .before .before .get3 in
+    let z = get .result in not-same _ pre {m = (11 + (z - 1)) - 11} (get .ensures .0) (if1 .left) (get2 .ensures .0) (is-input .ensures) (omega arith) {j = (11 + (z - 1)) - 11} (get3 .ensures .0) (c .before .is-record .ensures) (omega arith) (if3 .taken) (c .if4 .left)
 
 returns-5 : tie.Need-returns-5
 returns-5 c =
-    let z = c .before .before .before .before .before .before .get .result in no-input _ (c .before .before .before .before .before .before .before .before .pre) {m = (11 + (z - 1)) - 11} (c .before .before .before .before .before .before .get .ensures .0) (c .before .before .before .before .before .if1 .left) (c .before .before .before .get2 .ensures .0) (c .before .is-input .ensures) (omega arith) (c .if3 .left)
+    let pre = c .before .before .before .before .before .before .before .before .pre in let get = c .before .before .before .before .before .before .get in
+    let if1 = c .before .before .before .before .before .if1 in let get2 = c .before .before .before .get2 in
+    let z = get .result in no-input _ pre {m = (11 + (z - 1)) - 11} (get .ensures .0) (if1 .left) (get2 .ensures .0) (c .before .is-input .ensures) (omega arith) (c .if3 .left)
 
 pub read-record-spec : {M : Type 1} → statement M
 read-record-spec =

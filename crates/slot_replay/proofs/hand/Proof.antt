@@ -15,7 +15,10 @@ same-length-2 c = search needs
 
 returns : tie.Need-returns
 returns c =
-    let a = c .before .before .before .before .before .before .before .before .before .before .before .args in hands-tick (a .kind) (a .input .now) (a .store .now) (a .out .now) (c .before .before .before .before .before .before .before .before .before .slice-known .given) (c .before .before .before .before .before .before .before .if1 .taken) (c .before .before .before .before .station-tick .ensures)
+    let args = c .before .before .before .before .before .before .before .before .before .before .before .args in
+    let slice-known = c .before .before .before .before .before .before .before .before .before .slice-known in
+    let if1 = c .before .before .before .before .before .before .before .if1 in let station-tick = c .before .before .before .before .station-tick in
+    hands-tick (args .kind) (args .input .now) (args .store .now) (args .out .now) (slice-known .given) (if1 .taken) (station-tick .ensures)
 
 station-offer-requires : tie.Need-station-offer-requires
 station-offer-requires c κs = search needs
@@ -28,7 +31,11 @@ same-length-4 c = search needs
 
 returns-2 : tie.Need-returns-2
 returns-2 c =
-    let a = c .before .before .before .before .before .before .before .before .before .before .before .before .args in hands-offer (a .kind) (a .input .now) (a .store .now) (a .out .now) (c .before .before .before .before .before .before .before .before .before .before .slice-known .given) (c .before .before .before .before .before .before .before .before .if1 .left) (c .before .before .before .before .before .before .before .if2 .taken) (c .before .before .before .before .station-offer .ensures)
+    let args = c .before .before .before .before .before .before .before .before .before .before .before .before .args in
+    let slice-known = c .before .before .before .before .before .before .before .before .before .before .slice-known in
+    let if1 = c .before .before .before .before .before .before .before .before .if1 in let if2 = c .before .before .before .before .before .before .before .if2 in
+    let station-offer = c .before .before .before .before .station-offer in
+    hands-offer (args .kind) (args .input .now) (args .store .now) (args .out .now) (slice-known .given) (if1 .left) (if2 .taken) (station-offer .ensures)
 
 station-step-requires : tie.Need-station-step-requires
 station-step-requires c κs = search needs
@@ -41,7 +48,11 @@ same-length-6 c = search needs
 
 returns-3 : tie.Need-returns-3
 returns-3 c =
-    let a = c .before .before .before .before .before .before .before .before .before .before .before .before .args in hands-step (a .kind) (a .input .now) (a .store .now) (a .out .now) (c .before .before .before .before .before .before .before .before .before .before .slice-known .given) (c .before .before .before .before .before .before .before .before .if1 .left) (c .before .before .before .before .before .before .before .if2 .left) (c .before .before .before .before .station-step .ensures)
+    let args = c .before .before .before .before .before .before .before .before .before .before .before .before .args in
+    let slice-known = c .before .before .before .before .before .before .before .before .before .before .slice-known in
+    let if1 = c .before .before .before .before .before .before .before .before .if1 in let if2 = c .before .before .before .before .before .before .before .if2 in
+    let station-step = c .before .before .before .before .station-step in
+    hands-step (args .kind) (args .input .now) (args .store .now) (args .out .now) (slice-known .given) (if1 .left) (if2 .left) (station-step .ensures)
 
 pub hand-spec : {M : Type 1} → statement M
 hand-spec =

@@ -76,17 +76,19 @@ loop-less c = search needs
 
 loop-again : tie.Need-loop-again Inv-loop μ-loop
 loop-again c =
-    let a = c .before .before .before .before .before .before .before .before .before .before .before .before .before .args in
+    let start = c .before .before .before .before .before .before .before .before .before .before .before .before .before in let a = start .args in let pre = start .pre in
     let l = c .before .before .before .before .before .before .before .before .loop in
+    let loop-test = c .before .before .before .before .before .before .before .loop-test in
+    let judge-at = c .before .before .before .before .before .before .judge-at in let enum-told2 = c .before .before .before .before .enum-told2 in let put = c .before .before .put in
     let j = a .journal .now in
-    let s = c .before .before .before .before .before .before .judge-at .ensures .is in (
+    let s = judge-at .ensures .is in (
       omega arith,
       omega arith,
       omega arith,
       l .inv .3,
       l .inv .4,
-      omega (arith, c .before .before .put .kept .0, l .inv .5),
-      at-torn j _ (l .records) (l .place) (length j / 128) (l .torn) (l .store) (l .out) (l .report) (l .inv .6) (c .before .before .before .before .before .before .before .loop-test .taken) _ s (c .before .before .before .before .enum-told2 .given .1) (omega (arith, slot-count j, c .before .before .before .before .before .before .before .before .before .before .before .before .before .pre .0, c .before .before .before .before .before .before .before .loop-test .taken)) (c .before .before .put .ensures),
+      omega (arith, put .kept .0, l .inv .5),
+      at-torn j _ (l .records) (l .place) (length j / 128) (l .torn) (l .store) (l .out) (l .report) (l .inv .6) (loop-test .taken) _ s (enum-told2 .given .1) (omega (arith, slot-count j, pre .0, loop-test .taken)) (put .ensures),
     )
 
 enum-told-3 : tie.Need-enum-told-3 Inv-loop μ-loop
@@ -166,29 +168,37 @@ loop-less-2 c = search needs
 
 -- the slot was judged, and its input lies in it
 slot : (c : tie.After-is-taken Inv-loop μ-loop)
-    → slotOf (slotAt (c .before .before .before .before .before .before .before .before .before .before .before .before .before .before .before .before .before .before .before .before .args .journal .now) (c .before .before .before .before .before .before .before .before .before .before .before .before .before .before .before .loop .place)) (c .before .before .before .before .before .before .before .before .before .before .before .before .before .judge-at .result) ≡ judged (slotAt (c .before .before .before .before .before .before .before .before .before .before .before .before .before .before .before .before .before .before .before .before .args .journal .now) (c .before .before .before .before .before .before .before .before .before .before .before .before .before .before .before .loop .place))
+    → let s = slotAt (c .before .before .before .before .before .before .before .before .before .before .before .before .before .before .before .before .before .before .before .before .args .journal .now) (c .before .before .before .before .before .before .before .before .before .before .before .before .before .before .before .loop .place) in
+    slotOf s (c .before .before .before .before .before .before .before .before .before .before .before .before .before .judge-at .result) ≡ judged s
 slot c = c .before .before .before .before .before .before .before .before .before .before .before .before .before .judge-at .ensures .is
 
 input : (c : tie.After-is-taken Inv-loop μ-loop)
-    → take (c .before .before .before .before .before .before .before .before .before .before .before .sequence .given .0 .1 .1 .0) (drop inputPlace (slotAt (c .before .before .before .before .before .before .before .before .before .before .before .before .before .before .before .before .before .before .before .before .args .journal .now) (c .before .before .before .before .before .before .before .before .before .before .before .before .before .before .before .loop .place)))
-    ≡ take ((c .before .before .before .before .before .before .before .before .before .before .before .before .before .before .before .loop .place * 128 + 11 + c .before .before .before .before .before .before .before .before .before .before .before .sequence .given .0 .1 .1 .0) - (c .before .before .before .before .before .before .before .before .before .before .before .before .before .before .before .loop .place * 128 + 11)) (drop (c .before .before .before .before .before .before .before .before .before .before .before .before .before .before .before .loop .place * slotLength + inputPlace) (c .before .before .before .before .before .before .before .before .before .before .before .before .before .before .before .before .before .before .before .before .args .journal .now))
-input c =
+    → let j = c .before .before .before .before .before .before .before .before .before .before .before .before .before .before .before .before .before .before .before .before .args .journal .now in
     let p = c .before .before .before .before .before .before .before .before .before .before .before .before .before .before .before .loop .place in
     let m = c .before .before .before .before .before .before .before .before .before .before .before .sequence .given .0 .1 .1 .0 in
-    input-part (c .before .before .before .before .before .before .before .before .before .before .before .before .before .before .before .before .before .before .before .before .args .journal .now) p m ((p * 128 + 11 + m) - (p * 128 + 11)) (whole-within (c .before .before .before .before .before .before .before .before .before .before .before .before .before .judge-at .ensures .within) (c .before .before .before .before .before .before .before .before .before .before .before .sequence .given .1)) (omega arith)
+    take m (drop inputPlace (slotAt j p)) ≡ take ((p * 128 + 11 + m) - (p * 128 + 11)) (drop (p * slotLength + inputPlace) j)
+input c =
+    let j = c .before .before .before .before .before .before .before .before .before .before .before .before .before .before .before .before .before .before .before .before .args .journal .now in
+    let p = c .before .before .before .before .before .before .before .before .before .before .before .before .before .before .before .loop .place in
+    let judge-at = c .before .before .before .before .before .before .before .before .before .before .before .before .before .judge-at in let sequence = c .before .before .before .before .before .before .before .before .before .before .before .sequence in
+    let m = sequence .given .0 .1 .1 .0 in
+    input-part j p m ((p * 128 + 11 + m) - (p * 128 + 11)) (whole-within (judge-at .ensures .within) (sequence .given .1)) (omega arith)
 
 loop-again-2 : tie.Need-loop-again-2 Inv-loop μ-loop
 loop-again-2 c =
     let a = c .before .before .before .before .before .before .before .before .before .before .before .before .before .before .before .before .before .before .before .before .before .args in
     let l = c .before .before .before .before .before .before .before .before .before .before .before .before .before .before .before .before .loop in
+    let loop-test = c .before .before .before .before .before .before .before .before .before .before .before .before .before .before .before .loop-test in
+    let sequence = c .before .before .before .before .before .before .before .before .before .before .before .before .sequence in
+    let if1 = c .before .before .before .before .before .before .before .before .before .before .if1 in let hand = c .before .before .before .before .before .before .hand in
     let j = a .journal .now in (
       omega arith,
       omega arith,
       omega arith,
-      omega (arith, c .before .before .before .before .before .before .hand .kept .1 .1 .0, l .inv .3),
-      omega (arith, c .before .before .before .before .before .before .hand .kept .1 .1 .1 .0, l .inv .4),
+      omega (arith, hand .kept .1 .1 .0, l .inv .3),
+      omega (arith, hand .kept .1 .1 .1 .0, l .inv .4),
       l .inv .5,
-      at-taken j _ (l .records) (l .place) (length j / 128) (l .torn) (l .store) (l .out) (l .report) (l .inv .6) (c .before .before .before .before .before .before .before .before .before .before .before .before .before .before .before .loop-test .taken) _ (slot (c .before)) (c .before .before .before .before .before .before .before .before .before .before .before .before .sequence .given .1) (c .before .before .before .before .before .before .hand .ensures) (c .before .before .before .before .before .before .before .before .before .before .if1 .left) (input (c .before)) (c .before .is-taken .ensures) (c .if2 .taken),
+      at-taken j _ (l .records) (l .place) (length j / 128) (l .torn) (l .store) (l .out) (l .report) (l .inv .6) (loop-test .taken) _ (slot (c .before)) (sequence .given .1) (hand .ensures) (if1 .left) (input (c .before)) (c .before .is-taken .ensures) (c .if2 .taken),
     )
 
 same-length-10 : tie.Need-same-length-10 Inv-loop μ-loop
@@ -204,8 +214,13 @@ returns-4 : tie.Need-returns-4 Inv-loop μ-loop
 returns-4 c =
     let a = c .before .before .before .before .before .before .before .before .before .before .before .before .before .before .before .before .before .before .before .before .before .args in
     let l = c .before .before .before .before .before .before .before .before .before .before .before .before .before .before .before .before .loop in
-    let j = a .journal .now in
-    record { is = at-untaken j _ (l .records) (l .place) (length j / 128) (l .torn) (l .store) (l .out) (l .report) (l .inv .6) (c .before .before .before .before .before .before .before .before .before .before .before .before .before .before .before .loop-test .taken) _ (slot (c .before)) (c .before .before .before .before .before .before .before .before .before .before .before .before .sequence .given .1) (c .before .before .before .before .before .before .hand .ensures) (c .before .before .before .before .before .before .before .before .before .before .if1 .left) (input (c .before)) (c .before .is-taken .ensures) (c .if2 .left); bounded = record { records = l .inv .1; torn = l .inv .2; place = omega (arith, slot-count j, l .inv .0) } }
+    let loop-test = c .before .before .before .before .before .before .before .before .before .before .before .before .before .before .before .loop-test in
+    let sequence = c .before .before .before .before .before .before .before .before .before .before .before .before .sequence in let if1 = c .before .before .before .before .before .before .before .before .before .before .if1 in
+    let hand = c .before .before .before .before .before .before .hand in let j = a .journal .now in
+    record {
+      is = at-untaken j _ (l .records) (l .place) (length j / 128) (l .torn) (l .store) (l .out) (l .report) (l .inv .6) (loop-test .taken) _ (slot (c .before)) (sequence .given .1) (hand .ensures) (if1 .left) (input (c .before)) (c .before .is-taken .ensures) (c .if2 .left);
+      bounded = record { records = l .inv .1; torn = l .inv .2; place = omega (arith, slot-count j, l .inv .0) };
+    }
 
 same-length-13 : tie.Need-same-length-13 Inv-loop μ-loop
 same-length-13 c = search needs

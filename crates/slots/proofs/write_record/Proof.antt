@@ -39,10 +39,15 @@ same-length c = search needs
 
 returns : tie.Need-returns
 returns c =
-    let a = c .before .before .before .before .before .before .before .before .before .before .before .before .before .before .before .before .before .before .before .before .before .before .before .before .before .before .before .before .before .before .args in
-    let p = c .before .before .before .before .before .before .before .before .before .before .before .before .before .before .before .before .before .before .before .before .before .before .before .before .before .before .before .before .before .before .pre in
+    let start = c .before .before .before .before .before .before .before .before .before .before .before .before .before .before .before .before .before .before .before .before .before .before .before .before .before .before .before .before .before .before in
+    let a = start .args in let p = start .pre in
+    let put = c .before .before .before .before .before .before .before .before .before .before .before .before .before .before .before .before .before .before .before .before .before .before .before .before .before .before .put in
+    let put2 = c .before .before .before .before .before .before .before .before .before .before .before .before .before .before .before .before .before .before .before .before .before .before .put2 in
+    let put3 = c .before .before .before .before .before .before .before .before .before .before .before .before .before .before .before .before .before .before .put3 in
+    let put4 = c .before .before .before .before .before .before .before .before .before .before .before .before .before .before .put4 in
+    let copy = c .before .before .before .before .before .before .before .before .before .before .copy in let clear = c .before .before .before .before .before .before .clear in
     record-wrote (a .slot .now) (a .sequence) (a .kind) (a .input .now) (p .0) (p .1) (p .2) (p .3)
-    (c .before .before .before .before .before .before .before .before .before .before .before .before .before .before .before .before .before .before .before .before .before .before .before .before .before .before .put .ensures) (c .before .before .before .before .before .before .before .before .before .before .before .before .before .before .before .before .before .before .before .before .before .before .put2 .ensures) (c .before .before .before .before .before .before .before .before .before .before .before .before .before .before .before .before .before .before .put3 .ensures) (c .before .before .before .before .before .before .before .before .before .before .before .before .before .before .put4 .ensures) (c .before .before .before .before .before .before .before .before .before .before .copy .ensures) (c .before .before .before .before .before .before .clear .ensures) (c .before .before .put5 .ensures)
+    (put .ensures) (put2 .ensures) (put3 .ensures) (put4 .ensures) (copy .ensures) (clear .ensures) (c .before .before .put5 .ensures)
 
 pub write-record-spec : {M : Type 1} → statement M
 write-record-spec =

@@ -1,40 +1,31 @@
+-- `stated::new_view_said` meets its contract. Assumes nothing.
 use Rattle.stated.proofs.Parts.{new-view-said}
 use Rattle.settings.specs.Made.{settingsOf}
 use borrow.Author.Needs.{needs}
 use Rattle.stated.proofs.new_view_said.Statement.{statement}
 use Rattle.stated.proofs.new_view_said.Tie as tie
-use Rattle.stated.proofs.new_view_said.Reads as reads
-use Rattle.stated.proofs.new_view_said.Lts as lts
-use Rattle.clauses.proofs.certificate_allowed.Reads as certificate-allowed-reads
-use Rattle.fields.proofs.all_zero.Reads as all-zero-reads
-use Rattle.fields.proofs.get.Reads as get-reads
 
--- src/statements.rt:51:35
 add-get : tie.Need-add-get
 add-get c = search needs
 
--- src/statements.rt:51:9
 get-requires : tie.Need-get-requires
 get-requires c κs = search needs
 
--- src/statements.rt:52:39
 add-all-zero : tie.Need-add-all-zero
 add-all-zero c = search needs
 
--- src/statements.rt:52:15
 all-zero-requires : tie.Need-all-zero-requires
 all-zero-requires c κs = search needs
 
--- src/statements.rt:53:11
 certificate-allowed-requires : tie.Need-certificate-allowed-requires
 certificate-allowed-requires c κs = search needs
 
--- src/statements.rt:40:1
 returns : tie.Need-returns
 returns c =
+    let shared-slice-known = c .before .before .before .shared-slice-known in
     let start = c .before .before .before .before in
     rw (c .certificate-allowed .ensures, c .before .all-zero .ensures)
-    (new-view-said (settingsOf (start .args .settings)) (start .args .store .now) (c .before .before .before .shared-slice-known .given) (start .args .at) _ _ _ _ (start .pre .1 .0) (start .pre .1 .1) (start .pre .1 .2) (c .before .before .get .ensures .0))
+    (new-view-said (settingsOf (start .args .settings)) (start .args .store .now) (shared-slice-known .given) (start .args .at) _ _ _ _ (start .pre .1 .0) (start .pre .1 .1) (start .pre .1 .2) (c .before .before .get .ensures .0))
 
 pub new-view-said-spec : {M : Type 1} → statement M
 new-view-said-spec =

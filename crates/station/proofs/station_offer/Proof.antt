@@ -31,7 +31,8 @@ same-length-2 c = search needs
 returns-2 : tie.Need-returns-2
 returns-2 c =
     let a = c .before .before .before .before .before .before .before .before .before .args in
-    barred-offer (a .name .now) (a .store .now) (a .out .now) (c .before .before .before .before .before .if1 .left) (c .before .before .before .before .before .before .before .before .slice-known .given) (c .before .before .barred .ensures) (c .before .if2 .taken) (c .refuse2 .ensures)
+    let slice-known = c .before .before .before .before .before .before .before .before .slice-known in let if1 = c .before .before .before .before .before .if1 in
+    barred-offer (a .name .now) (a .store .now) (a .out .now) (if1 .left) (slice-known .given) (c .before .before .barred .ensures) (c .before .if2 .taken) (c .refuse2 .ensures)
 
 get-name-requires : tie.Need-get-name-requires
 get-name-requires c κs = search needs
@@ -39,7 +40,9 @@ get-name-requires c κs = search needs
 offered-requires : tie.Need-offered-requires
 offered-requires c κs =
     let a = c .before .before .before .before .before .before .before .before .before .before .args in
-    offer-formed (a .name .now) (a .store .now) (a .out .now) (c .before .before .before .before .before .before .if1 .left) (c .before .before .before .before .before .before .before .before .before .slice-known .given) (c .before .before .before .barred .ensures) (c .before .before .if2 .left)
+    let slice-known = c .before .before .before .before .before .before .before .before .before .slice-known in let if1 = c .before .before .before .before .before .before .if1 in
+    let barred = c .before .before .before .barred in
+    offer-formed (a .name .now) (a .store .now) (a .out .now) (if1 .left) (slice-known .given) (barred .ensures) (c .before .before .if2 .left)
 
 enum-known-x : tie.Need-enum-known-x
 enum-known-x c = search needs
@@ -59,17 +62,26 @@ same-length-4 c = search needs
 returns-3 : tie.Need-returns-3
 returns-3 c =
     let a = c .before .before .before .before .before .before .before .before .before .before .before .before .before .before .args in
-    refused-offer (a .name .now) (a .store .now) (a .out .now) (c .before .before .before .before .before .before .before .before .before .before .if1 .left) (c .before .before .before .before .before .before .before .before .before .before .before .before .before .slice-known .given) (c .before .before .before .before .before .before .before .barred .ensures) (c .before .before .before .before .before .before .if2 .left) (c .before .before .before .before .get-name .ensures .0) (c .before .before .before .offered .result) (c .before .before .before .offered .ensures) (c .before .enum-told .given .1) (c .refuse3 .ensures)
+    let slice-known = c .before .before .before .before .before .before .before .before .before .before .before .before .before .slice-known in
+    let if1 = c .before .before .before .before .before .before .before .before .before .before .if1 in
+    let barred = c .before .before .before .before .before .before .before .barred in let if2 = c .before .before .before .before .before .before .if2 in
+    let get-name = c .before .before .before .before .get-name in let offered = c .before .before .before .offered in
+    refused-offer (a .name .now) (a .store .now) (a .out .now) (if1 .left) (slice-known .given) (barred .ensures) (if2 .left) (get-name .ensures .0) (offered .result) (offered .ensures) (c .before .enum-told .given .1) (c .refuse3 .ensures)
 
 stated-requires : tie.Need-stated-requires
 stated-requires c κs =
     let a = c .before .before .before .before .before .before .before .before .before .before .before .before .before .before .before .before .args in
-    let l = c .before .before .before .before .before .before .before .before .before .before .before .before .if1 .left in
-    let k = c .before .before .before .before .before .before .before .before .before .before .before .before .before .before .before .slice-known .given in
-    let e = c .before .before .before .before .before .before .before .before .before .barred .ensures in
-    let z = c .before .before .before .before .before .before .before .before .if2 .left in
-    let n = c .before .before .before .before .before .before .get-name .ensures in
-    (offer-formed (a .name .now) (a .store .now) (a .out .now) l k e z, taken-sendable (a .name .now) (a .store .now) (a .out .now) l k e z (n .0) (c .before .before .before .before .before .offered .result) (c .before .before .before .before .before .offered .ensures) (c .before .before .before .x .given .1) (n .1), offer-out (a .name .now) (a .store .now) (a .out .now) l k e z)
+    let slice-known = c .before .before .before .before .before .before .before .before .before .before .before .before .before .before .before .slice-known in
+    let if1 = c .before .before .before .before .before .before .before .before .before .before .before .before .if1 in
+    let barred = c .before .before .before .before .before .before .before .before .before .barred in
+    let if2 = c .before .before .before .before .before .before .before .before .if2 in let get-name = c .before .before .before .before .before .before .get-name in
+    let offered = c .before .before .before .before .before .offered in let x = c .before .before .before .x in
+    let l = if1 .left in
+    let k = slice-known .given in
+    let e = barred .ensures in
+    let z = if2 .left in
+    let n = get-name .ensures in
+    (offer-formed (a .name .now) (a .store .now) (a .out .now) l k e z, taken-sendable (a .name .now) (a .store .now) (a .out .now) l k e z (n .0) (offered .result) (offered .ensures) (x .given .1) (n .1), offer-out (a .name .now) (a .store .now) (a .out .now) l k e z)
 
 same-length-5 : tie.Need-same-length-5
 same-length-5 c = search needs
@@ -80,7 +92,14 @@ same-length-6 c = search needs
 returns-4 : tie.Need-returns-4
 returns-4 c =
     let a = c .before .before .before .before .before .before .before .before .before .before .before .before .before .before .before .before .before .before .before .before .before .args in
-    taken-offer (a .name .now) (a .store .now) (a .out .now) (c .before .before .before .before .before .before .before .before .before .before .before .before .before .before .before .before .before .if1 .left) (c .before .before .before .before .before .before .before .before .before .before .before .before .before .before .before .before .before .before .before .before .slice-known .given) (c .before .before .before .before .before .before .before .before .before .before .before .before .before .before .barred .ensures) (c .before .before .before .before .before .before .before .before .before .before .before .before .before .if2 .left) (c .before .before .before .before .before .before .before .before .before .before .before .get-name .ensures .0) (c .before .before .before .before .before .before .before .before .before .before .offered .result) (c .before .before .before .before .before .before .before .before .before .before .offered .ensures) (c .before .before .before .before .before .before .before .before .x .given .1) (c .before .before .before .before .stated .ensures)
+    let slice-known = c .before .before .before .before .before .before .before .before .before .before .before .before .before .before .before .before .before .before .before .before .slice-known in
+    let if1 = c .before .before .before .before .before .before .before .before .before .before .before .before .before .before .before .before .before .if1 in
+    let barred = c .before .before .before .before .before .before .before .before .before .before .before .before .before .before .barred in
+    let if2 = c .before .before .before .before .before .before .before .before .before .before .before .before .before .if2 in
+    let get-name = c .before .before .before .before .before .before .before .before .before .before .before .get-name in
+    let offered = c .before .before .before .before .before .before .before .before .before .before .offered in
+    let x = c .before .before .before .before .before .before .before .before .x in let stated = c .before .before .before .before .stated in
+    taken-offer (a .name .now) (a .store .now) (a .out .now) (if1 .left) (slice-known .given) (barred .ensures) (if2 .left) (get-name .ensures .0) (offered .result) (offered .ensures) (x .given .1) (stated .ensures)
 
 pub station-offer-spec : {M : Type 1} → statement M
 station-offer-spec =

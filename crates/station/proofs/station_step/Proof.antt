@@ -46,12 +46,17 @@ same-length-4 c = search needs
 returns-2 : tie.Need-returns-2
 returns-2 c =
     let a = c .before .before .before .before .before .before .before .before .before .before .before .args in
-    unreadable-step (a .message .now) (a .store .now) (a .out .now) (c .before .before .before .before .before .before .before .before .before .before .slice-known .given) (c .before .before .before .before .before .barred .ensures) (c .before .before .before .before .if1 .left) (c .before .before .before .read-message .ensures) (c .before .enum-told .given .1) (c .refuse2 .ensures)
+    let slice-known = c .before .before .before .before .before .before .before .before .before .before .slice-known in
+    let barred = c .before .before .before .before .before .barred in let if1 = c .before .before .before .before .if1 in
+    let read-message = c .before .before .before .read-message in
+    unreadable-step (a .message .now) (a .store .now) (a .out .now) (slice-known .given) (barred .ensures) (if1 .left) (read-message .ensures) (c .before .enum-told .given .1) (c .refuse2 .ensures)
 
 load-requires : tie.Need-load-requires
 load-requires c κs =
     let a = c .before .before .before .before .before .before .before .before .before .before .before .before .args in
-    step-long (a .message .now) (a .store .now) (a .out .now) (c .before .before .before .before .before .before .before .before .before .before .before .slice-known .given) (c .before .before .before .before .before .before .barred .ensures) (c .before .before .before .before .before .if1 .left)
+    let slice-known = c .before .before .before .before .before .before .before .before .before .before .before .slice-known in
+    let barred = c .before .before .before .before .before .before .barred in let if1 = c .before .before .before .before .before .if1 in
+    step-long (a .message .now) (a .store .now) (a .out .now) (slice-known .given) (barred .ensures) (if1 .left)
 
 message-allowed-requires : tie.Need-message-allowed-requires
 message-allowed-requires c κs = search needs
@@ -68,7 +73,12 @@ same-length-6 c = search needs
 returns-3 : tie.Need-returns-3
 returns-3 c =
     let a = c .before .before .before .before .before .before .before .before .before .before .before .before .before .before .before .before .args in
-    forbidden-step (a .message .now) (a .store .now) (a .out .now) (c .before .before .before .before .before .before .before .before .before .before .before .before .before .before .before .slice-known .given) (c .before .before .before .before .before .before .before .before .before .before .barred .ensures) (c .before .before .before .before .before .before .before .before .before .if1 .left) (c .before .before .before .before .before .before .before .before .read-message .ensures) (c .before .before .before .before .before .before .m .given .1) (c .before .before .before .load .result) (c .before .before .before .load .ensures) (c .before .before .message-allowed .ensures) (c .before .if2 .taken) (c .refuse3 .ensures)
+    let slice-known = c .before .before .before .before .before .before .before .before .before .before .before .before .before .before .before .slice-known in
+    let barred = c .before .before .before .before .before .before .before .before .before .before .barred in
+    let if1 = c .before .before .before .before .before .before .before .before .before .if1 in
+    let read-message = c .before .before .before .before .before .before .before .before .read-message in let m = c .before .before .before .before .before .before .m in
+    let load = c .before .before .before .load in
+    forbidden-step (a .message .now) (a .store .now) (a .out .now) (slice-known .given) (barred .ensures) (if1 .left) (read-message .ensures) (m .given .1) (load .result) (load .ensures) (c .before .before .message-allowed .ensures) (c .before .if2 .taken) (c .refuse3 .ensures)
 
 is-ahead-requires : tie.Need-is-ahead-requires
 is-ahead-requires c κs = search needs
@@ -85,15 +95,28 @@ same-length-8 c = search needs
 returns-4 : tie.Need-returns-4
 returns-4 c =
     let a = c .before .before .before .before .before .before .before .before .before .before .before .before .before .before .before .before .before .before .args in
-    ahead-step (a .message .now) (a .store .now) (a .out .now) (c .before .before .before .before .before .before .before .before .before .before .before .before .before .before .before .before .before .slice-known .given) (c .before .before .before .before .before .before .before .before .before .before .before .before .barred .ensures) (c .before .before .before .before .before .before .before .before .before .before .before .if1 .left) (c .before .before .before .before .before .before .before .before .before .before .read-message .ensures) (c .before .before .before .before .before .before .before .before .m .given .1) (c .before .before .before .before .before .load .result) (c .before .before .before .before .before .load .ensures) (c .before .before .before .before .message-allowed .ensures) (c .before .before .before .if2 .left) (c .before .before .is-ahead .ensures) (c .before .if3 .taken) (c .refuse4 .ensures)
+    let slice-known = c .before .before .before .before .before .before .before .before .before .before .before .before .before .before .before .before .before .slice-known in
+    let barred = c .before .before .before .before .before .before .before .before .before .before .before .before .barred in
+    let if1 = c .before .before .before .before .before .before .before .before .before .before .before .if1 in
+    let read-message = c .before .before .before .before .before .before .before .before .before .before .read-message in
+    let m = c .before .before .before .before .before .before .before .before .m in let load = c .before .before .before .before .before .load in
+    let message-allowed = c .before .before .before .before .message-allowed in let if2 = c .before .before .before .if2 in
+    ahead-step (a .message .now) (a .store .now) (a .out .now) (slice-known .given) (barred .ensures) (if1 .left) (read-message .ensures) (m .given .1) (load .result) (load .ensures) (message-allowed .ensures) (if2 .left) (c .before .before .is-ahead .ensures) (c .before .if3 .taken) (c .refuse4 .ensures)
 
 handled-requires : tie.Need-handled-requires
 handled-requires c κs =
     let a = c .before .before .before .before .before .before .before .before .before .before .before .before .before .before .before .before .before .before .before .args in
-    let k = c .before .before .before .before .before .before .before .before .before .before .before .before .before .before .before .before .before .before .slice-known .given in
-    let e = c .before .before .before .before .before .before .before .before .before .before .before .before .before .barred .ensures in
-    let z = c .before .before .before .before .before .before .before .before .before .before .before .before .if1 .left in
-    (step-formed (a .message .now) (a .store .now) (a .out .now) k e z, read-may (a .message .now) (a .store .now) (a .out .now) k e z (c .before .before .before .before .before .before .before .before .before .before .before .read-message .ensures) (c .before .before .before .before .before .before .before .before .before .m .given .1) (c .before .before .before .before .before .before .load .result) (c .before .before .before .before .before .before .load .ensures) (c .before .before .before .before .before .message-allowed .ensures) (c .before .before .before .before .if2 .left) (c .before .before .before .before .before .before .before .before .before .before .before .before .before .before .before .before .before .shared-slice-known .given), step-out (a .message .now) (a .store .now) (a .out .now) k e z)
+    let slice-known = c .before .before .before .before .before .before .before .before .before .before .before .before .before .before .before .before .before .before .slice-known in
+    let shared-slice-known = c .before .before .before .before .before .before .before .before .before .before .before .before .before .before .before .before .before .shared-slice-known in
+    let barred = c .before .before .before .before .before .before .before .before .before .before .before .before .before .barred in
+    let if1 = c .before .before .before .before .before .before .before .before .before .before .before .before .if1 in
+    let read-message = c .before .before .before .before .before .before .before .before .before .before .before .read-message in
+    let m = c .before .before .before .before .before .before .before .before .before .m in let load = c .before .before .before .before .before .before .load in
+    let message-allowed = c .before .before .before .before .before .message-allowed in let if2 = c .before .before .before .before .if2 in
+    let k = slice-known .given in
+    let e = barred .ensures in
+    let z = if1 .left in
+    (step-formed (a .message .now) (a .store .now) (a .out .now) k e z, read-may (a .message .now) (a .store .now) (a .out .now) k e z (read-message .ensures) (m .given .1) (load .result) (load .ensures) (message-allowed .ensures) (if2 .left) (shared-slice-known .given), step-out (a .message .now) (a .store .now) (a .out .now) k e z)
 
 same-length-9 : tie.Need-same-length-9
 same-length-9 c = search needs
@@ -104,7 +127,17 @@ same-length-10 c = search needs
 returns-5 : tie.Need-returns-5
 returns-5 c =
     let a = c .before .before .before .before .before .before .before .before .before .before .before .before .before .before .before .before .before .before .before .before .before .before .before .before .args in
-    handled-step (a .message .now) (a .store .now) (a .out .now) (c .before .before .before .before .before .before .before .before .before .before .before .before .before .before .before .before .before .before .before .before .before .before .before .slice-known .given) (c .before .before .before .before .before .before .before .before .before .before .before .before .before .before .before .before .before .before .barred .ensures) (c .before .before .before .before .before .before .before .before .before .before .before .before .before .before .before .before .before .if1 .left) (c .before .before .before .before .before .before .before .before .before .before .before .before .before .before .before .before .read-message .ensures) (c .before .before .before .before .before .before .before .before .before .before .before .before .before .before .m .given .1) (c .before .before .before .before .before .before .before .before .before .before .before .load .result) (c .before .before .before .before .before .before .before .before .before .before .before .load .ensures) (c .before .before .before .before .before .before .before .before .before .before .message-allowed .ensures) (c .before .before .before .before .before .before .before .before .before .if2 .left) (c .before .before .before .before .before .before .before .before .is-ahead .ensures) (c .before .before .before .before .before .before .before .if3 .left) (c .before .before .before .before .handled .ensures)
+    let slice-known = c .before .before .before .before .before .before .before .before .before .before .before .before .before .before .before .before .before .before .before .before .before .before .before .slice-known in
+    let barred = c .before .before .before .before .before .before .before .before .before .before .before .before .before .before .before .before .before .before .barred in
+    let if1 = c .before .before .before .before .before .before .before .before .before .before .before .before .before .before .before .before .before .if1 in
+    let read-message = c .before .before .before .before .before .before .before .before .before .before .before .before .before .before .before .before .read-message in
+    let m = c .before .before .before .before .before .before .before .before .before .before .before .before .before .before .m in
+    let load = c .before .before .before .before .before .before .before .before .before .before .before .load in
+    let message-allowed = c .before .before .before .before .before .before .before .before .before .before .message-allowed in
+    let if2 = c .before .before .before .before .before .before .before .before .before .if2 in
+    let is-ahead = c .before .before .before .before .before .before .before .before .is-ahead in let if3 = c .before .before .before .before .before .before .before .if3 in
+    let handled = c .before .before .before .before .handled in
+    handled-step (a .message .now) (a .store .now) (a .out .now) (slice-known .given) (barred .ensures) (if1 .left) (read-message .ensures) (m .given .1) (load .result) (load .ensures) (message-allowed .ensures) (if2 .left) (is-ahead .ensures) (if3 .left) (handled .ensures)
 
 pub station-step-spec : {M : Type 1} → statement M
 station-step-spec =

@@ -39,7 +39,11 @@ same-length-4 c = search needs
 
 returns-2 : tie.Need-returns-2
 returns-2 c =
-    let a = c .before .before .before .before .before .before .before .before .before .before .before .before .before .before .before .args in tick-gives (a .store .now) (a .out .now) (c .before .before .before .before .before .before .before .before .before .checked .ensures .is) (c .before .before .before .before .before .before .before .before .before .before .before .before .before .before .slice-known .given) (c .before .before .before .before .before .before .before .before .if1 .left) (c .before .before .before .before .ticked .ensures)
+    let args = c .before .before .before .before .before .before .before .before .before .before .before .before .before .before .before .args in
+    let slice-known = c .before .before .before .before .before .before .before .before .before .before .before .before .before .before .slice-known in
+    let checked = c .before .before .before .before .before .before .before .before .before .checked in
+    let if1 = c .before .before .before .before .before .before .before .before .if1 in let ticked = c .before .before .before .before .ticked in
+    tick-gives (args .store .now) (args .out .now) (checked .ensures .is) (slice-known .given) (if1 .left) (ticked .ensures)
 
 pub station-tick-spec : {M : Type 1} → statement M
 station-tick-spec =

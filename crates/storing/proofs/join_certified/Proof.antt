@@ -26,8 +26,9 @@ same-length c = search needs
 returns : tie.Need-returns
 unfolding blockOf
 returns c =
+    let if1 = c .before .before .before .before .if1 in
     let start = c .before .before .before .before .before .before .before in
-    rw (certified-some (authorOf (start .args .voters)) (withVoters (votersOf (start .args .voters)) (blockOf (start .args .block))) (stateOf (start .args .store .now)) (c .before .before .before .before .if1 .taken)) (c .before .before .join-found .ensures .left)
+    rw (certified-some (authorOf (start .args .voters)) (withVoters (votersOf (start .args .voters)) (blockOf (start .args .block))) (stateOf (start .args .store .now)) (if1 .taken)) (c .before .before .join-found .ensures .left)
 
 returns-2 : tie.Need-returns-2
 unfolding blockOf

@@ -50,12 +50,13 @@ join-found-requires c κs =
 append-statement-requires : tie.Need-append-statement-requires
 unfolding blockOf
 append-statement-requires c κs =
-    let start = c .before .before .before .before .before .before .before .before .before .before .before .before in
-    let x = statementOf (start .args .x) none in
     let certificate = c .before .before .before .before .before .before .before .before .before .before .certificate-of in
+    let join-certified = c .before .before .before .before .before .before .before .before .join-certified in
     let block = c .before .before .before .before .own-block in
     let joined = c .before .before .before .join-found in
-    (joined .ensures .left .form, one-more-fits (start .args .store .now) x (start .pre .1) (blockOf (certificate .result)) (withVoters 0 (blockOf (block .result))) (certificate .ensures) (voter-block x 0 (block .ensures)) (start .pre .2) (c .before .before .before .before .before .before .before .before .join-certified .ensures) (joined .ensures))
+    let start = c .before .before .before .before .before .before .before .before .before .before .before .before in
+    let x = statementOf (start .args .x) none in
+    (joined .ensures .left .form, one-more-fits (start .args .store .now) x (start .pre .1) (blockOf (certificate .result)) (withVoters 0 (blockOf (block .result))) (certificate .ensures) (voter-block x 0 (block .ensures)) (start .pre .2) (join-certified .ensures) (joined .ensures))
 
 same-length : tie.Need-same-length
 same-length c = search needs
@@ -63,11 +64,13 @@ same-length c = search needs
 returns : tie.Need-returns
 unfolding blockOf
 returns c =
+    let certificate = c .before .before .before .before .before .before .before .before .before .before .before .before .before .certificate-of in
+    let join-certified = c .before .before .before .before .before .before .before .before .before .before .before .join-certified in
+    let block = c .before .before .before .before .before .before .before .own-block in
+    let join-found = c .before .before .before .before .before .before .join-found in
     let start = c .before .before .before .before .before .before .before .before .before .before .before .before .before .before .before in
     let x = statementOf (start .args .x) none in
-    let certificate = c .before .before .before .before .before .before .before .before .before .before .before .before .before .certificate-of in
-    let block = c .before .before .before .before .before .before .before .own-block in
-    new-stored (start .args .store .now) x (start .pre .1) (blockOf (certificate .result)) (withVoters 0 (blockOf (block .result))) (certificate .ensures) (voter-block x 0 (block .ensures)) (start .pre .2) (c .before .before .before .before .before .before .before .before .before .before .before .join-certified .ensures) (c .before .before .before .before .before .before .join-found .ensures) (c .before .before .append-statement .ensures)
+    new-stored (start .args .store .now) x (start .pre .1) (blockOf (certificate .result)) (withVoters 0 (blockOf (block .result))) (certificate .ensures) (voter-block x 0 (block .ensures)) (start .pre .2) (join-certified .ensures) (join-found .ensures) (c .before .before .append-statement .ensures)
 
 pub store-new-spec : {M : Type 1} → statement M
 store-new-spec =

@@ -33,24 +33,29 @@ same-length c = search needs
 
 returns : tie.Need-returns
 returns c =
-    let start = c .before .before .before .before .before .before .before .before in
     let load = c .before .before .before .before .before .load in
-    tallied-full (start .pre .0) (authorOf (start .args .voters)) (blockOf (start .args .block)) (votersOf (start .args .voters)) (start .args .place) (start .pre .1) _ (ap₂ _+_ (loaded-tallies (load .result) (start .args .store .now) (load .ensures)) (c .before .before .needed .ensures)) (omega (arith, c .if1 .taken, c .before .before .before .most-tallies-in .ensures))
+    let most-tallies-in = c .before .before .before .most-tallies-in in
+    let start = c .before .before .before .before .before .before .before .before in
+    tallied-full (start .pre .0) (authorOf (start .args .voters)) (blockOf (start .args .block)) (votersOf (start .args .voters)) (start .args .place) (start .pre .1) _ (ap₂ _+_ (loaded-tallies (load .result) (start .args .store .now) (load .ensures)) (c .before .before .needed .ensures)) (omega (arith, c .if1 .taken, most-tallies-in .ensures))
 
 join-certified-requires : tie.Need-join-certified-requires
 join-certified-requires c κs =
-    let start = c .before .before .before .before .before .before .before .before .before in
     let load = c .before .before .before .before .before .before .load in
-    (start .pre .0, tallied-fits (start .pre .0) (authorOf (start .args .voters)) (blockOf (start .args .block)) (votersOf (start .args .voters)) (start .args .place) (start .pre .1) _ (ap₂ _+_ (loaded-tallies (load .result) (start .args .store .now) (load .ensures)) (c .before .before .before .needed .ensures)) (omega (arith, c .before .if1 .left, c .before .before .before .before .most-tallies-in .ensures)), start .pre .1, start .pre .2, start .pre .3)
+    let most-tallies-in = c .before .before .before .before .most-tallies-in in
+    let needed = c .before .before .before .needed in
+    let start = c .before .before .before .before .before .before .before .before .before in
+    (start .pre .0, tallied-fits (start .pre .0) (authorOf (start .args .voters)) (blockOf (start .args .block)) (votersOf (start .args .voters)) (start .args .place) (start .pre .1) _ (ap₂ _+_ (loaded-tallies (load .result) (start .args .store .now) (load .ensures)) (needed .ensures)) (omega (arith, c .before .if1 .left, most-tallies-in .ensures)), start .pre .1, start .pre .2, start .pre .3)
 
 same-length-2 : tie.Need-same-length-2
 same-length-2 c = search needs
 
 returns-2 : tie.Need-returns-2
 returns-2 c =
-    let start = c .before .before .before .before .before .before .before .before .before .before .before .before in
     let load = c .before .before .before .before .before .before .before .before .before .load in
-    tallied-done (start .pre .0) (authorOf (start .args .voters)) (blockOf (start .args .block)) (votersOf (start .args .voters)) (start .args .place) (start .pre .1) _ (ap₂ _+_ (loaded-tallies (load .result) (start .args .store .now) (load .ensures)) (c .before .before .before .before .before .before .needed .ensures)) (omega (arith, c .before .before .before .before .if1 .left, c .before .before .before .before .before .before .before .most-tallies-in .ensures)) (c .before .before .join-certified .ensures)
+    let most-tallies-in = c .before .before .before .before .before .before .before .most-tallies-in in let needed = c .before .before .before .before .before .before .needed in
+    let if1 = c .before .before .before .before .if1 in
+    let start = c .before .before .before .before .before .before .before .before .before .before .before .before in
+    tallied-done (start .pre .0) (authorOf (start .args .voters)) (blockOf (start .args .block)) (votersOf (start .args .voters)) (start .args .place) (start .pre .1) _ (ap₂ _+_ (loaded-tallies (load .result) (start .args .store .now) (load .ensures)) (needed .ensures)) (omega (arith, if1 .left, most-tallies-in .ensures)) (c .before .before .join-certified .ensures)
 
 pub tallied-spec : {M : Type 1} → statement M
 tallied-spec =

@@ -55,7 +55,8 @@ loop-less c =
 
 loop-again : tie.Need-loop-again Inv-loop μ-loop
 loop-again c =
-    (search needs, let r = c .before .before .before .before .word .ensures in omega (arith, r .low, r .high, c .before .before .before .if1 .left, word-after _ _ _ (c .before .before .before .before .before .loop .inv .0) r), λ ws l. passed-next (c .before .before .before .before .word .ensures) (c .before .before .before .before .before .loop .inv .2 ws l) (c .before .before .before .if1 .left) (sym (c .before .same .ensures) ∙ c .if2 .left))
+    let loop = c .before .before .before .before .before .loop in let word = c .before .before .before .before .word in let if1 = c .before .before .before .if1 in
+    (search needs, let r = word .ensures in omega (arith, r .low, r .high, if1 .left, word-after _ _ _ (loop .inv .0) r), λ ws l. passed-next (word .ensures) (loop .inv .2 ws l) (if1 .left) (sym (c .before .same .ensures) ∙ c .if2 .left))
 
 pub which-spec : {M : Type 1} → statement M
 which-spec =

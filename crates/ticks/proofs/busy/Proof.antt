@@ -30,8 +30,10 @@ same-length c = search needs
 
 returns : tie.Need-returns
 returns c =
-    let p = c .before .before .before .before .before .before .before .before .before .before .before .before .before .pre .0 in
-    splits-tick (p .formed) (p .runs) (c .before .before .before .before .before .before .before .before .before .before .before .before .before .args .station) (p .loaded) (p .ahead) (rw (c .before .before .before .before .enum-told .given .1) at (c .before .before .before .before .before .before .before .commits .ensures)) (c .before .before .stop .ensures) (c .before .before .before .before .before .before .before .before .before .before .before .before .before .args .out .now)
+    let start = c .before .before .before .before .before .before .before .before .before .before .before .before .before in let args = start .args in let pre = start .pre in
+    let commits = c .before .before .before .before .before .before .before .commits in let enum-told = c .before .before .before .before .enum-told in
+    let p = pre .0 in
+    splits-tick (p .formed) (p .runs) (args .station) (p .loaded) (p .ahead) (rw (enum-told .given .1) at (commits .ensures)) (c .before .before .stop .ensures) (args .out .now)
 
 add-clock : tie.Need-add-clock
 add-clock c =
@@ -44,10 +46,13 @@ slice-aggregate-growing c = search needs
 
 growing-requires : tie.Need-growing-requires
 growing-requires c κs =
-    let p = c .before .before .before .before .before .before .before .before .before .before .before .before .before .before .before .pre .0 in
-    let station = c .before .before .before .before .before .before .before .before .before .before .before .before .before .before .before .args .station in
-    clears (p .formed) (p .runs) station (p .loaded) (p .ahead) (gained-by (c .before .before .before .before .before .before .before .before .before .commits .ensures) (c .before .before .before .before .before .before .merged .given .1)) (c .before .before .before .before .before .before .before .before .before .commits .kept .1 .1 .1 .1 .0)
-    (calm-room (p .formed) station (p .loaded) (p .runs) (p .ahead) (c .before .before .before .before .before .before .before .before .before .before .before .before .before .before .before .pre .3) (c .before .before .before .if1 .taken)) refl (p .space)
+    let start = c .before .before .before .before .before .before .before .before .before .before .before .before .before .before .before in let args = start .args in
+    let pre = start .pre in let commits = c .before .before .before .before .before .before .before .before .before .commits in
+    let merged = c .before .before .before .before .before .before .merged in let if1 = c .before .before .before .if1 in
+    let p = pre .0 in
+    let station = args .station in
+    clears (p .formed) (p .runs) station (p .loaded) (p .ahead) (gained-by (commits .ensures) (merged .given .1)) (commits .kept .1 .1 .1 .1 .0)
+    (calm-room (p .formed) station (p .loaded) (p .runs) (p .ahead) (pre .3) (if1 .taken)) refl (p .space)
 
 same-length-2 : tie.Need-same-length-2
 same-length-2 c = search needs
@@ -57,8 +62,13 @@ same-length-3 c = search needs
 
 returns-2 : tie.Need-returns-2
 returns-2 c =
-    let p = c .before .before .before .before .before .before .before .before .before .before .before .before .before .before .before .before .before .before .before .before .pre .0 in
-    grown-tick (p .formed) (c .before .before .before .before .before .before .before .before .before .before .before .before .before .before .before .before .before .before .before .before .args .station) (p .loaded) (p .runs) (p .ahead) (c .before .before .before .before .before .before .before .before .before .before .before .before .before .before .before .before .before .before .before .before .pre .3) (c .before .before .before .before .before .before .before .before .if1 .taken) (gained-by (c .before .before .before .before .before .before .before .before .before .before .before .before .before .before .commits .ensures) (c .before .before .before .before .before .before .before .before .before .before .before .merged .given .1)) (c .before .before .before .before .growing .ensures)
+    let start = c .before .before .before .before .before .before .before .before .before .before .before .before .before .before .before .before .before .before .before .before in
+    let args = start .args in let pre = start .pre in
+    let commits = c .before .before .before .before .before .before .before .before .before .before .before .before .before .before .commits in
+    let merged = c .before .before .before .before .before .before .before .before .before .before .before .merged in
+    let if1 = c .before .before .before .before .before .before .before .before .if1 in let growing = c .before .before .before .before .growing in
+    let p = pre .0 in
+    grown-tick (p .formed) (args .station) (p .loaded) (p .runs) (p .ahead) (pre .3) (if1 .taken) (gained-by (commits .ensures) (merged .given .1)) (growing .ensures)
 
 next-fits-requires : tie.Need-next-fits-requires
 next-fits-requires c κs = search needs
@@ -71,18 +81,27 @@ same-length-4 c = search needs
 
 returns-3 : tie.Need-returns-3
 returns-3 c =
-    let p = c .before .before .before .before .before .before .before .before .before .before .before .before .before .before .before .before .before .before .before .pre .0 in
-    full-tick (p .formed) (p .runs) (c .before .before .before .before .before .before .before .before .before .before .before .before .before .before .before .before .before .before .before .args .station) (p .loaded) (p .ahead) (gained-by (c .before .before .before .before .before .before .before .before .before .before .before .before .before .commits .ensures) (c .before .before .before .before .before .before .before .before .before .before .merged .given .1)) (c .before .before .before .before .before .next-fits .ensures) (c .before .before .before .before .if2 .taken) (c .before .before .stop2 .ensures) (c .before .before .before .before .before .before .before .before .before .before .before .before .before .before .before .before .before .before .before .args .out .now)
+    let start = c .before .before .before .before .before .before .before .before .before .before .before .before .before .before .before .before .before .before .before in
+    let args = start .args in let pre = start .pre in
+    let commits = c .before .before .before .before .before .before .before .before .before .before .before .before .before .commits in
+    let merged = c .before .before .before .before .before .before .before .before .before .before .merged in
+    let next-fits = c .before .before .before .before .before .next-fits in let if2 = c .before .before .before .before .if2 in
+    let p = pre .0 in
+    full-tick (p .formed) (p .runs) (args .station) (p .loaded) (p .ahead) (gained-by (commits .ensures) (merged .given .1)) (next-fits .ensures) (if2 .taken) (c .before .before .stop2 .ensures) (args .out .now)
 
 slice-aggregate-turning : tie.Need-slice-aggregate-turning
 slice-aggregate-turning c = search needs
 
 turning-requires : tie.Need-turning-requires
 turning-requires c κs =
-    let p = c .before .before .before .before .before .before .before .before .before .before .before .before .before .before .before .before .before .before .pre .0 in
-    let station = c .before .before .before .before .before .before .before .before .before .before .before .before .before .before .before .before .before .before .args .station in (
-      clears (p .formed) (p .runs) station (p .loaded) (p .ahead) (gained-by (c .before .before .before .before .before .before .before .before .before .before .before .before .commits .ensures) (c .before .before .before .before .before .before .before .before .before .merged .given .1)) (c .before .before .before .before .before .before .before .before .before .before .before .before .commits .kept .1 .1 .1 .1 .0) (c .before .before .before .before .next-fits .ensures) (not-false _ (c .before .before .before .if2 .left)) (p .space),
-      seen-votes _ _ station (p .loaded) (c .before .before .before .before .before .before .before .before .before .before .before .before .before .before .before .before .before .before .args .glance) (c .before .before .before .before .before .before .before .before .before .before .before .before .before .before .before .before .before .before .pre .2),
+    let start = c .before .before .before .before .before .before .before .before .before .before .before .before .before .before .before .before .before .before in
+    let args = start .args in let pre = start .pre in let commits = c .before .before .before .before .before .before .before .before .before .before .before .before .commits in
+    let merged = c .before .before .before .before .before .before .before .before .before .merged in let next-fits = c .before .before .before .before .next-fits in
+    let if2 = c .before .before .before .if2 in
+    let p = pre .0 in
+    let station = args .station in (
+      clears (p .formed) (p .runs) station (p .loaded) (p .ahead) (gained-by (commits .ensures) (merged .given .1)) (commits .kept .1 .1 .1 .1 .0) (next-fits .ensures) (not-false _ (if2 .left)) (p .space),
+      seen-votes _ _ station (p .loaded) (args .glance) (pre .2),
     )
 
 same-length-5 : tie.Need-same-length-5
@@ -93,8 +112,14 @@ same-length-6 c = search needs
 
 returns-4 : tie.Need-returns-4
 returns-4 c =
-    let p = c .before .before .before .before .before .before .before .before .before .before .before .before .before .before .before .before .before .before .before .before .before .before .before .pre .0 in
-    done-tick (p .formed) (p .runs) (c .before .before .before .before .before .before .before .before .before .before .before .before .before .before .before .before .before .before .before .before .before .before .before .args .station) (p .loaded) (p .ahead) (gained-by (c .before .before .before .before .before .before .before .before .before .before .before .before .before .before .before .before .before .commits .ensures) (c .before .before .before .before .before .before .before .before .before .before .before .before .before .before .merged .given .1)) (c .before .before .before .before .before .before .before .before .before .next-fits .ensures) (c .before .before .before .before .before .before .before .before .if2 .left) (c .before .before .before .before .turning .ensures)
+    let start = c .before .before .before .before .before .before .before .before .before .before .before .before .before .before .before .before .before .before .before .before .before .before .before in
+    let args = start .args in let pre = start .pre in
+    let commits = c .before .before .before .before .before .before .before .before .before .before .before .before .before .before .before .before .before .commits in
+    let merged = c .before .before .before .before .before .before .before .before .before .before .before .before .before .before .merged in
+    let next-fits = c .before .before .before .before .before .before .before .before .before .next-fits in
+    let if2 = c .before .before .before .before .before .before .before .before .if2 in let turning = c .before .before .before .before .turning in
+    let p = pre .0 in
+    done-tick (p .formed) (p .runs) (args .station) (p .loaded) (p .ahead) (gained-by (commits .ensures) (merged .given .1)) (next-fits .ensures) (if2 .left) (turning .ensures)
 
 pub busy-spec : {M : Type 1} → statement M
 busy-spec =

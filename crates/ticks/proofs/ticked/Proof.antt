@@ -27,7 +27,8 @@ same-length c = search needs
 
 returns : tie.Need-returns
 returns c =
-    stops-tick (c .before .before .before .before .before .before .before .before .pre .0) (sym (c .before .before .is-running .ensures) ∙ not-true _ (c .before .if1 .taken)) (c .refuse .ensures) (c .before .before .before .before .before .before .before .before .args .out .now)
+    let start = c .before .before .before .before .before .before .before .before in let args = start .args in let pre = start .pre in
+    stops-tick (pre .0) (sym (c .before .before .is-running .ensures) ∙ not-true _ (c .before .if1 .taken)) (c .refuse .ensures) (args .out .now)
 
 cast-if2 : tie.Need-cast-if2
 cast-if2 c = search needs
@@ -40,18 +41,26 @@ same-length-2 c = search needs
 
 returns-2 : tie.Need-returns-2
 returns-2 c =
-    ends-tick (c .before .before .before .before .before .before .before .before .before .before .before .before .before .pre .0) (sym (c .before .before .before .before .before .before .before .is-running .ensures) ∙ not-false _ (c .before .before .before .before .before .before .if1 .left)) (c .before .before .before .before .before .before .before .before .before .load .result) (c .before .before .before .before .before .before .before .before .before .load .ensures) (c .before .before .before .before .if2 .taken) (c .before .before .stop .ensures) (c .before .before .before .before .before .before .before .before .before .before .before .before .before .args .out .now)
+    let start = c .before .before .before .before .before .before .before .before .before .before .before .before .before in let args = start .args in let pre = start .pre in
+    let load = c .before .before .before .before .before .before .before .before .before .load in
+    let is-running = c .before .before .before .before .before .before .before .is-running in let if1 = c .before .before .before .before .before .before .if1 in
+    let if2 = c .before .before .before .before .if2 in
+    ends-tick (pre .0) (sym (is-running .ensures) ∙ not-false _ (if1 .left)) (load .result) (load .ensures) (if2 .taken) (c .before .before .stop .ensures) (args .out .now)
 
 look-requires : tie.Need-look-requires
 look-requires c κs = search needs
 
 is-calm-requires : tie.Need-is-calm-requires
 is-calm-requires c κs =
-    (c .before .before .before .before .before .before .before .before .before .before .before .before .before .pre .0, c .before .before .before .before .before .before .before .before .before .load .ensures, seen-votes _ _ (c .before .before .before .before .before .before .before .before .before .load .result) (c .before .before .before .before .before .before .before .before .before .load .ensures) (c .before .look .result) (c .before .look .ensures))
+    let pre = c .before .before .before .before .before .before .before .before .before .before .before .before .before .pre in
+    let load = c .before .before .before .before .before .before .before .before .before .load in
+    (pre .0, load .ensures, seen-votes _ _ (load .result) (load .ensures) (c .before .look .result) (c .before .look .ensures))
 
 add-set-clock : tie.Need-add-set-clock
 add-set-clock c =
-    omega (arith, clock-small (c .before .before .before .before .before .before .before .before .before .before .before .before .before .before .before .before .before .before .before .pre .0) (c .before .before .before .before .before .before .before .before .before .before .before .before .before .before .before .load .result) (c .before .before .before .before .before .before .before .before .before .before .before .before .before .before .before .load .ensures))
+    let pre = c .before .before .before .before .before .before .before .before .before .before .before .before .before .before .before .before .before .before .before .pre in
+    let load = c .before .before .before .before .before .before .before .before .before .before .before .before .before .before .before .load in
+    omega (arith, clock-small (pre .0) (load .result) (load .ensures))
 
 set-clock-requires : tie.Need-set-clock-requires
 set-clock-requires c κs =
@@ -62,13 +71,26 @@ same-length-3 c = search needs
 
 returns-3 : tie.Need-returns-3
 returns-3 c =
-    let t = and-2 (c .before .before .before .before .before .before .before .before .is-calm .result) _ (c .before .before .before .before .before .if3 .taken) in
-    quiet-tick (c .before .before .before .before .before .before .before .before .before .before .before .before .before .before .before .before .before .before .before .before .before .before .pre .0) (c .before .before .before .before .before .before .before .before .before .before .before .before .before .before .before .before .before .before .load .result) (c .before .before .before .before .before .before .before .before .before .before .before .before .before .before .before .before .before .before .load .ensures) (sym (c .before .before .before .before .before .before .before .before .before .before .before .before .before .before .before .before .is-running .ensures) ∙ not-false _ (c .before .before .before .before .before .before .before .before .before .before .before .before .before .before .before .if1 .left)) (c .before .before .before .before .before .before .before .before .before .before .before .before .before .if2 .left) {m = c .before .before .before .before .before .before .before .before .is-calm .result} (c .before .before .before .before .before .before .before .before .is-calm .ensures) (t .0) (c .before .before .before .before .before .before .before .before .before .before .before .before .before .before .before .before .before .before .before .before .before .before .pre .2) (c .before .before .before .before .before .before .before .before .before .before .look .result) (c .before .before .before .before .before .before .before .before .before .before .look .ensures) (leb-true _ _ (t .1)) (c .before .before .set-clock .ensures) (c .before .before .before .before .before .before .before .before .before .before .before .before .before .before .before .before .before .before .before .before .before .before .args .out .now)
+    let start = c .before .before .before .before .before .before .before .before .before .before .before .before .before .before .before .before .before .before .before .before .before .before in
+    let args = start .args in let pre = start .pre in
+    let load = c .before .before .before .before .before .before .before .before .before .before .before .before .before .before .before .before .before .before .load in
+    let is-running = c .before .before .before .before .before .before .before .before .before .before .before .before .before .before .before .before .is-running in
+    let if1 = c .before .before .before .before .before .before .before .before .before .before .before .before .before .before .before .if1 in
+    let if2 = c .before .before .before .before .before .before .before .before .before .before .before .before .before .if2 in
+    let look = c .before .before .before .before .before .before .before .before .before .before .look in
+    let is-calm = c .before .before .before .before .before .before .before .before .is-calm in let if3 = c .before .before .before .before .before .if3 in
+    let t = and-2 (is-calm .result) _ (if3 .taken) in
+    quiet-tick (pre .0) (load .result) (load .ensures) (sym (is-running .ensures) ∙ not-false _ (if1 .left)) (if2 .left) {m = is-calm .result} (is-calm .ensures) (t .0) (pre .2) (look .result) (look .ensures) (leb-true _ _ (t .1)) (c .before .before .set-clock .ensures) (args .out .now)
 
 busy-requires : tie.Need-busy-requires
 busy-requires c κs =
     let p = c .before .before .before .before .before .before .before .before .before .before .before .before .before .before .before .before .before .before .before .before .pre in
-    (record { formed = p .0; runs = sym (c .before .before .before .before .before .before .before .before .before .before .before .before .before .before .is-running .ensures) ∙ not-false _ (c .before .before .before .before .before .before .before .before .before .before .before .before .before .if1 .left); loaded = c .before .before .before .before .before .before .before .before .before .before .before .before .before .before .before .before .load .ensures; ahead = c .before .before .before .before .before .before .before .before .before .before .before .if2 .left; space = p .1 }, p .2, c .before .before .before .before .before .before .before .before .look .ensures, c .before .before .before .before .before .before .is-calm .ensures)
+    let load = c .before .before .before .before .before .before .before .before .before .before .before .before .before .before .before .before .load in
+    let is-running = c .before .before .before .before .before .before .before .before .before .before .before .before .before .before .is-running in
+    let if1 = c .before .before .before .before .before .before .before .before .before .before .before .before .before .if1 in
+    let if2 = c .before .before .before .before .before .before .before .before .before .before .before .if2 in
+    let look = c .before .before .before .before .before .before .before .before .look in let is-calm = c .before .before .before .before .before .before .is-calm in
+    (record { formed = p .0; runs = sym (is-running .ensures) ∙ not-false _ (if1 .left); loaded = load .ensures; ahead = if2 .left; space = p .1 }, p .2, look .ensures, is-calm .ensures)
 
 same-length-4 : tie.Need-same-length-4
 same-length-4 c = search needs

@@ -32,9 +32,12 @@ same-length-2 c = search needs
 
 returns : tie.Need-returns
 returns c =
+    let pre = c .before .before .before .before .before .before .before .before .before .before .before .before .before .before .before .pre in
     let load = c .before .before .before .before .before .before .before .before .before .before .load in
     let blame-full = c .before .before .before .before .before .before .before .before .blame-full in
-    arrives-full (c .before .before .before .before .before .before .before .before .before .before .before .before .before .before .before .pre .0) (load .result) (load .ensures) (blame-full .result) (blame-full .ensures) (c .before .before .before .before .before .before .before .if1 .taken) (c .before .before .before .before .quit-with-set .ensures)
+    let if1 = c .before .before .before .before .before .before .before .if1 in
+    let quit-with-set = c .before .before .before .before .quit-with-set in
+    arrives-full (pre .0) (load .result) (load .ensures) (blame-full .result) (blame-full .ensures) (if1 .taken) (quit-with-set .ensures)
 
 find-pair-requires : tie.Need-find-pair-requires
 find-pair-requires c κs = search needs
@@ -47,31 +50,35 @@ statement-at-requires c κs =
     let pre = c .before .before .before .before .before .before .before .before .before .before .before .before .before .before .pre in
     let load = c .before .before .before .before .before .before .before .before .before .load in
     let blame-full = c .before .before .before .before .before .before .before .blame-full in
+    let if1 = c .before .before .before .before .before .before .if1 in
     let find-pair = c .before .before .before .before .find-pair in
     let found = c .before .before .i in
-    (form-long _ (pre .0 .form), omega (arith, pair-inside (pre .0) (load .result) (load .ensures) (blame-full .result) (blame-full .ensures) (c .before .before .before .before .before .before .if1 .left) (find-pair .result) (find-pair .ensures) (found .given .0 .0) (found .given .0 .1 .0) (found .given .1), form-statements _ (pre .0 .form)))
+    (form-long _ (pre .0 .form), omega (arith, pair-inside (pre .0) (load .result) (load .ensures) (blame-full .result) (blame-full .ensures) (if1 .left) (find-pair .result) (find-pair .ensures) (found .given .0 .0) (found .given .0 .1 .0) (found .given .1), form-statements _ (pre .0 .form)))
 
 statement-at-requires-2 : tie.Need-statement-at-requires-2
 statement-at-requires-2 c κs =
     let pre = c .before .before .before .before .before .before .before .before .before .before .before .before .before .before .before .before .pre in
     let load = c .before .before .before .before .before .before .before .before .before .before .before .load in
     let blame-full = c .before .before .before .before .before .before .before .before .before .blame-full in
+    let if1 = c .before .before .before .before .before .before .before .before .if1 in
     let find-pair = c .before .before .before .before .before .before .find-pair in
     let found = c .before .before .before .before .i in
-    (form-long _ (pre .0 .form), omega (arith, pair-inside (pre .0) (load .result) (load .ensures) (blame-full .result) (blame-full .ensures) (c .before .before .before .before .before .before .before .before .if1 .left) (find-pair .result) (find-pair .ensures) (found .given .0 .0) (found .given .0 .1 .0) (found .given .1), form-statements _ (pre .0 .form)))
+    (form-long _ (pre .0 .form), omega (arith, pair-inside (pre .0) (load .result) (load .ensures) (blame-full .result) (blame-full .ensures) (if1 .left) (find-pair .result) (find-pair .ensures) (found .given .0 .0) (found .given .0 .1 .0) (found .given .1), form-statements _ (pre .0 .form)))
 
 quit-with-pair-requires : tie.Need-quit-with-pair-requires
 quit-with-pair-requires c κs =
-    let pre = c .before .before .before .before .before .before .before .before .before .before .before .before .before .before .before .before .before .before .before .pre in
+    let start = c .before .before .before .before .before .before .before .before .before .before .before .before .before .before .before .before .before .before .before in
+    let args = start .args in let pre = start .pre in
     let load = c .before .before .before .before .before .before .before .before .before .before .before .before .before .before .load in
     let blame-full = c .before .before .before .before .before .before .before .before .before .before .before .before .blame-full in
+    let if1 = c .before .before .before .before .before .before .before .before .before .before .before .if1 in
     let find-pair = c .before .before .before .before .before .before .before .before .before .find-pair in
     let found = c .before .before .before .before .before .before .before .i in
     let statement-at = c .before .before .before .before .statement-at in
     let statement-at2 = c .before .before .statement-at2 in
     let k = pre .0 in
-    let d = pair-inside (pre .0) (load .result) (load .ensures) (blame-full .result) (blame-full .ensures) (c .before .before .before .before .before .before .before .before .before .before .before .if1 .left) (find-pair .result) (find-pair .ensures) (found .given .0 .0) (found .given .0 .1 .0) (found .given .1) in
-    (k, read-linked k (found .given .0 .0) (statement-at .result) (d .0) (statement-at .ensures), read-linked k (found .given .0 .1 .0) (statement-at2 .result) (d .1) (statement-at2 .ensures), omega (arith, pre .1, statements-some (sizeIn (c .before .before .before .before .before .before .before .before .before .before .before .before .before .before .before .before .before .before .before .args .store .now))))
+    let d = pair-inside (pre .0) (load .result) (load .ensures) (blame-full .result) (blame-full .ensures) (if1 .left) (find-pair .result) (find-pair .ensures) (found .given .0 .0) (found .given .0 .1 .0) (found .given .1) in
+    (k, read-linked k (found .given .0 .0) (statement-at .result) (d .0) (statement-at .ensures), read-linked k (found .given .0 .1 .0) (statement-at2 .result) (d .1) (statement-at2 .ensures), omega (arith, pre .1, statements-some (sizeIn (args .store .now))))
 
 enum-told : tie.Need-enum-told
 enum-told c = search needs
@@ -96,13 +103,16 @@ same-length-4 c = search needs
 
 returns-2 : tie.Need-returns-2
 returns-2 c =
+    let pre = c .before .before .before .before .before .before .before .before .before .before .before .before .before .before .before .before .before .before .before .before .before .before .before .before .pre in
     let load = c .before .before .before .before .before .before .before .before .before .before .before .before .before .before .before .before .before .before .before .load in
     let blame-full = c .before .before .before .before .before .before .before .before .before .before .before .before .before .before .before .before .before .blame-full in
+    let if1 = c .before .before .before .before .before .before .before .before .before .before .before .before .before .before .before .before .if1 in
     let find-pair = c .before .before .before .before .before .before .before .before .before .before .before .before .before .before .find-pair in
     let found = c .before .before .before .before .before .before .before .before .before .before .before .before .i in
     let statement-at = c .before .before .before .before .before .before .before .before .before .statement-at in
     let statement-at2 = c .before .before .before .before .before .before .before .statement-at2 in
-    arrives-pair (c .before .before .before .before .before .before .before .before .before .before .before .before .before .before .before .before .before .before .before .before .before .before .before .before .pre .0) (load .result) (load .ensures) (blame-full .result) (blame-full .ensures) (c .before .before .before .before .before .before .before .before .before .before .before .before .before .before .before .before .if1 .left) (find-pair .result) (find-pair .ensures) (found .given .0 .0) (found .given .0 .1 .0) (found .given .1) (statement-at .result) (statement-at2 .result) (statement-at .ensures) (statement-at2 .ensures) (c .before .before .before .before .quit-with-pair .ensures)
+    let quit-with-pair = c .before .before .before .before .quit-with-pair in
+    arrives-pair (pre .0) (load .result) (load .ensures) (blame-full .result) (blame-full .ensures) (if1 .left) (find-pair .result) (find-pair .ensures) (found .given .0 .0) (found .given .0 .1 .0) (found .given .1) (statement-at .result) (statement-at2 .result) (statement-at .ensures) (statement-at2 .ensures) (quit-with-pair .ensures)
 
 same-length-5 : tie.Need-same-length-5
 same-length-5 c = search needs
@@ -115,10 +125,15 @@ same-length-7 c = search needs
 
 returns-3 : tie.Need-returns-3
 returns-3 c =
+    let pre = c .before .before .before .before .before .before .before .before .before .before .before .before .before .before .before .before .before .before .before .before .before .before .before .before .before .pre in
     let load = c .before .before .before .before .before .before .before .before .before .before .before .before .before .before .before .before .before .before .before .before .load in
     let blame-full = c .before .before .before .before .before .before .before .before .before .before .before .before .before .before .before .before .before .before .blame-full in
+    let if1 = c .before .before .before .before .before .before .before .before .before .before .before .before .before .before .before .before .before .if1 in
     let find-pair = c .before .before .before .before .before .before .before .before .before .before .before .before .before .before .before .find-pair in
-    arrives-votes (c .before .before .before .before .before .before .before .before .before .before .before .before .before .before .before .before .before .before .before .before .before .before .before .before .before .pre .0) (load .result) (load .ensures) (blame-full .result) (blame-full .ensures) (c .before .before .before .before .before .before .before .before .before .before .before .before .before .before .before .before .before .if1 .left) (find-pair .result) (find-pair .ensures) _ _ (c .before .before .before .before .before .before .before .before .before .before .before .before .before .enum-told .given .1) (c .before .before .before .before .before .before .before .before .before .before .in-order .ensures) (c .before .before .before .before .vote-in-order .ensures)
+    let enum-told = c .before .before .before .before .before .before .before .before .before .before .before .before .before .enum-told in
+    let in-order = c .before .before .before .before .before .before .before .before .before .before .in-order in
+    let vote-in-order = c .before .before .before .before .vote-in-order in
+    arrives-votes (pre .0) (load .result) (load .ensures) (blame-full .result) (blame-full .ensures) (if1 .left) (find-pair .result) (find-pair .ensures) _ _ (enum-told .given .1) (in-order .ensures) (vote-in-order .ensures)
 
 pub arrive-spec : {M : Type 1} → statement M
 arrive-spec =

@@ -32,8 +32,8 @@ same-length c = search needs
 
 returns : tie.Need-returns
 returns c =
-    let args = c .before .before .before .before .before .before .before .args in
-    works-still (args .out .now) (args .at) (c .before .before .before .before .before .before .before .pre .0 .form) (complain-calm _ (sym (c .before .overdue-at .ensures ∙ overdue-now (c .before .before .before .before .before .before .before .pre .0) (c .before .before .before .load .result) (c .before .before .before .load .ensures)) ∙ not-true _ (c .if1 .taken)))
+    let start = c .before .before .before .before .before .before .before in let args = start .args in let pre = start .pre in let load = c .before .before .before .load in
+    works-still (args .out .now) (args .at) (pre .0 .form) (complain-calm _ (sym (c .before .overdue-at .ensures ∙ overdue-now (pre .0) (load .result) (load .ensures)) ∙ not-true _ (c .if1 .taken)))
 
 cast-t16 : tie.Need-cast-t16
 cast-t16 c =
@@ -47,20 +47,25 @@ to-all-requires c κs =
 
 only-requires : tie.Need-only-requires
 only-requires c κs =
-    own-small (c .before .before .before .before .before .before .before .before .before .before .before .before .before .before .pre .0) (c .before .before .before .before .before .before .before .before .before .before .load .result) (c .before .before .before .before .before .before .before .before .before .before .load .ensures)
+    let pre = c .before .before .before .before .before .before .before .before .before .before .before .before .before .before .pre in
+    let load = c .before .before .before .before .before .before .before .before .before .before .load in
+    own-small (pre .0) (load .result) (load .ensures)
 
 cast-blaming : tie.Need-cast-blaming
 cast-blaming c =
-    record { fits = omega (arith, c .only .ensures, only-small (c .before .before .before .before .before .before .before .before .before .before .before .before .before .before .before .pre .0) (c .before .before .before .before .before .before .before .before .before .before .before .load .result) (c .before .before .before .before .before .before .before .before .before .before .before .load .ensures)) }
+    let pre = c .before .before .before .before .before .before .before .before .before .before .before .before .before .before .before .pre in
+    let load = c .before .before .before .before .before .before .before .before .before .before .before .load in
+    record { fits = omega (arith, c .only .ensures, only-small (pre .0) (load .result) (load .ensures)) }
 
 blaming-requires : tie.Need-blaming-requires
 unfolding messageOf
 blaming-requires c κs =
-    let pre = c .before .before .before .before .before .before .before .before .before .before .before .before .before .before .before .pre in
+    let start = c .before .before .before .before .before .before .before .before .before .before .before .before .before .before .before in let args = start .args in
+    let pre = start .pre in
     let load = c .before .before .before .before .before .before .before .before .before .before .before .load in
     let to-all = c .before .before .before .before .before .to-all in
     let k = pre .0 in
-    let s = stateOf (c .before .before .before .before .before .before .before .before .before .before .before .before .before .before .before .args .store .now) in
+    let s = stateOf (args .store .now) in
     (k, view-of-loaded k (load .result) (load .ensures), omega (arith, c .only .ensures, ap only (loaded-own k (load .result) (load .ensures)), only-lt (s .settings) (s .settings .own) (sizes-of (formed-parts k .formed) .own)), omega (arith, to-all .ensures .ends, blame-bytes (load .result .view) (load .result .settings .own), says-length (to-all .ensures), pre .1))
 
 same-length-2 : tie.Need-same-length-2
@@ -72,9 +77,14 @@ same-length-3 c = search needs
 returns-2 : tie.Need-returns-2
 unfolding messageOf
 returns-2 c =
+    let pre = c .before .before .before .before .before .before .before .before .before .before .before .before .before .before .before .before .before .before .before .before .pre in
     let load = c .before .before .before .before .before .before .before .before .before .before .before .before .before .before .before .before .load in
-    let k = c .before .before .before .before .before .before .before .before .before .before .before .before .before .before .before .before .before .before .before .before .pre .0 in
-    complained (load .result .view) (load .result .settings .own) _ (k .form) (sym (c .before .before .before .before .before .before .before .before .before .before .before .before .before .before .overdue-at .ensures ∙ overdue-now (c .before .before .before .before .before .before .before .before .before .before .before .before .before .before .before .before .before .before .before .before .pre .0) (c .before .before .before .before .before .before .before .before .before .before .before .before .before .before .before .before .load .result) (c .before .before .before .before .before .before .before .before .before .before .before .before .before .before .before .before .load .ensures)) ∙ not-false _ (c .before .before .before .before .before .before .before .before .before .before .before .before .before .if1 .left)) (loaded-view (load .result) _ (load .ensures)) (loaded-own k (load .result) (load .ensures)) (c .before .before .before .before .before .only .ensures) (c .before .before .before .before .before .before .before .before .before .before .to-all .ensures) (c .before .before .before .before .blaming .ensures)
+    let overdue-at = c .before .before .before .before .before .before .before .before .before .before .before .before .before .before .overdue-at in
+    let if1 = c .before .before .before .before .before .before .before .before .before .before .before .before .before .if1 in
+    let to-all = c .before .before .before .before .before .before .before .before .before .before .to-all in let only = c .before .before .before .before .before .only in
+    let blaming = c .before .before .before .before .blaming in
+    let k = pre .0 in
+    complained (load .result .view) (load .result .settings .own) _ (k .form) (sym (overdue-at .ensures ∙ overdue-now (pre .0) (load .result) (load .ensures)) ∙ not-false _ (if1 .left)) (loaded-view (load .result) _ (load .ensures)) (loaded-own k (load .result) (load .ensures)) (only .ensures) (to-all .ensures) (blaming .ensures)
 
 pub complain-spec : {M : Type 1} → statement M
 complain-spec =

@@ -35,8 +35,11 @@ slice-aggregate-arrive c = search needs
 arrive-requires : tie.Need-arrive-requires
 arrive-requires c κs =
     let pre = c .before .before .before .before .before .before .before .before .before .before .before .before .before .before .before .pre in
-    let w = c .before .before .before .before .before .before .before .entered .ensures in
-    (entered-formed (pre .0) (sym (c .before .before .before .before .before .before .before .before .before .before .before .enters-now .ensures) ∙ not-false _ (c .before .before .before .before .before .before .before .before .before .before .if1 .left)) w, omega (arith, report-ends _ w, says-length (w .says), pre .1, ap mostStatements (entered-size _ w)), search needs)
+    let enters-now = c .before .before .before .before .before .before .before .before .before .before .before .enters-now in
+    let if1 = c .before .before .before .before .before .before .before .before .before .before .if1 in
+    let entered = c .before .before .before .before .before .before .before .entered in
+    let w = entered .ensures in
+    (entered-formed (pre .0) (sym (enters-now .ensures) ∙ not-false _ (if1 .left)) w, omega (arith, report-ends _ w, says-length (w .says), pre .1, ap mostStatements (entered-size _ w)), search needs)
 
 same-length-2 : tie.Need-same-length-2
 same-length-2 c = search needs
@@ -46,7 +49,11 @@ same-length-3 c = search needs
 
 returns-2 : tie.Need-returns-2
 returns-2 c =
-    works-is (enter-goes _ (sym (c .before .before .before .before .before .before .before .before .before .before .before .before .before .before .before .before .before .enters-now .ensures) ∙ not-false _ (c .before .before .before .before .before .before .before .before .before .before .before .before .before .before .before .before .if1 .left))) (works-then arrive (c .before .before .before .before .before .before .before .before .before .before .before .before .before .entered .ensures) (c .before .before .before .before .before .arrive .ensures))
+    let enters-now = c .before .before .before .before .before .before .before .before .before .before .before .before .before .before .before .before .before .enters-now in
+    let if1 = c .before .before .before .before .before .before .before .before .before .before .before .before .before .before .before .before .if1 in
+    let entered = c .before .before .before .before .before .before .before .before .before .before .before .before .before .entered in
+    let the-arrive = c .before .before .before .before .before .arrive in
+    works-is (enter-goes _ (sym (enters-now .ensures) ∙ not-false _ (if1 .left))) (works-then arrive (entered .ensures) (the-arrive .ensures))
 
 pub enter-spec : {M : Type 1} → statement M
 enter-spec =

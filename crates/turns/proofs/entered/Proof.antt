@@ -37,23 +37,29 @@ same-length c = search needs
 
 returns : tie.Need-returns
 returns c =
-    let args = c .before .before .before .before .before .before .before .before .before .before .before .before .before .before .before .args in
+    let start = c .before .before .before .before .before .before .before .before .before .before .before .before .before .before .before in let args = start .args in
+    let pre = start .pre in
     let load = c .before .before .before .before .before .before .before .before .before .before .before .load in
     let highest = c .before .before .before .before .before .before .before .highest in
+    let enter = c .before .before .before .before .before .enter in
     let leader = c .before .before .leader in
-    goes-as-leader (c .before .before .before .before .before .before .before .before .before .before .before .before .before .before .before .pre .0) (load .result) (load .ensures) (highest .result) (highest .ensures) (leader .result) (leader .ensures) (c .before .before .before .before .before .enter .ensures) (args .out .now) (args .at) (c .if1 .taken)
+    goes-as-leader (pre .0) (load .result) (load .ensures) (highest .result) (highest .ensures) (leader .result) (leader .ensures) (enter .ensures) (args .out .now) (args .at) (c .if1 .taken)
 
 cast-to-one : tie.Need-cast-to-one
 cast-to-one c =
+    let pre = c .before .before .before .before .before .before .before .before .before .before .before .before .before .before .before .before .before .pre in
     let load = c .before .before .before .before .before .before .before .before .before .before .before .before .before .load in
     let highest = c .before .before .before .before .before .before .before .before .before .highest in
     let leader = c .before .before .before .before .leader in
-    record { fits = leader-small (c .before .before .before .before .before .before .before .before .before .before .before .before .before .before .before .before .before .pre .0) (load .result) (load .ensures) (highest .result) (highest .ensures) (leader .result) (leader .ensures) }
+    record { fits = leader-small (pre .0) (load .result) (load .ensures) (highest .result) (highest .ensures) (leader .result) (leader .ensures) }
 
 to-one-requires : tie.Need-to-one-requires
 unfolding messageOf
 to-one-requires c κs =
-    let t = c .before .before .before .before .before .before .before .before .before .highest .result in (tt, omega (arith, status-bytes (c .before .before .before .before .leader .result) (t .height) (nameOf (t .name)) (t .view) (t .mask), c .before .before .before .before .before .before .before .before .before .before .before .before .before .before .before .before .before .pre .2))
+    let pre = c .before .before .before .before .before .before .before .before .before .before .before .before .before .before .before .before .before .pre in
+    let highest = c .before .before .before .before .before .before .before .before .before .highest in
+    let leader = c .before .before .before .before .leader in
+    let t = highest .result in (tt, omega (arith, status-bytes (leader .result) (t .height) (nameOf (t .name)) (t .view) (t .mask), pre .2))
 
 same-length-2 : tie.Need-same-length-2
 same-length-2 c = search needs
@@ -64,10 +70,13 @@ same-length-3 c = search needs
 returns-2 : tie.Need-returns-2
 unfolding messageOf
 returns-2 c =
+    let pre = c .before .before .before .before .before .before .before .before .before .before .before .before .before .before .before .before .before .before .before .before .pre in
     let load = c .before .before .before .before .before .before .before .before .before .before .before .before .before .before .before .before .load in
     let highest = c .before .before .before .before .before .before .before .before .before .before .before .before .highest in
+    let enter = c .before .before .before .before .before .before .before .before .before .before .enter in
     let leader = c .before .before .before .before .before .before .before .leader in
-    goes-with-status (c .before .before .before .before .before .before .before .before .before .before .before .before .before .before .before .before .before .before .before .before .pre .0) (load .result) (load .ensures) (highest .result) (highest .ensures) (leader .result) (leader .ensures) (c .before .before .before .before .before .before .before .before .before .before .enter .ensures) (c .before .before .before .before .before .if1 .left) (c .before .before .to-one .ensures)
+    let if1 = c .before .before .before .before .before .if1 in
+    goes-with-status (pre .0) (load .result) (load .ensures) (highest .result) (highest .ensures) (leader .result) (leader .ensures) (enter .ensures) (if1 .left) (c .before .before .to-one .ensures)
 
 pub entered-spec : {M : Type 1} → statement M
 entered-spec =

@@ -42,8 +42,9 @@ statement-requires : tie.Need-statement-requires
 statement-requires c κs =
     let pre = c .before .before .before .before .before .before .before .before .before .before .before .before .before .pre in
     let load = c .before .before .before .before .before .before .before .before .before .load in
+    let leads-at = c .before .before .before .before .before .before .before .leads-at in let if1 = c .before .before .before .before .before .before .if1 in
     let own-new-view = c .before .before .before .before .own-new-view in
-    (pre .0, own-new-view .ensures .1, now-fits _ (own-new-view .result) (sym (c .before .before .before .before .before .before .before .leads-at .ensures ∙ loaded-now (pre .0) (load .result) (load .ensures)) ∙ not-false _ (c .before .before .before .before .before .before .if1 .left)) (own-new-view .ensures .0) ∙ pre .1, c .before .before .planned .ensures, pre .2)
+    (pre .0, own-new-view .ensures .1, now-fits _ (own-new-view .result) (sym (leads-at .ensures ∙ loaded-now (pre .0) (load .result) (load .ensures)) ∙ not-false _ (if1 .left)) (own-new-view .ensures .0) ∙ pre .1, c .before .before .planned .ensures, pre .2)
 
 same-length-2 : tie.Need-same-length-2
 same-length-2 c = search needs
@@ -55,8 +56,11 @@ returns-2 : tie.Need-returns-2
 returns-2 c =
     let pre = c .before .before .before .before .before .before .before .before .before .before .before .before .before .before .before .before .before .before .pre in
     let load = c .before .before .before .before .before .before .before .before .before .before .before .before .before .before .load in
+    let leads-at = c .before .before .before .before .before .before .before .before .before .before .before .before .leads-at in
+    let if1 = c .before .before .before .before .before .before .before .before .before .before .before .if1 in
     let own-new-view = c .before .before .before .before .before .before .before .before .before .own-new-view in
-    works-is (lead-now _ (sym (c .before .before .before .before .before .before .before .before .before .before .before .before .leads-at .ensures ∙ loaded-now (pre .0) (load .result) (load .ensures)) ∙ not-false _ (c .before .before .before .before .before .before .before .before .before .before .before .if1 .left)) (own-new-view .result) (own-new-view .ensures .0)) (c .before .before .before .before .statement .ensures)
+    let statement = c .before .before .before .before .statement in
+    works-is (lead-now _ (sym (leads-at .ensures ∙ loaded-now (pre .0) (load .result) (load .ensures)) ∙ not-false _ (if1 .left)) (own-new-view .result) (own-new-view .ensures .0)) (statement .ensures)
 
 pub lead-spec : {M : Type 1} → statement M
 lead-spec =

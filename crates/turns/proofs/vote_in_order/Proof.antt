@@ -50,16 +50,18 @@ find-tally-requires c κs =
 
 voting-requires : tie.Need-voting-requires Inv-loop μ-loop
 voting-requires c κs =
-    let args = c .before .before .before .before .before .before .before .before .before .before .before .before .before .args in
-    let pre = c .before .before .before .before .before .before .before .before .before .before .before .before .before .pre in
+    let start = c .before .before .before .before .before .before .before .before .before .before .before .before .before in let args = start .args in let pre = start .pre in
     let l = c .before .before .before .before .before .before .before .before .before .loop in
     let loop-test = c .before .before .before .before .before .before .before .before .loop-test in
     let statement-at = c .before .before .before .before .before .statement-at in
-    (l .inv .formed, voted-stands (args .store .now) (args .order .now) (args .out .now) (args .at) (args .count) (l .inv) (pre .inside (l .j) (loop-test .taken)) (statement-at .result) (statement-at .ensures), rw (← c .before .before .before .own-block .ensures) (c .before .before .find-tally .ensures), omega (arith, l .inv .ends, l .inv .long, pre .space, loop-test .taken))
+    let own-block = c .before .before .before .own-block in
+    (l .inv .formed, voted-stands (args .store .now) (args .order .now) (args .out .now) (args .at) (args .count) (l .inv) (pre .inside (l .j) (loop-test .taken)) (statement-at .result) (statement-at .ensures), rw (← own-block .ensures) (c .before .before .find-tally .ensures), omega (arith, l .inv .ends, l .inv .long, pre .space, loop-test .taken))
 
 add-j : tie.Need-add-j Inv-loop μ-loop
 add-j c =
-    omega (arith, c .before .before .before .before .before .before .before .before .before .before .before .before .before .loop-test .taken, c .before .before .before .before .before .before .before .before .before .before .before .before .before .before .before .before .before .before .pre .few)
+    let pre = c .before .before .before .before .before .before .before .before .before .before .before .before .before .before .before .before .before .before .pre in
+    let loop-test = c .before .before .before .before .before .before .before .before .before .before .before .before .before .loop-test in
+    omega (arith, loop-test .taken, pre .few)
 
 loop-less : tie.Need-loop-less Inv-loop μ-loop
 loop-less c =
@@ -67,11 +69,13 @@ loop-less c =
 
 loop-again : tie.Need-loop-again Inv-loop μ-loop
 loop-again c =
-    let args = c .before .before .before .before .before .before .before .before .before .before .before .before .before .before .before .before .before .before .args in
+    let start = c .before .before .before .before .before .before .before .before .before .before .before .before .before .before .before .before .before .before in
+    let args = start .args in let pre = start .pre in
     let loop = c .before .before .before .before .before .before .before .before .before .before .before .before .before .before .loop in
     let loop-test = c .before .before .before .before .before .before .before .before .before .before .before .before .before .loop-test in
     let statement-at = c .before .before .before .before .before .before .before .before .before .before .statement-at in
-    voted-next (args .store .now) (args .order .now) (args .out .now) (args .at) (args .count) (loop .inv) (c .before .before .before .before .before .before .before .before .before .before .before .before .before .before .before .before .before .before .pre .inside (loop .j) (loop-test .taken)) (statement-at .result) (statement-at .ensures) (loop-test .taken) (c .before .before .before .before .voting .ensures)
+    let voting = c .before .before .before .before .voting in
+    voted-next (args .store .now) (args .order .now) (args .out .now) (args .at) (args .count) (loop .inv) (pre .inside (loop .j) (loop-test .taken)) (statement-at .result) (statement-at .ensures) (loop-test .taken) (voting .ensures)
 
 same-length : tie.Need-same-length Inv-loop μ-loop
 same-length c =

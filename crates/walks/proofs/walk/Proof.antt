@@ -84,7 +84,9 @@ sub-k-2 c =
 
 cast-chain-2 : tie.Need-cast-chain-2 Inv-loop μ-loop
 cast-chain-2 c =
-    omega (arith, form-statements _ (c .before .before .before .before .before .before .before .before .before .before .before .before .before .before .pre .0), walking-stored (c .before .before .before .before .before .before .before .loop .inv) (c .before .before .before .find-block .ensures) (omega arith) (c .before .p .given .1))
+    let pre = c .before .before .before .before .before .before .before .before .before .before .before .before .before .before .pre in
+    let loop = c .before .before .before .before .before .before .before .loop in let find-block = c .before .before .before .find-block in
+    omega (arith, form-statements _ (pre .0), walking-stored (loop .inv) (find-block .ensures) (omega arith) (c .before .p .given .1))
 
 mul-chain-2 : tie.Need-mul-chain-2 Inv-loop μ-loop
 mul-chain-2 c = search needs
@@ -105,7 +107,9 @@ loop-less c =
 
 loop-again : tie.Need-loop-again Inv-loop μ-loop
 loop-again c =
-    walking-next (c .before .before .before .before .before .before .before .before .before .loop .inv) (c .before .before .before .before .before .find-block .ensures) (omega arith) (c .before .before .before .p .given .1) (link-of _ _ _ (c .before .statement-at2 .ensures))
+    let loop = c .before .before .before .before .before .before .before .before .before .loop in let find-block = c .before .before .before .before .before .find-block in
+    let p = c .before .before .before .p in
+    walking-next (loop .inv) (find-block .ensures) (omega arith) (p .given .1) (link-of _ _ _ (c .before .statement-at2 .ensures))
 
 same-length : tie.Need-same-length Inv-loop μ-loop
 same-length c =
@@ -117,12 +121,17 @@ returns c =
 
 same-length-2 : tie.Need-same-length-2 Inv-loop μ-loop
 same-length-2 c =
-    omega (arith, c .before .before .copy-told .kept .1 .0, c .before .before .before .before .before .before .before .loop .inv .long, c .before .before .before .before .before .before .before .before .before .before .before .before .before .before .pre .4)
+    let pre = c .before .before .before .before .before .before .before .before .before .before .before .before .before .before .pre in
+    let loop = c .before .before .before .before .before .before .before .loop in
+    omega (arith, c .before .before .copy-told .kept .1 .0, loop .inv .long, pre .4)
 
 returns-2 : tie.Need-returns-2 Inv-loop μ-loop
 returns-2 c =
+    let pre = c .before .before .before .before .before .before .before .before .before .before .before .before .before .before .pre in
+    let loop = c .before .before .before .before .before .before .before .loop in
     let meets = c .before .before .before .before .before .meets in
-    walking-meets (c .before .before .before .before .before .before .before .loop .inv) (meets .result) (meets .ensures) (c .before .before .before .before .if2 .taken) (c .before .before .before .before .before .before .before .before .before .before .before .before .before .before .pre .1) (omega arith) (c .before .before .copy-told .ensures)
+    let if2 = c .before .before .before .before .if2 in
+    walking-meets (loop .inv) (meets .result) (meets .ensures) (if2 .taken) (pre .1) (omega arith) (c .before .before .copy-told .ensures)
 
 same-length-3 : tie.Need-same-length-3 Inv-loop μ-loop
 same-length-3 c =

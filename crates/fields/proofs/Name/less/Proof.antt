@@ -19,10 +19,18 @@ returns-2 c =
     less-second (a .self) (a .other) (start .before .struct-known .given) (start .struct-known2 .given) (test1 .if1 .left) (test2 .if2 .taken)
 
 returns-3 : tie.Need-returns-3
-returns-3 c = less-third _ _ (c .before .before .before .before .before .before .before .before .before .before .struct-known .given) (c .before .before .before .before .before .before .before .before .before .struct-known2 .given) (c .before .before .before .before .before .before .before .before .if1 .left) (c .before .before .before .before .before .if2 .left) (c .before .before .if3 .taken)
+returns-3 c =
+    let struct-known = c .before .before .before .before .before .before .before .before .before .before .struct-known in
+    let struct-known2 = c .before .before .before .before .before .before .before .before .before .struct-known2 in
+    let if1 = c .before .before .before .before .before .before .before .before .if1 in let if2 = c .before .before .before .before .before .if2 in
+    less-third _ _ (struct-known .given) (struct-known2 .given) (if1 .left) (if2 .left) (c .before .before .if3 .taken)
 
 returns-4 : tie.Need-returns-4
-returns-4 c = less-fourth _ _ (c .before .before .before .before .before .before .before .before .before .before .struct-known .given) (c .before .before .before .before .before .before .before .before .before .struct-known2 .given) (c .before .before .before .before .before .before .before .before .if1 .left) (c .before .before .before .before .before .if2 .left) (c .before .before .if3 .left)
+returns-4 c =
+    let struct-known = c .before .before .before .before .before .before .before .before .before .before .struct-known in
+    let struct-known2 = c .before .before .before .before .before .before .before .before .before .struct-known2 in
+    let if1 = c .before .before .before .before .before .before .before .before .if1 in let if2 = c .before .before .before .before .before .if2 in
+    less-fourth _ _ (struct-known .given) (struct-known2 .given) (if1 .left) (if2 .left) (c .before .before .if3 .left)
 
 pub less-spec : {M : Type 1} → statement M
 less-spec = tie.close (tie.spec returns returns-2 returns-3 returns-4)

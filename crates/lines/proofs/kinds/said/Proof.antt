@@ -39,7 +39,13 @@ enum-known-flaw c = search needs
 
 returns : tie.Need-returns
 returns c =
-    (sym (said-wrong _ (c .before .before .before .before .before .before .before .before .before .before .before .before .pre .1) (c .before .before .before .before .before .before .before .before .before .before .before .before .pre .2) _ _ _ _ _ _ _ _ _ _ _ _ _ _ _ _ (c .before .before .before .before .before .before .before .before .before .before .own .ensures) (c .before .before .before .before .before .before .before .before .before .own2 .ensures) (c .before .before .before .before .before .before .before .before .own3 .ensures) (c .before .before .before .before .before .before .before .own4 .ensures) (c .before .before .before .before .before .before .own5 .ensures) (c .before .before .before .before .before .own6 .ensures) (c .before .before .before .before .own7 .ensures) _ (c .before .before .before .ending .ensures) _ (c .before .flaw .given .1)), tt)
+    let pre = c .before .before .before .before .before .before .before .before .before .before .before .before .pre in
+    let own = c .before .before .before .before .before .before .before .before .before .before .own in
+    let own2 = c .before .before .before .before .before .before .before .before .before .own2 in
+    let own3 = c .before .before .before .before .before .before .before .before .own3 in let own4 = c .before .before .before .before .before .before .before .own4 in
+    let own5 = c .before .before .before .before .before .before .own5 in let own6 = c .before .before .before .before .before .own6 in
+    let own7 = c .before .before .before .before .own7 in let ending = c .before .before .before .ending in
+    (sym (said-wrong _ (pre .1) (pre .2) _ _ _ _ _ _ _ _ _ _ _ _ _ _ _ _ (own .ensures) (own2 .ensures) (own3 .ensures) (own4 .ensures) (own5 .ensures) (own6 .ensures) (own7 .ensures) _ (ending .ensures) _ (c .before .flaw .given .1)), tt)
 
 enum-told : tie.Need-enum-told
 enum-told c = search needs
@@ -71,11 +77,22 @@ cast-made-5 c =
 
 made-requires : tie.Need-made-requires
 made-requires c κs =
-    (c .before .before .before .before .before .before .before .before .before .before .before .before .before .before .before .before .before .before .pre .1, c .before .before .before .before .before .before .before .before .before .before .before .before .before .before .before .before .before .before .pre .2)
+    let pre = c .before .before .before .before .before .before .before .before .before .before .before .before .before .before .before .before .before .before .pre in
+    (pre .1, pre .2)
 
 returns-2 : tie.Need-returns-2
 returns-2 c =
-    (ap (λ (x : messages.Message). message (write x)) (c .made .ensures .0) ∙ sym (said-good _ (c .before .before .before .before .before .before .before .before .before .before .before .before .before .before .before .before .before .before .before .pre .1) (c .before .before .before .before .before .before .before .before .before .before .before .before .before .before .before .before .before .before .before .pre .2) _ _ _ _ _ _ _ _ _ _ _ _ _ _ _ _ (c .before .before .before .before .before .before .before .before .before .before .before .before .before .before .before .before .before .own .ensures) (c .before .before .before .before .before .before .before .before .before .before .before .before .before .before .before .before .own2 .ensures) (c .before .before .before .before .before .before .before .before .before .before .before .before .before .before .before .own3 .ensures) (c .before .before .before .before .before .before .before .before .before .before .before .before .before .before .own4 .ensures) (c .before .before .before .before .before .before .before .before .before .before .before .before .before .own5 .ensures) (c .before .before .before .before .before .before .before .before .before .before .before .before .own6 .ensures) (c .before .before .before .before .before .before .before .before .before .before .before .own7 .ensures) _ (c .before .before .before .before .before .before .before .before .before .before .ending .ensures) _ (c .before .before .before .before .before .before .before .before .enum-told .given .1)), c .made .ensures .1)
+    let pre = c .before .before .before .before .before .before .before .before .before .before .before .before .before .before .before .before .before .before .before .pre in
+    let own = c .before .before .before .before .before .before .before .before .before .before .before .before .before .before .before .before .before .own in
+    let own2 = c .before .before .before .before .before .before .before .before .before .before .before .before .before .before .before .before .own2 in
+    let own3 = c .before .before .before .before .before .before .before .before .before .before .before .before .before .before .before .own3 in
+    let own4 = c .before .before .before .before .before .before .before .before .before .before .before .before .before .before .own4 in
+    let own5 = c .before .before .before .before .before .before .before .before .before .before .before .before .before .own5 in
+    let own6 = c .before .before .before .before .before .before .before .before .before .before .before .before .own6 in
+    let own7 = c .before .before .before .before .before .before .before .before .before .before .before .own7 in
+    let ending = c .before .before .before .before .before .before .before .before .before .before .ending in
+    let enum-told = c .before .before .before .before .before .before .before .before .enum-told in
+    (ap (λ (x : messages.Message). message (write x)) (c .made .ensures .0) ∙ sym (said-good _ (pre .1) (pre .2) _ _ _ _ _ _ _ _ _ _ _ _ _ _ _ _ (own .ensures) (own2 .ensures) (own3 .ensures) (own4 .ensures) (own5 .ensures) (own6 .ensures) (own7 .ensures) _ (ending .ensures) _ (enum-told .given .1)), c .made .ensures .1)
 
 pub said-spec : {M : Type 1} → statement M
 said-spec =

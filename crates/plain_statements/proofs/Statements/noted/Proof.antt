@@ -29,12 +29,11 @@ element-set-from-now c = search needs
 returns : tie.Need-returns
 unfolding statements
 returns c =
-    let a = c .before .before .before .before .args in
-    let i = c .before .before .before .place-of .result in
-    let w = c .before .before .before .before .pre in
+    let start = c .before .before .before .before in let a = start .args in let w = start .pre in let place-of = c .before .before .before .place-of in
+    let i = place-of .result in
     record {
       within = within-set room (a .t1 .items) (a .t1 .count) w i _;
-      is = altered heldOf blank room (a .t1 .items) (a .t1 .count) w (words.sameStatement (statementOf (a .x) none)) i (c .before .before .before .place-of .ensures) (inputs.noted (a .clock)) _ (c .before .before .if1 .taken) (noted-held (a .clock) (getD (a .t1 .items) i blank));
+      is = altered heldOf blank room (a .t1 .items) (a .t1 .count) w (words.sameStatement (statementOf (a .x) none)) i (place-of .ensures) (inputs.noted (a .clock)) _ (c .before .before .if1 .taken) (noted-held (a .clock) (getD (a .t1 .items) i blank));
     }
 
 returns-2 : tie.Need-returns-2

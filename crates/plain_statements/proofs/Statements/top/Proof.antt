@@ -44,9 +44,9 @@ loop-less c = omega arith
 loop-again : tie.Need-loop-again Inv-loop μ-loop
 unfolding statements
 loop-again c =
-    let a = c .before .before .before .before .args in
+    let start = c .before .before .before .before in let a = start .args in let pre = start .pre in
     let l = c .before .before .before .loop in
-    (omega arith, c .greater .ensures ∙ ap (over (a .view) (heldOf (getD (a .t1 .items) (l .i - 1) blank))) (l .inv .1) ∙ sym (ap (inputs.top (a .view)) (firsts-back heldOf blank (a .t1 .items) (a .t1 .count) (l .i) (long heldOf blank room (a .t1 .items) (a .t1 .count) (c .before .before .before .before .pre)) (omega arith) (l .inv .0)) ∙ top-over (a .view) _ _))
+    (omega arith, c .greater .ensures ∙ ap (over (a .view) (heldOf (getD (a .t1 .items) (l .i - 1) blank))) (l .inv .1) ∙ sym (ap (inputs.top (a .view)) (firsts-back heldOf blank (a .t1 .items) (a .t1 .count) (l .i) (long heldOf blank room (a .t1 .items) (a .t1 .count) pre) (omega arith) (l .inv .0)) ∙ top-over (a .view) _ _))
 
 returns : tie.Need-returns Inv-loop μ-loop
 unfolding statements

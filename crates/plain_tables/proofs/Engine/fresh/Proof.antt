@@ -21,11 +21,11 @@ cast-t8 c = search needs
 
 returns : tie.Need-returns
 returns c =
-    let a = c .before .before .before .before .args in
-    let k = c .before .before .before .before .pre in
+    let start = c .before .before .before .before in let a = start .args in let k = start .pre in let genesis = c .before .before .before .genesis in
+    let none = c .before .before .none in
     record {
-      sized = record { statements = c .before .before .none .ensures .within; tallies = c .before .none2 .ensures .within; log = c .none3 .ensures .within; small = k .0; good = k .1 };
-      is = fresh-is (a .settings) (c .before .before .before .genesis .result) (c .before .before .none .result) (c .before .none2 .result) (c .none3 .result) (k .0) (c .before .before .before .genesis .ensures) (c .before .before .none .ensures .is) (c .before .none2 .ensures .is) (c .none3 .ensures .is);
+      sized = record { statements = none .ensures .within; tallies = c .before .none2 .ensures .within; log = c .none3 .ensures .within; small = k .0; good = k .1 };
+      is = fresh-is (a .settings) (genesis .result) (none .result) (c .before .none2 .result) (c .none3 .result) (k .0) (genesis .ensures) (none .ensures .is) (c .before .none2 .ensures .is) (c .none3 .ensures .is);
     }
 
 pub fresh-spec : {M : Type 1} → statement M

@@ -49,11 +49,10 @@ loop-less c = omega arith
 loop-again : tie.Need-loop-again Inv-loop μ-loop
 unfolding tallies
 loop-again c =
-    let a = c .before .before .before .before .before .args in
-    let l = c .before .before .before .loop in (
+    let start = c .before .before .before .before .before in let a = start .args in let pre = start .pre in let loop = c .before .before .before .loop in (
       omega arith,
-      c .better .ensures ∙ ap (bestOf (settingsOf (a .settings)) (a .view) (tallyOf (getD (a .t1 .items) (l .i - 1) blank))) (l .inv .1)
-          ∙ sym (ap (words.highest (settingsOf (a .settings)) (a .view)) (firsts-back tallyOf blank (a .t1 .items) (a .t1 .count) (l .i) (long tallyOf blank room (a .t1 .items) (a .t1 .count) (c .before .before .before .before .before .pre)) (omega arith) (l .inv .0)) ∙ highest-best (settingsOf (a .settings)) (a .view) _ _),
+      c .better .ensures ∙ ap (bestOf (settingsOf (a .settings)) (a .view) (tallyOf (getD (a .t1 .items) (loop .i - 1) blank))) (loop .inv .1)
+          ∙ sym (ap (words.highest (settingsOf (a .settings)) (a .view)) (firsts-back tallyOf blank (a .t1 .items) (a .t1 .count) (loop .i) (long tallyOf blank room (a .t1 .items) (a .t1 .count) pre) (omega arith) (loop .inv .0)) ∙ highest-best (settingsOf (a .settings)) (a .view) _ _),
     )
 
 returns : tie.Need-returns Inv-loop μ-loop

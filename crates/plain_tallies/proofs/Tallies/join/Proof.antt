@@ -51,11 +51,11 @@ add-self c = search needs
 returns-2 : tie.Need-returns-2
 unfolding tallies
 returns-2 c =
-    let a = c .before .before .before .args in
-    let w = c .before .before .before .pre .0 in
+    let start = c .before .before .before in let a = start .args in let pre = start .pre in let place-of = c .before .before .place-of in
+    let w = pre .0 in
     record {
-      within = within-more room (a .t1 .items) (a .t1 .count) w (a .t1 .count) (c .opened .result) (c .before .before .before .pre .1);
-      is = joined-new (certificateOf (a .t)) (a .t1) w (c .before .before .place-of .result) (c .before .before .place-of .ensures) (momentOf (a .moment)) (c .opened .result) (c .before .before .before .pre .1) (c .before .if1 .left) (c .opened .ensures);
+      within = within-more room (a .t1 .items) (a .t1 .count) w (a .t1 .count) (c .opened .result) (pre .1);
+      is = joined-new (certificateOf (a .t)) (a .t1) w (place-of .result) (place-of .ensures) (momentOf (a .moment)) (c .opened .result) (pre .1) (c .before .if1 .left) (c .opened .ensures);
     }
 
 pub join-spec : {M : Type 1} → statement M

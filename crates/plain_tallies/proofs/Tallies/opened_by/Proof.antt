@@ -47,9 +47,11 @@ loop-less c = omega arith
 loop-again : tie.Need-loop-again Inv-loop μ-loop
 unfolding tallies tallyOf
 loop-again c =
-    let a = c .before .before .before .before .before .args in
-    let l = c .before .before .before .before .loop in
-    (omega arith, ap (λ (k : ℕ). k + 1) (l .inv .1) ∙ opened-one (a .author) (tallyOf (getD (a .t1 .items) (l .i - 1) blank)) (drop (l .i) (tallies (a .t1))) (sym (c .before .is-author .ensures) ∙ c .if1 .taken) ∙ sym (ap (words.openedBy (a .author)) (firsts-back tallyOf blank (a .t1 .items) (a .t1 .count) (l .i) (long tallyOf blank room (a .t1 .items) (a .t1 .count) (c .before .before .before .before .before .pre)) (omega arith) (l .inv .0))), omega arith)
+    let start = c .before .before .before .before .before in let a = start .args in let pre = start .pre in let l = c .before .before .before .before .loop in (
+      omega arith,
+      ap (λ (k : ℕ). k + 1) (l .inv .1) ∙ opened-one (a .author) (tallyOf (getD (a .t1 .items) (l .i - 1) blank)) (drop (l .i) (tallies (a .t1))) (sym (c .before .is-author .ensures) ∙ c .if1 .taken) ∙ sym (ap (words.openedBy (a .author)) (firsts-back tallyOf blank (a .t1 .items) (a .t1 .count) (l .i) (long tallyOf blank room (a .t1 .items) (a .t1 .count) pre) (omega arith) (l .inv .0))),
+      omega arith,
+    )
 
 loop-less-2 : tie.Need-loop-less-2 Inv-loop μ-loop
 loop-less-2 c = omega arith
@@ -57,9 +59,11 @@ loop-less-2 c = omega arith
 loop-again-2 : tie.Need-loop-again-2 Inv-loop μ-loop
 unfolding tallies tallyOf
 loop-again-2 c =
-    let a = c .before .before .before .before .before .args in
-    let l = c .before .before .before .before .loop in
-    (omega arith, l .inv .1 ∙ opened-other (a .author) (tallyOf (getD (a .t1 .items) (l .i - 1) blank)) (drop (l .i) (tallies (a .t1))) (sym (c .before .is-author .ensures) ∙ c .if1 .left) ∙ sym (ap (words.openedBy (a .author)) (firsts-back tallyOf blank (a .t1 .items) (a .t1 .count) (l .i) (long tallyOf blank room (a .t1 .items) (a .t1 .count) (c .before .before .before .before .before .pre)) (omega arith) (l .inv .0))), omega arith)
+    let start = c .before .before .before .before .before in let a = start .args in let pre = start .pre in let l = c .before .before .before .before .loop in (
+      omega arith,
+      l .inv .1 ∙ opened-other (a .author) (tallyOf (getD (a .t1 .items) (l .i - 1) blank)) (drop (l .i) (tallies (a .t1))) (sym (c .before .is-author .ensures) ∙ c .if1 .left) ∙ sym (ap (words.openedBy (a .author)) (firsts-back tallyOf blank (a .t1 .items) (a .t1 .count) (l .i) (long tallyOf blank room (a .t1 .items) (a .t1 .count) pre) (omega arith) (l .inv .0))),
+      omega arith,
+    )
 
 returns : tie.Need-returns Inv-loop μ-loop
 returns c =

@@ -44,7 +44,9 @@ array-share-prefix-bytes : tie.Need-array-share-prefix-bytes
 array-share-prefix-bytes c = within (c .before .before .before .what .given .1) (c .before .before .before .before .before .before .read-line .ensures .fits) (c .before .before .before .before .before .before .read-line .ensures .kept)
 
 slice-aggregate-given : tie.Need-slice-aggregate-given
-slice-aggregate-given c = sym (length-take-le _ _ (within (c .before .before .before .before .what .given .1) (c .before .before .before .before .before .before .before .read-line .ensures .fits) (c .before .before .before .before .before .before .before .read-line .ensures .kept)))
+slice-aggregate-given c =
+    let read-line = c .before .before .before .before .before .before .before .read-line in let what = c .before .before .before .before .what in
+    sym (length-take-le _ _ (within (what .given .1) (read-line .ensures .fits) (read-line .ensures .kept)))
 
 given-requires : tie.Need-given-requires
 given-requires c κs = search needs

@@ -5,13 +5,6 @@ use lib.ListN.{length}
 use borrow.Author.Needs.{needs}
 use Rattle.play.proofs.relay.hand_over.Statement.{statement}
 use Rattle.play.proofs.relay.hand_over.Tie as tie
-use Rattle.play.proofs.relay.hand_over.Reads as reads
-use Rattle.play.proofs.relay.hand_over.Lts as lts
-use Rattle.envelope.proofs.envelope_read.Reads as envelope-read-reads
-use Rattle.io.proofs.buffer.Reads as buffer-reads
-use Rattle.play.proofs.relay.one.Reads as one-reads
-use Rattle.said.proofs.show.envelope.Reads as envelope-reads
-use Rattle.said.proofs.show.refusal.Reads as refusal-reads
 
 abbrev Inv-loop : tie.InvT-loop
 Inv-loop store₀ list₀ is-plain number bytes places answer left₀ at₀ store list left at = (at ≤ 4096) × (4096 ≡ length places)
@@ -19,67 +12,51 @@ Inv-loop store₀ list₀ is-plain number bytes places answer left₀ at₀ stor
 abbrev μ-loop : tie.MeasureT-loop
 μ-loop store₀ list₀ is-plain number bytes places answer left₀ at₀ store list left at = 4096 - at
 
--- src/relay.rt:12:20
 buffer-requires : tie.Need-buffer-requires Inv-loop μ-loop
 buffer-requires c κs = search needs
 
--- src/relay.rt:13:49
 slice-aggregate-envelope-read : tie.Need-slice-aggregate-envelope-read Inv-loop μ-loop
 slice-aggregate-envelope-read c = search needs
 
--- src/relay.rt:13:9
 envelope-read-requires : tie.Need-envelope-read-requires Inv-loop μ-loop
 envelope-read-requires c κs = search needs
 
--- src/relay.rt:14:5
 envelope-requires : tie.Need-envelope-requires Inv-loop μ-loop
 envelope-requires c κs = search needs
 
--- src/relay.rt:15:8
 refusal-requires : tie.Need-refusal-requires Inv-loop μ-loop
 refusal-requires c κs = search needs
 
--- src/relay.rt:16:9
 returns : tie.Need-returns Inv-loop μ-loop
 returns c = search needs
 
--- src/relay.rt:20:5
 loop-holds : tie.Need-loop-holds Inv-loop μ-loop
 loop-holds c = search needs
 
--- src/relay.rt:20:11
 add-loop : tie.Need-add-loop Inv-loop μ-loop
 add-loop c = search needs
 
--- src/relay.rt:24:35
 slice-aggregate-one : tie.Need-slice-aggregate-one Inv-loop μ-loop
 slice-aggregate-one c = search needs
 
--- src/relay.rt:24:9
 one-requires : tie.Need-one-requires Inv-loop μ-loop
 one-requires c κs = search needs
 
--- src/relay.rt:25:9
 sub-left : tie.Need-sub-left Inv-loop μ-loop
 sub-left c = search needs
 
--- src/relay.rt:26:9
 add-at : tie.Need-add-at Inv-loop μ-loop
 add-at c = search needs
 
--- src/relay.rt:20:5
 loop-less : tie.Need-loop-less Inv-loop μ-loop
 loop-less c = search needs
 
--- src/relay.rt:20:5
 loop-again : tie.Need-loop-again Inv-loop μ-loop
 loop-again c = search needs
 
--- src/relay.rt:11:1
 returns-2 : tie.Need-returns-2 Inv-loop μ-loop
 returns-2 c = search needs
 
--- src/relay.rt:11:1
 returns-3 : tie.Need-returns-3 Inv-loop μ-loop
 returns-3 c = search needs
 

@@ -1,7 +1,7 @@
 -- `Reader::field` meets its contract: a walk of its MIR, by hand. The reader is taken apart, `field_at` is called on the message, the cursor and the tag, and a reader is made anew of the message and the cursor that it returned. All that the proof knows of `field_at` is that it meets its contract.
 -- The reader is Copy: what it owns is had as often as it is asked: by the callee, by the exit, and, with the facts of the new cursor in the place of the old one's, by the result.
 -- Assumes nothing.
-use mathlib.Core.Path.{_≡_, refl, ap, subst}
+use mathlib.Core.Path.{_≡_, refl, subst}
 use Prim.Native.Nat.{ℕ, _<_, _^_}
 use mathlib.Core.List.{List, [], _∷_}
 use lib.Dec.{T as Holds}

@@ -1,3 +1,4 @@
+-- `settings::Settings::leader` meets its contract. Assumes nothing.
 use Rattle.rules.specs.Sizes.{leader}
 use mathlib.Core.Path.{refl}
 use borrow.Author.Needs.{needs}

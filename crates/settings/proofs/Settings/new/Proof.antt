@@ -35,12 +35,14 @@ returns-5 c =
 returns-6 : tie.Need-returns-6
 unfolding made goodSettings within
 returns-6 c =
-    as-made _ _ _ _ (simp (eq-eqb _ _ (c .before .before .before .before .before .if1 .left), le-leb _ _ (c .before .before .before .before .if2 .left), le-leb _ _ (c .before .before .before .if3 .left), le-leb _ _ (c .before .before .if4 .left), le-leb _ _ (c .before .if5 .left), le-ltb _ _ (c .if6 .taken)))
+    let if1 = c .before .before .before .before .before .if1 in let if2 = c .before .before .before .before .if2 in let if3 = c .before .before .before .if3 in
+    as-made _ _ _ _ (simp (eq-eqb _ _ (if1 .left), le-leb _ _ (if2 .left), le-leb _ _ (if3 .left), le-leb _ _ (c .before .before .if4 .left), le-leb _ _ (c .before .if5 .left), le-ltb _ _ (c .if6 .taken)))
 
 returns-7 : tie.Need-returns-7
 unfolding made goodSettings within
 returns-7 c =
-    as-made _ _ _ _ (simp (eq-eqb _ _ (c .before .before .before .before .before .if1 .left), le-leb _ _ (c .before .before .before .before .if2 .left), le-leb _ _ (c .before .before .before .if3 .left), le-leb _ _ (c .before .before .if4 .left), le-leb _ _ (c .before .if5 .left), lt-ltb _ _ (c .if6 .left)))
+    let if1 = c .before .before .before .before .before .if1 in let if2 = c .before .before .before .before .if2 in let if3 = c .before .before .before .if3 in
+    as-made _ _ _ _ (simp (eq-eqb _ _ (if1 .left), le-leb _ _ (if2 .left), le-leb _ _ (if3 .left), le-leb _ _ (c .before .before .if4 .left), le-leb _ _ (c .before .if5 .left), lt-ltb _ _ (c .if6 .left)))
 
 pub new-spec : {M : Type 1} → statement M
 new-spec = tie.close (tie.spec returns returns-2 returns-3 returns-4 returns-5 returns-6 returns-7)

@@ -1,3 +1,4 @@
+-- `settings::Settings::quorum` meets its contract. Assumes nothing.
 use Rattle.rules.specs.Sizes.{quorum}
 use lib.Dec.{ltb}
 use Prim.Native.Nat.{_/_}

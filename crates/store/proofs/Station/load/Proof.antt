@@ -67,7 +67,25 @@ returns c =
     let p : phaseNumber (courseOf (after-phase-of .phase-of .result)) ≡ number (start .args .store .now) 0 4 =
     ap phaseNumber (after-phase-of .phase-of .ensures) ∙ phase-number _ ∙ after-get-four .get-four .ensures in
     let t = after-get-certificate .get-certificate .ensures in
-    record { header = rw (p, after-get .get .ensures .0, after-get2 .get2 .ensures .0, after-get3 .get3 .ensures .0, after-get-four2 .get-four2 .ensures, after-get-four3 .get-four3 .ensures, after-get-four4 .get-four4 .ensures, ap (λ (x : Certificate). x .view) t, ap (λ (x : Certificate). x .height) t, ap (λ (x : Certificate). x .name) t, ap (λ (x : Certificate). x .mask) t, after-get-count .get-count .ensures .0, c .before .get-count2 .ensures .0, c .get-count3 .ensures .0); size = after-size-in .size-in .ensures }
+    record {
+      header = rw (
+        p,
+        after-get .get .ensures .0,
+        after-get2 .get2 .ensures .0,
+        after-get3 .get3 .ensures .0,
+        after-get-four2 .get-four2 .ensures,
+        after-get-four3 .get-four3 .ensures,
+        after-get-four4 .get-four4 .ensures,
+        ap (λ (x : Certificate). x .view) t,
+        ap (λ (x : Certificate). x .height) t,
+        ap (λ (x : Certificate). x .name) t,
+        ap (λ (x : Certificate). x .mask) t,
+        after-get-count .get-count .ensures .0,
+        c .before .get-count2 .ensures .0,
+        c .get-count3 .ensures .0,
+      );
+      size = after-size-in .size-in .ensures;
+    }
 
 pub load-spec : {M : Type 1} → statement M
 load-spec =

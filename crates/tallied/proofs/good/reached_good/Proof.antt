@@ -1,3 +1,4 @@
+-- `tallied::good::reached_good` meets its contract. Assumes nothing.
 use Rattle.tallied.proofs.Parts.{reached-none, reached-some}
 use borrow.Author.Tests.{not-true, not-false}
 use Prim.Native.Nat.{_-_}
@@ -7,30 +8,22 @@ use mathlib.Core.Path.{sym, ap, _∙_}
 use borrow.Author.Needs.{needs}
 use Rattle.tallied.proofs.good.reached_good.Statement.{statement}
 use Rattle.tallied.proofs.good.reached_good.Tie as tie
-use Rattle.tallied.proofs.good.reached_good.Reads as reads
-use Rattle.tallied.proofs.good.reached_good.Lts as lts
-use Rattle.settings.proofs.Settings.quorum.Reads as quorum-reads
 
--- src/good.rt:39:9
 quorum-requires : tie.Need-quorum-requires
 quorum-requires c κs = search needs
 
--- src/good.rt:41:9
 returns : tie.Need-returns
 returns c =
     let a = c .before .before .args in rw (c .before .quorum .ensures) (reached-none (a .settings) (a .clock) (a .mask) (a .reached) (c .if1 .taken))
 
--- src/good.rt:44:9
 returns-2 : tie.Need-returns-2
 returns-2 c =
     let a = c .before .before .before .args in
     ap (λ (x : Bool). x && leb (a .reached - 1) (a .clock)) (sym (not-true _ (c .if2 .taken)) ∙ c .before .before .quorum .ensures) ∙ reached-some (a .settings) (a .clock) (a .mask) (a .reached) (c .before .if1 .left)
 
--- src/good.rt:46:5
 sub-result : tie.Need-sub-result
 sub-result c = search needs
 
--- src/good.rt:36:1
 returns-3 : tie.Need-returns-3
 returns-3 c =
     let a = c .before .before .before .args in
