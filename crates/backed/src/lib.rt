@@ -20,7 +20,7 @@ use stated::CERT;
 use store::{LINK, NAME, STATEMENT_SIZE, STATEMENTS};
 
 // The block that a statement certifies: view and height, the place of its name, and the salt stirred with all of it.
-#[derive(Drop)]
+#[derive(Clone, Copy)]
 pub struct Certified {
     pub key: u64,
     pub at: usize,
@@ -28,7 +28,7 @@ pub struct Certified {
 }
 
 // A statement's own block: view and height, the salt stirred with it, and whether its tally was found before.
-#[derive(Drop)]
+#[derive(Clone, Copy)]
 pub struct Own {
     pub key: u64,
     pub mixed: u64,

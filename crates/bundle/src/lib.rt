@@ -6,7 +6,7 @@ ghost use Rattle.bundle.specs.Writing.{is_message_at, bundled, writing};
 ghost use Rattle.bundle.specs.Meaning.{total_of, bundle_in, MayWrite};
 
 // The bytes of an envelope that may be written.
-#[derive(Drop)]
+#[derive(Clone, Copy)]
 enum Total {
     Fits(usize),
     Refused,

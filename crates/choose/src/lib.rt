@@ -8,14 +8,14 @@ use settings::{Made, Settings};
 use wire::{Message, Read};
 
 // What a message reports: the rank of its certificate; or it is no report.
-#[derive(Drop)]
+#[derive(Clone, Copy)]
 pub enum Report {
     Certified { view: u32, height: u32 },
     Nothing,
 }
 
 // Whose part is taken.
-#[derive(Drop)]
+#[derive(Clone, Copy)]
 pub enum Choice {
     First,
     Second,

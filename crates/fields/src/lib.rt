@@ -5,7 +5,7 @@ ghost use Rattle.fields.specs.Places.{number, put as written};
 ghost use Rattle.fields.specs.Names.{name_of};
 
 // A block's name, 32 bytes as four words, the first word the highest.
-#[derive(Drop)]
+#[derive(Clone, Copy)]
 pub struct Name {
     pub first: u64,
     pub second: u64,

@@ -14,7 +14,7 @@ use settings::Settings;
 use store::{STATEMENT_SIZE, STATEMENTS, Station, VIEW};
 
 // How many proposes of the view were voted for, and a place: the check told of each due statement below it.
-#[derive(Drop)]
+#[derive(Clone, Copy)]
 pub struct Glance {
     pub votes: usize,
     pub settled: usize,

@@ -8,7 +8,7 @@ ghost use Rattle.hex_words.specs.Meaning.{named_of};
 use fields::Name;
 
 // A name, or none.
-#[derive(Drop)]
+#[derive(Clone, Copy)]
 pub enum Named {
     Is(Name),
     Not,

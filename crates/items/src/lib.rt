@@ -13,14 +13,14 @@ pub const ENVELOPE_TAG: u8 = 0x30;
 const MESSAGE_TAG: u8 = 0x31;
 
 // An item: its bytes, and the messages in it.
-#[derive(Drop)]
+#[derive(Clone, Copy)]
 enum Item {
     Good { size: usize, count: usize },
     Bad,
 }
 
 // The messages in a list of items.
-#[derive(Drop)]
+#[derive(Clone, Copy)]
 pub enum Count {
     All(usize),
     Broken,

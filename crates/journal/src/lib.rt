@@ -8,7 +8,7 @@ ghost use Rattle.journal.specs.Meaning.{Found};
 use slot_reader::Slot;
 
 // The place for the next record, and its number.
-#[derive(Drop)]
+#[derive(Clone, Copy)]
 enum Room {
     Free { records: u64, place: usize },
     Nowhere,

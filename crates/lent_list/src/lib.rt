@@ -103,7 +103,7 @@ pub fn has_form(list: &[u8]) -> bool
 }
 
 // What the slot of a place holds: an input, or none.
-#[derive(Drop)]
+#[derive(Clone, Copy)]
 pub enum Held {
     Input { kind: u64, start: usize, end: usize },
     Nothing,

@@ -14,7 +14,7 @@ mod kinds;
 
 // What the bytes of a line are: a message, an offered name, an envelope, the name of a slip, the name of a block of a view and a height,
 // or two messages, the first of so many bytes.
-#[derive(Drop)]
+#[derive(Clone, Copy)]
 pub enum What {
     Message,
     Offer,
@@ -25,7 +25,7 @@ pub enum What {
 }
 
 // What a line asks for. Its bytes stand at the start of the lent buffer.
-#[derive(Drop)]
+#[derive(Clone, Copy)]
 pub enum Line {
     Blank,
     Fresh { n: u64, delay: u64, own: u64 },
@@ -38,7 +38,7 @@ pub enum Line {
 }
 
 // What a line of one word asks for.
-#[derive(Drop)]
+#[derive(Clone, Copy)]
 enum Asked {
     Log,
     State,

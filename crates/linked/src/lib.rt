@@ -70,7 +70,7 @@ fn is_above(store: &[u8], i: usize, k: usize) -> bool
 
 // How many statements are left from the first propose of a logged name on that is above the name below, 0 where there is none; and
 // whether it is also the first of that name.
-#[derive(Drop)]
+#[derive(Clone, Copy)]
 struct Sought {
     rest: usize,
     foremost: bool,

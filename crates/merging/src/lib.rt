@@ -10,7 +10,7 @@ ghost use Rattle.merging.specs.Joins.{name_so_far, WholeChain, Agree, Copied, Jo
 use fields::Name;
 
 // The log is so long now, or a chain differs from it.
-#[derive(Drop)]
+#[derive(Clone, Copy)]
 pub enum Merged {
     Grown(usize),
     Differs,

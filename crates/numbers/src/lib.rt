@@ -7,7 +7,7 @@ ghost use Rattle.numbers.specs.Meaning.{number_of};
 use text::Over;
 
 // A number, or none.
-#[derive(Drop)]
+#[derive(Clone, Copy)]
 pub enum Number {
     Is(u64),
     Not,

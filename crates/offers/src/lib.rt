@@ -12,7 +12,7 @@ use store::{Found, Station};
 use wire::Statement;
 
 // What an offer makes.
-#[derive(Drop)]
+#[derive(Clone, Copy)]
 pub enum Offer {
     Taken(Statement),
     NotTaken,

@@ -12,7 +12,7 @@ use text::Span;
 
 // What is wrong with a line: the first word is unknown; a word is missing; a word is too many; a number, hex, a name or a mask isn't
 // one, or is too large for its field; the bytes have no room.
-#[derive(Drop)]
+#[derive(Clone, Copy)]
 pub enum Flaw {
     Word,
     Missing,
@@ -25,7 +25,7 @@ pub enum Flaw {
 }
 
 // The sort of a field: a number up to the largest, a name or a mask.
-#[derive(Drop)]
+#[derive(Clone, Copy)]
 pub enum Sort {
     Number(u64),
     Name,
@@ -33,14 +33,14 @@ pub enum Sort {
 }
 
 // How far a line was read, or what is wrong with it.
-#[derive(Drop)]
+#[derive(Clone, Copy)]
 pub enum Place {
     At(usize),
     Wrong(Flaw),
 }
 
 // What a field says, a number as the last word of a name, and how far the line was read with it.
-#[derive(Drop)]
+#[derive(Clone, Copy)]
 pub struct Part {
     pub value: Name,
     pub next: Place,

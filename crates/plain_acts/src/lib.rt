@@ -23,7 +23,7 @@ use plain_words::Certificate;
 use wire::{Message, Statement};
 
 // A station on the way, and the place where what it said ends.
-#[derive(Drop)]
+#[derive(Clone, Copy)]
 pub struct Work {
     pub engine: Engine,
     pub at: usize,

@@ -9,7 +9,7 @@ use plain_tables::Engine;
 use settings::Settings;
 
 // A state that a fold came to, or that it came to none.
-#[derive(Drop)]
+#[derive(Clone, Copy)]
 struct Folded {
     good: bool,
     engine: Engine,

@@ -13,7 +13,7 @@ use plain_statements::{Found, Held, Statements};
 use plain_tables::{NAMES, Names};
 
 // Names, or none.
-#[derive(Drop)]
+#[derive(Clone, Copy)]
 pub struct Maybe {
     pub some: bool,
     pub names: Names,

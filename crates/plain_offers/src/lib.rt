@@ -18,7 +18,7 @@ use settings::Settings;
 use wire::{Message, Statement};
 
 // What an offer makes, if it is to be taken: a propose.
-#[derive(Drop)]
+#[derive(Clone, Copy)]
 pub enum Made {
     Propose(Statement),
     Nothing,

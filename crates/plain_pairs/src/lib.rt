@@ -13,7 +13,7 @@ use plain_statements::{Found, Held, Statements};
 use wire::Statement;
 
 // Two statements that conflict, if there are.
-#[derive(Drop)]
+#[derive(Clone, Copy)]
 pub enum Two {
     Both(Held, Held),
     Neither,

@@ -18,20 +18,20 @@ pub const NAMES: usize = Settings::MOST_STATEMENTS + 1;
 pub const VIEWS: usize = Settings::LAST_VIEW as usize + 1;
 
 // Names by ascending height, from height 1: a log or a chain.
-#[derive(Drop)]
+#[derive(Clone, Copy)]
 pub struct Names {
     pub items: [Name; NAMES],
     pub count: usize,
 }
 
-#[derive(Drop)]
+#[derive(Clone, Copy)]
 pub enum Cause {
     Full,
     Split,
     Clock,
 }
 
-#[derive(Drop)]
+#[derive(Clone, Copy)]
 pub enum Phase {
     InView,
     Waiting(u32),
@@ -39,7 +39,7 @@ pub enum Phase {
 }
 
 // A station.
-#[derive(Drop)]
+#[derive(Clone, Copy)]
 pub struct Engine {
     pub settings: Settings,
     pub phase: Phase,

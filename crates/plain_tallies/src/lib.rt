@@ -16,14 +16,14 @@ use settings::Settings;
 pub const ROOM: usize = Settings::MOST_TALLIES + 3;
 
 // Who opened a tally: nobody, or the author of a vote.
-#[derive(Drop)]
+#[derive(Clone, Copy)]
 pub enum Opener {
     Nobody,
     Author(u8),
 }
 
 // A tally, with who opened it, and the clock at which it first reached a quorum.
-#[derive(Drop)]
+#[derive(Clone, Copy)]
 pub struct Tally {
     pub view: u32,
     pub height: u32,
@@ -33,14 +33,14 @@ pub struct Tally {
     pub reached: Noted,
 }
 
-#[derive(Drop)]
+#[derive(Clone, Copy)]
 pub struct Tallies {
     pub items: [Tally; ROOM],
     pub count: usize,
 }
 
 // What a joining is told: the settings, the clock, and who opens the tally if it is missing.
-#[derive(Drop)]
+#[derive(Clone, Copy)]
 pub struct Moment {
     pub settings: Settings,
     pub clock: u32,

@@ -15,7 +15,7 @@ use settings::Settings;
 use wire::{Message, Read};
 
 // The number of the answer, how many bytes were written, and the station that is left.
-#[derive(Drop)]
+#[derive(Clone, Copy)]
 pub struct Turn {
     pub number: u64,
     pub count: usize,

@@ -11,7 +11,7 @@ use fields::Name;
 use wire::Statement;
 
 // A block of a view, with voters: what a statement, a vote or a status carries, and the lock.
-#[derive(Drop)]
+#[derive(Clone, Copy)]
 pub struct Certificate {
     pub view: u32,
     pub height: u32,
@@ -20,7 +20,7 @@ pub struct Certificate {
 }
 
 // A clock that was noted, or that none was.
-#[derive(Drop)]
+#[derive(Clone, Copy)]
 pub enum Noted {
     Never,
     At(u32),

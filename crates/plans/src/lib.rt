@@ -13,7 +13,7 @@ use wire::Statement;
 
 // What comes of a statement: a repeat; a new one, with the places of the tallies of its certificate and of its own block;
 // or that no record is free.
-#[derive(Drop)]
+#[derive(Clone, Copy)]
 pub enum Plan {
     Repeat,
     New(Found, Found),

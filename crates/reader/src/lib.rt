@@ -5,7 +5,7 @@ ghost use Rattle.wire.specs.Fields.{is_field, has as contains, Tags, start, move
 ghost use Rattle.reader.specs.Places.{place_of};
 
 // A place in a message, and the kind that was read before it, 0 where none was.
-#[derive(Drop)]
+#[derive(Clone, Copy)]
 pub struct Cursor {
     pub at: usize,
     pub kind: u8,

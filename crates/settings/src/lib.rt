@@ -5,13 +5,13 @@ ghost use Rattle.rules.specs.Sizes.{leader, quorum, only, joined, holds};
 ghost use Rattle.settings.specs.Made.{made, answer_of, answered, size_from, settings_of};
 
 // Which limits a group goes by.
-#[derive(Drop)]
+#[derive(Clone, Copy)]
 pub enum Size {
     Small,
     Large,
 }
 
-#[derive(Drop)]
+#[derive(Clone, Copy)]
 pub struct Settings {
     pub n: u64,
     pub delay: u64,
@@ -19,7 +19,7 @@ pub struct Settings {
     pub size: Size,
 }
 
-#[derive(Drop)]
+#[derive(Clone, Copy)]
 pub enum Made {
     Good(Settings),
     Bad,

@@ -10,7 +10,7 @@ use slip_entries::{Entry, Link};
 // The bytes of the name's field.
 const NAME: usize = 35;
 
-#[derive(Drop)]
+#[derive(Clone, Copy)]
 pub enum Verdict {
     Accepted { entries: u64 },
     Refused { place: u64 },

@@ -16,14 +16,14 @@ use wire::Statement;
 pub const ENTRY: usize = 100;
 
 // What stands at a place: a propose, or nothing that is one.
-#[derive(Drop)]
+#[derive(Clone, Copy)]
 pub enum Entry {
     Propose(Statement),
     Unread,
 }
 
 // What an entry leads to: its parent, where it is the block asked for and allowed.
-#[derive(Drop)]
+#[derive(Clone, Copy)]
 pub enum Link {
     Parent(Name),
     Broken,

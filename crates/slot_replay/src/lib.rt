@@ -7,7 +7,7 @@ ghost use Rattle.slot_replay.specs.Meaning.{Hands, Replays};
 use slot_reader::Slot;
 
 // Where a replay ended: whether it was stopped, the records handed over, the place, and how many torn slots are before it.
-#[derive(Drop)]
+#[derive(Clone, Copy)]
 pub struct Ending {
     pub stopped: bool,
     pub records: u64,

@@ -14,7 +14,7 @@ use fields::Name;
 use store::Found;
 
 // How many of the lowest blocks of a chain are not stored, and how many of its lowest names are known to be the log's.
-#[derive(Drop)]
+#[derive(Clone, Copy)]
 pub struct Reached {
     pub left: usize,
     pub known: usize,

@@ -10,7 +10,7 @@ use fields::Name;
 use wire::Statement;
 
 // A block of a view, with the mask of its voters: what a statement, a vote or a status carries, the lock, and the key of a search.
-#[derive(Drop)]
+#[derive(Clone, Copy)]
 pub struct Certificate {
     pub view: u32,
     pub height: u32,
