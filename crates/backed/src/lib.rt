@@ -1,5 +1,7 @@
 // Every statement has its tallies: of its own block and of the block that it certifies, each looked for among the tallies.
 // A block is told by its view and height as one number and by its name where it lies.
+#![tactic(auto)]
+
 ghost use Rattle.std.specs.Prelude.{◌≡◌, ◌+◌, ◌*◌, ◌^◌, ◌≤◌, ◌<◌, length};
 ghost use Rattle.rules.specs.Limits.{small, most_statements};
 ghost use Rattle.rules.specs.Lists.{any};

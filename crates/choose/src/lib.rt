@@ -1,4 +1,6 @@
 // Two reports, and the certificate part of the one with the higher rank: a part of one of two lent slices, no byte copied.
+#![tactic(auto)]
+
 ghost use Rattle.std.specs.Prelude.{◌≡◌};
 ghost use Rattle.settings.specs.Made.{settings_of};
 ghost use Rattle.choose.specs.Choose.{report, taken as takenIn, taken_of, chosen};

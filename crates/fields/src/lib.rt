@@ -1,5 +1,7 @@
 // Numbers and block names at places of a byte slice, big-endian.
 // A caller shows that the place lies in the slice; all else is exact.
+#![tactic(auto)]
+
 ghost use Rattle.std.specs.Prelude.{◌≡◌, ◌+◌, ◌^◌, ◌≤◌, ◌<◌, length, eqb, ltb};
 ghost use Rattle.fields.specs.Places.{number, put as written};
 ghost use Rattle.fields.specs.Names.{name_of};

@@ -1,4 +1,6 @@
 // What a word says in hex: bytes, or a name.
+#![tactic(auto)]
+
 ghost use Rattle.std.specs.Prelude.{◌≡◌, ◌+◌, ◌≤◌, ◌-◌, ◌/◌, length};
 ghost use Rattle.rules.specs.Lists.{all};
 ghost use Rattle.outgoing.specs.Wrote.{wrote};

@@ -1,4 +1,6 @@
 // The items of a relay envelope, read and counted in a cycle of two functions: an item may be an envelope.
+#![tactic(auto)]
+
 ghost use Rattle.std.specs.Prelude.{suc};
 ghost use Rattle.items.specs.Reading.{inside, envelope_in};
 ghost use Rattle.items.specs.Meaning.{FirstOf, AllOf};

@@ -1,4 +1,6 @@
 // A journal over slots: the place for the next record, and writing it there.
+#![tactic(auto)]
+
 ghost use Rattle.std.specs.Prelude.{◌≡◌, ◌<◌};
 ghost use Rattle.slots.specs.Slots.{judged, written};
 ghost use Rattle.slot_reader.specs.Meaning.{Judged};

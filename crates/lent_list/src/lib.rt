@@ -1,4 +1,6 @@
 // The list that a host lends to the plain engine, as it is read: its length, its form, and the inputs that it holds.
+#![tactic(auto)]
+
 ghost use Rattle.std.specs.Prelude.{◌≡◌, true, ◌<◌};
 ghost use Rattle.settings.specs.Made.{settings_of};
 ghost use Rattle.settings.specs.declared.Size.TheVariants.{Small};

@@ -1,4 +1,6 @@
 // The log of a store: linked by parent to genesis, through stored proposes, which hang by their height; and what of it the tick is told.
+#![tactic(auto)]
+
 ghost use Rattle.std.specs.Prelude.{◌≡◌, ◌+◌, ◌≤◌, ◌<◌, length, replicate, eqb};
 ghost use Rattle.rules.specs.Limits.{most_statements, most_statements_large};
 ghost use Rattle.rules.specs.Inputs.{is_block};

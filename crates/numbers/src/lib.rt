@@ -1,4 +1,6 @@
 // What a word says as a number or as a mask, and what a digit says.
+#![tactic(auto)]
+
 ghost use Rattle.std.specs.Prelude.{◌≡◌, ◌<◌};
 ghost use Rattle.rules.specs.Lists.{within};
 ghost use Rattle.text.specs.Words.{is_decimal, digit, decimal, mask};

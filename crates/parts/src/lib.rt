@@ -1,4 +1,6 @@
 // The fields of a line. A field is known by its tag on the wire; a plain number, as those of `fresh` and `tick`, has tag 0.
+#![tactic(auto)]
+
 ghost use Rattle.std.specs.Prelude.{[], ◌≡◌, ◌≤◌, ◌<◌, length, drop};
 ghost use Rattle.parts.specs.Fields.{says, flaw_of, field_of, unlabelled};
 ghost use Rattle.text.specs.Places.{WordOf};

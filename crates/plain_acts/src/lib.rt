@@ -1,5 +1,7 @@
 // What a rule does to a station held by value, and what it says: the parts that messages, offers and ticks share, each straight from
 // its definition. What is said goes into an out buffer from a place on.
+#![tactic(auto)]
+
 ghost use Rattle.std.specs.Prelude.{◌≡◌, [], ◌+◌, ◌<◌, ◌≤◌, length};
 ghost use Rattle.std.proofs.Math.Option.{none};
 ghost use Rattle.rules.specs.Limits.{mask_bits, last_view_small};

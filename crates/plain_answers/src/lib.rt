@@ -1,4 +1,6 @@
 // What the plain engine answers of the state that its whole list gives: the rules' answer to an input, or the log.
+#![tactic(auto)]
+
 ghost use Rattle.std.specs.Prelude.{◌≡◌, true};
 ghost use Rattle.lent_list.specs.Lists.{has_length, has_form, input_of};
 ghost use Rattle.lent_list.specs.Plain.{held, plainly, Gives as Answers, left, plain_log};

@@ -1,4 +1,6 @@
 // A block's chain, and how it joins the log, held by value: for the plain engine, each straight from its definition.
+#![tactic(auto)]
+
 ghost use Rattle.std.specs.Prelude.{◌≡◌, ◌<◌, ◌-◌};
 ghost use Rattle.fields.specs.Names.{name_of};
 ghost use Rattle.rules.specs.Lists.{first};

@@ -1,4 +1,6 @@
 // Two stored statements that conflict, held by value, for the plain engine, straight from the definition.
+#![tactic(auto)]
+
 ghost use Rattle.std.specs.Prelude.{◌≡◌, ◌≤◌, drop};
 ghost use Rattle.std.proofs.Math.Option.{none};
 ghost use Rattle.rules.specs.Lists.{first};

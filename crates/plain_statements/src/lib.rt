@@ -1,5 +1,7 @@
 // The stored statements, held by value, for the plain engine. The array has the room of one statement beyond the limit, since no
 // call adds more: a rule runs first, and its tables are measured afterwards, as the definitions have it.
+#![tactic(auto)]
+
 ghost use Rattle.std.specs.Prelude.{◌≡◌, [], ◌∷◌, ◌++◌, ◌<◌};
 ghost use Rattle.std.proofs.Math.Option.{none};
 ghost use Rattle.rules.specs.Lists.{any, first, alter};

@@ -1,4 +1,6 @@
 // A station held by value, for the plain engine: its tables, its log and the rest of its state.
+#![tactic(auto)]
+
 ghost use Rattle.std.specs.Prelude.{◌≡◌, true, []};
 ghost use Rattle.rules.specs.Sizes.{good_settings};
 ghost use Rattle.rules.specs.Words as words;

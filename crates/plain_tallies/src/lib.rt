@@ -1,5 +1,7 @@
 // The tallies, held by value, for the plain engine. The array has the room of three tallies beyond the limit: no call adds more than
 // two, and a joining asks for a free place. So a rule runs first, and its tables are measured afterwards, as the definitions have it.
+#![tactic(auto)]
+
 ghost use Rattle.std.specs.Prelude.{◌≡◌, [], ◌<◌};
 ghost use Rattle.rules.specs.Lists.{any};
 ghost use Rattle.rules.specs.Words as words;

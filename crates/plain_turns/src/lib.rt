@@ -1,5 +1,7 @@
 // What a message to a station held by value is answered, and what it leaves: the refusals in their order, each function straight from
 // its definition. What is said goes into a buffer from its start on.
+#![tactic(auto)]
+
 ghost use Rattle.std.specs.Prelude.{◌≡◌, true, ◌≤◌, length};
 ghost use Rattle.rules.specs.Messages.{view_of, allowed};
 ghost use Rattle.rules.specs.Refusals as refusals;

@@ -1,5 +1,7 @@
 // 01's words over values, for the plain engine, each straight from its definition: when statements are the same and when they
 // conflict, the certificate that one carries, its own block, rank.
+#![tactic(auto)]
+
 ghost use Rattle.std.specs.Prelude.{◌≡◌, ◌^◌, ◌<◌};
 ghost use Rattle.std.proofs.Math.Option.{none};
 ghost use Rattle.rules.specs.Limits.{mask_bits};

@@ -1,4 +1,6 @@
 // What comes of a statement, worked out before anything is written: one search each for it and its two tallies.
+#![tactic(auto)]
+
 ghost use Rattle.std.specs.Prelude.{◌≡◌};
 ghost use Rattle.std.proofs.Math.Option.{none};
 ghost use Rattle.rules.specs.Words.{message as said};

@@ -1,4 +1,6 @@
 // Walking a message field by field: one reader goes from its first field to its end, and knows its place and the kind.
+#![tactic(auto)]
+
 ghost use Rattle.std.specs.Prelude.{◌≡◌, ◌≤◌};
 ghost use Rattle.rules.specs.Messages.{width};
 ghost use Rattle.wire.specs.Fields.{is_field, has as contains, Tags, start, moved, walked};

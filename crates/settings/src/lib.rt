@@ -1,4 +1,6 @@
 // The settings of a station: the limits of 01, which code reads here and nowhere else, and what follows from n and the own number.
+#![tactic(auto)]
+
 ghost use Rattle.std.specs.Prelude.{◌≡◌, ◌<◌, ◌^◌};
 ghost use Rattle.rules.specs.Limits.{mask_bits, last_view, most_statements, most_tallies};
 ghost use Rattle.rules.specs.Sizes.{leader, quorum, only, joined, holds};

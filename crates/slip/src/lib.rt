@@ -1,4 +1,6 @@
 // The checker of slips: a block name and the proposes from that block down to height 1. It knows messages and settings, and nothing of a store.
+#![tactic(auto)]
+
 ghost use Rattle.std.specs.Prelude.{◌≡◌, ◌≤◌, length};
 ghost use Rattle.settings.specs.Made.{settings_of};
 ghost use Rattle.slip.specs.Slips.{name_end, top_height, judged, checked};

@@ -1,4 +1,6 @@
 // An entry of a slip: a propose at its fixed places, and the parent that it leads to. It knows messages and settings, and nothing of a store.
+#![tactic(auto)]
+
 ghost use Rattle.std.specs.Prelude.{◌≡◌, ◌+◌, ◌≤◌, length};
 ghost use Rattle.std.proofs.Math.Option.{none};
 ghost use Rattle.fields.specs.Names.{name_of};

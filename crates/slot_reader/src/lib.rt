@@ -1,4 +1,6 @@
 // Judging a slot: blank, torn, bad, or a whole record.
+#![tactic(auto)]
+
 ghost use Rattle.std.specs.Prelude.{◌≡◌, ◌^◌, ◌≤◌, ◌<◌, length, eqb};
 ghost use Rattle.fields.specs.Places.{number};
 ghost use Rattle.slots.specs.Slots.{record_bytes, record_in, judged};

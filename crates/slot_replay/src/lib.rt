@@ -1,4 +1,6 @@
 // Replaying the slots of a journal: the input of each whole record goes to the station's exported calls, in order.
+#![tactic(auto)]
+
 ghost use Rattle.std.specs.Prelude.{◌^◌, ◌≤◌, ◌<◌, length};
 ghost use Rattle.journal.specs.Journal.{slot_count};
 ghost use Rattle.slot_replay.specs.Fold.{report_length};

@@ -1,4 +1,6 @@
 // The lent store: one byte slice whose exact length tells its limits, the bytes of a well-formed state in one way only.
+#![tactic(auto)]
+
 ghost use Rattle.std.specs.Prelude.{◌≡◌, ◌+◌, ◌-◌, ◌*◌, ◌^◌, ◌≤◌, ◌<◌, length, eqb};
 ghost use Rattle.std.proofs.Math.Option.{none};
 ghost use Rattle.rules.specs.Limits.{last_view, most_statements, most_tallies, least_out};

@@ -1,4 +1,6 @@
 // Tallies: a record of the table, what it certifies, and the same with whoever joins it.
+#![tactic(auto)]
+
 ghost use Rattle.std.specs.Prelude.{◌≡◌, ◌≤◌, ◌<◌};
 ghost use Rattle.rules.specs.Limits.{last_clock, mask_bits};
 ghost use Rattle.rules.specs.Sizes.{only};

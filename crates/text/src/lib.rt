@@ -1,4 +1,6 @@
 // Runs of bytes, and the words of a line.
+#![tactic(auto)]
+
 ghost use Rattle.std.specs.Prelude.{List, ◌≡◌, ℕ, ◌≤◌, length, drop};
 ghost use Rattle.rules.specs.Script.{same_list};
 ghost use Rattle.text.specs.Words.{is_space, passes as passed};

@@ -1,5 +1,7 @@
 // The chain of a stored statement, walked down to where it meets the log or is not stored: its blocks as places in a small local table.
 // The store is only read; a caller shows that it has the form.
+#![tactic(auto)]
+
 ghost use Rattle.std.specs.Prelude.{◌≡◌, length, get_or, ℕ, ◌<◌, ◌≤◌};
 ghost use Rattle.rules.specs.Limits.{most_statements, most_statements_large};
 ghost use Rattle.rules.specs.Inputs.{is_block};

@@ -1,4 +1,6 @@
 // A message, and what reading one answers.
+#![tactic(auto)]
+
 use fields::Name;
 
 // A new-view or a propose. The link of a propose is its parent's name; of a new-view it is the certificate view, as a name's number.

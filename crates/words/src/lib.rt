@@ -1,4 +1,6 @@
 // Words of 01 over values: when statements are the same and when they conflict, the certificate that one carries, its own block, rank.
+#![tactic(auto)]
+
 ghost use Rattle.std.specs.Prelude.{◌≡◌};
 ghost use Rattle.std.proofs.Math.Option.{none};
 ghost use Rattle.rules.specs.Words as words;
