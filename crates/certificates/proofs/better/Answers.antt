@@ -1,6 +1,5 @@
 -- `certificates::better` meets its contract. Assumes nothing.
 use mathlib.Core.Path.{◌∙◌, sym}
-use borrow.Author.Tests.{not-true, not-false}
 use Rattle.settings.specs.Made.{settings_of}
 use Rattle.words.specs.Meaning.{block_of}
 use Rattle.certificates.proofs.Ranks.{chosen_late, chosen_few, chosen_lower, chosen_here}
@@ -16,13 +15,13 @@ pub returns-then-not-higher : goal.returns-then-not-higher
 unfolding block_of
 returns-then-not-higher c =
     let a = c.args in
-    chosen_lower (settings_of a.settings) a.view (block_of a.block) (block_of a.best) (sym c.higher.ensures ∙ not-true _ c.if-not-higher.true)
+    chosen_lower (settings_of a.settings) a.view (block_of a.block) (block_of a.best) (sym c.higher.ensures ∙ c.if-not-higher.true)
 
 pub returns-then-not-quorum : goal.returns-then-not-quorum
 unfolding block_of
 returns-then-not-quorum c =
     let a = c.args in
-    chosen_few (settings_of a.settings) a.view (block_of a.block) (block_of a.best) (sym c.quorum.ensures ∙ not-true _ c.if-not-quorum.true)
+    chosen_few (settings_of a.settings) a.view (block_of a.block) (block_of a.best) (sym c.quorum.ensures ∙ c.if-not-quorum.true)
 
 pub returns : goal.returns
 unfolding block_of
@@ -30,4 +29,4 @@ returns c =
     let a = c.args in
     let if1 = c.if-view-block in
     let higher = c.higher in let if2 = c.if-not-higher in
-    chosen_here (settings_of a.settings) a.view (block_of a.block) (block_of a.best) if1.false (sym c.quorum.ensures ∙ not-false _ c.if-not-quorum.false) (sym higher.ensures ∙ not-false _ if2.false)
+    chosen_here (settings_of a.settings) a.view (block_of a.block) (block_of a.best) if1.false (sym c.quorum.ensures ∙ c.if-not-quorum.false) (sym higher.ensures ∙ if2.false)

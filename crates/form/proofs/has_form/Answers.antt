@@ -4,6 +4,7 @@ use native.Mathlib.Omega.{arith}
 use Rattle.rules.specs.Limits.{most_statements, most_tallies}
 use Rattle.store.specs.Layout.{statement_table, tally_table, log_table}
 use Rattle.form.proofs.Forms.{Tested, used_by_lem, counts_statements, tests_fail, tests_hold, tests_then}
+use mathlib.Core.Bool.{not}
 use Rattle.form.proofs.has_form.Goals as goal
 
 pub table_fits-statements-requires : goal.table_fits-statements-requires
@@ -35,12 +36,12 @@ tests c =
 
 pub returns-then-not-tables : goal.returns-then-not-tables
 returns-then-not-tables c =
-    tests_fail _ c.args.station c.requires (tests c) c.if-not-tables.true
+    tests_fail _ c.args.station c.requires (tests c) (ap not c.if-not-tables.true)
 
 pub kinds_good-requires : goal.kinds_good-requires
 kinds_good-requires c =
-    counts_statements _ c.args.station c.requires (tests_hold _ c.args.station c.requires (tests c) c.if-not-tables.false)
+    counts_statements _ c.args.station c.requires (tests_hold _ c.args.station c.requires (tests c) (ap not c.if-not-tables.false))
 
 pub returns : goal.returns
 returns c =
-    c.kinds_good.ensures ∙ tests_then _ c.args.station c.requires (tests c) c.if-not-tables.false
+    c.kinds_good.ensures ∙ tests_then _ c.args.station c.requires (tests c) (ap not c.if-not-tables.false)

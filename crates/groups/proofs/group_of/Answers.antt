@@ -9,4 +9,4 @@ pub returns-in-4 : goal.returns-in-4
 returns-in-4 c = rw c.in-4.is (group_large _ c.new-in-4.ensures.0)
 
 pub returns-in_default : goal.returns-in_default
-returns-in_default c = group_other _ _ c.in_default.rest.0.1 c.in_default.rest.1
+returns-in_default c = group_other _ _ c.in_default.in_default-own.rest.0.1 c.in_default.in_default-own.rest.1

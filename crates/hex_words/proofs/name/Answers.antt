@@ -4,7 +4,6 @@ use mathlib.Core.Path.{sym, ap, ◌∙◌}
 use mathlib.Core.Option.{some}
 use native.Mathlib.Omega.{arith}
 use lib.ListN.{length-take, length-drop}
-use borrow.Author.Tests.{not-true, not-false}
 use Rattle.hex_words.proofs.name.Goals as goal
 
 pub returns-then-end-eq0 : goal.returns-then-end-eq0
@@ -14,7 +13,7 @@ pub returns-then-end-gt64 : goal.returns-then-end-gt64
 returns-then-end-gt64 c = sym (name_long _ c.if-end-gt64.true)
 
 pub returns-then-not-all_hex : goal.returns-then-not-all_hex
-returns-then-not-all_hex c = sym (name_other _ (sym c.all_hex.ensures ∙ not-true _ c.if-not-all_hex.true))
+returns-then-not-all_hex c = sym (name_other _ (sym c.all_hex.ensures ∙ c.if-not-all_hex.true))
 
 pub hex_number-requires-3 : goal.hex_number-requires-3
 hex_number-requires-3 c =
@@ -44,4 +43,4 @@ returns c =
     let back3 = c.back-second in let hex-number = c.hex_number in
     let hex-number2 = c.hex_number-2 in
     let w = args.word.now in
-    sym (name_is w if1.false if2.false (sym all-hex.ensures ∙ not-false _ if3.false) ∙ ap some (sym (name_words w _ _ _ _ if2.false back.ensures back2.ensures back3.ensures hex-number.ensures hex-number2.ensures c.hex_number-3.ensures c.hex_number-4.ensures)))
+    sym (name_is w if1.false if2.false (sym all-hex.ensures ∙ if3.false) ∙ ap some (sym (name_words w _ _ _ _ if2.false back.ensures back2.ensures back3.ensures hex-number.ensures hex-number2.ensures c.hex_number-3.ensures c.hex_number-4.ensures)))

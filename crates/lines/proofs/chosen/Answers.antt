@@ -13,7 +13,6 @@ use native.Mathlib.Omega.{arith}
 use native.Mathlib.Nat.{zero-add}
 use mathlib.Core.List.{List, ◌++◌}
 use lib.ListN.{drop, length-append}
-use borrow.Author.Tests.{not-true, not-false}
 use Rattle.lines.proofs.chosen.Goals as goal
 
 pub returns-then-start-end : goal.returns-then-start-end
@@ -23,7 +22,7 @@ returns-then-start-end c =
 pub returns-then-not-is_bytes : goal.returns-then-not-is_bytes
 returns-then-not-is_bytes c =
     let w = c.word-word.ensures in
-    unchanged _ _ _ _ (nothing_bad _ _ (chosen_not _ (word_some w c.if-start-end.false) (rw w.is at (sym c.is_bytes.ensures ∙ not-true _ c.if-not-is_bytes.true)))) refl
+    unchanged _ _ _ _ (nothing_bad _ _ (chosen_not _ (word_some w c.if-start-end.false) (rw w.is at (sym c.is_bytes.ensures ∙ c.if-not-is_bytes.true)))) refl
 
 pub returns-in-Wrong : goal.returns-in-Wrong
 returns-in-Wrong c =
@@ -32,7 +31,7 @@ returns-in-Wrong c =
     let holds-hex = c.holds_hex in
     let w = word.ensures in
     let h = rw c.in-Wrong.is at holds-hex.ensures in
-    unchanged _ _ _ _ (nothing_bad _ _ (chosen_wrong _ (word_some w if1.false) (rw w.is at (sym is-bytes.ensures ∙ not-false _ if2.false)) _ (rw w.after at h))) refl
+    unchanged _ _ _ _ (nothing_bad _ _ (chosen_wrong _ (word_some w if1.false) (rw w.is at (sym is-bytes.ensures ∙ if2.false)) _ (rw w.after at h))) refl
 
 pub returns-then-bytes-len : goal.returns-then-bytes-len
 returns-then-bytes-len c =
@@ -47,7 +46,7 @@ returns-then-bytes-len c =
     let h : hex u ≡ got (pairs (word u)) = rw c.in_default.is at holds-hex.ensures in
     let n = length_pairs (word t) ∙ ap (λ (k : ℕ). k / 2) (word_length w) in
     let m = length_pairs (word u) ∙ ap (λ (k : ℕ). k / 2) (word_length v) in
-    let is = chosen_both t (word_some w if1.false) (rw w.is at (sym is-bytes.ensures ∙ not-false _ if2.false)) _ (sym n) (pairs (word u)) (sym (ap hex w.after) ∙ h) in
+    let is = chosen_both t (word_some w if1.false) (rw w.is at (sym is-bytes.ensures ∙ if2.false)) _ (sym n) (pairs (word u)) (sym (ap hex w.after) ∙ h) in
     let all = length-append (pairs (word t)) (pairs (word u)) in
     too_long (pairs (word t) ++ pairs (word u)) _ _ _ is (omega (arith, n, m, all, c.if-bytes-len.true))
 
@@ -69,7 +68,7 @@ returns c =
     let h : hex u ≡ got (pairs (word u)) = rw c.in_default.is at holds-hex.ensures in
     let n = length_pairs (word t) ∙ ap (λ (k : ℕ). k / 2) (word_length w) in
     let m = length_pairs (word u) ∙ ap (λ (k : ℕ). k / 2) (word_length v) in
-    let is = chosen_both t (word_some w if1.false) (rw w.is at (sym is-bytes.ensures ∙ not-false _ if2.false)) _ (sym n) (pairs (word u)) (sym (ap hex w.after) ∙ h) in
+    let is = chosen_both t (word_some w if1.false) (rw w.is at (sym is-bytes.ensures ∙ if2.false)) _ (sym n) (pairs (word u)) (sym (ap hex w.after) ∙ h) in
     let all = length-append (pairs (word t)) (pairs (word u)) in
     let both : _ ≡ wrote a.bytes.now 0 (pairs (word t) ++ pairs (word u)) = (rw v.is at c.write_bytes-2.ensures) ∙ ap₂ (λ (l : List ℕ) (k : ℕ). wrote l k (pairs (word u))) (rw w.is at write_bytes.ensures) (sym n ∙ sym (zero-add _)) ∙ sym (wrote_append a.bytes.now 0 (pairs (word t)) (pairs (word u))) in
     written_good (pairs (word t) ++ pairs (word u)) _ _ _ is (omega (arith, n, m, all, if3.false)) _ _ (omega (arith, n, m, all)) both

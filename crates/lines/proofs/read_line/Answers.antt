@@ -71,21 +71,21 @@ unfolding bytes
 returns-in-1-to-6 c =
     reads_as _ _ _ _ _
     (line_means c.word-first.ensures c.if-start-at.false c.which-kind.ensures _ refl
-    ∙ means_spoken c.which-kind.result c.if-kind-lt1.false (omega (arith, c.if-kind-lt7.true)) _)
+    ∙ means_spoken c.which-kind.result c.in-1-to-6.if-kind-lt1-own.false (omega (arith, c.in-1-to-6.if-kind-lt7-own.true)) _)
     c.spoken.ensures
 
 pub returns-in_default : goal.returns-in_default
 unfolding bytes means_of
 returns-in_default c =
-    let none : c.which-kind.result ≡ 0 = omega (arith, c.if-kind-lt1.true) in
+    let none : c.which-kind.result ≡ 0 = omega (arith, c.in_default.if-kind-lt1-own.true) in
     unchanged _ _ _ _ (nothing_bad _ _ (line_means c.word-first.ensures c.if-start-at.false c.which-kind.ensures 0 none)) refl
 
 pub returns-in_default-2 : goal.returns-in_default-2
 unfolding bytes
 returns-in_default-2 c =
-    let r = c.in_default-1.rest in
+    let r = c.in_default.in_default-own.rest in
     unchanged _ _ _ _
     (nothing_bad _ _
     (line_means c.word-first.ensures c.if-start-at.false c.which-kind.ensures _ refl
-    ∙ means_other _ _ c.if-kind-lt7.false r.0.0.0.0.0.0.0.0.0.0.1 r.0.0.0.0.0.0.0.0.0.1 r.0.0.0.0.0.0.0.0.1 r.0.0.0.0.0.0.0.1 r.0.0.0.0.0.0.1 r.0.0.0.0.0.1 r.0.0.0.0.1 r.0.0.0.1 r.0.0.1 r.0.1 r.1))
+    ∙ means_other _ _ c.in_default.if-kind-lt7-own.false r.0.0.0.0.0.0.0.0.0.0.1 r.0.0.0.0.0.0.0.0.0.1 r.0.0.0.0.0.0.0.0.1 r.0.0.0.0.0.0.0.1 r.0.0.0.0.0.0.1 r.0.0.0.0.0.1 r.0.0.0.0.1 r.0.0.0.1 r.0.0.1 r.0.1 r.1))
     refl

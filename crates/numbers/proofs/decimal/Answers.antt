@@ -5,7 +5,6 @@ use Prim.Native.Nat.{ℕ, ◌+◌, ◌*◌}
 use mathlib.Core.Path.{refl, sym, ap, ◌∙◌}
 use mathlib.Core.Option.{some}
 use native.Mathlib.Omega.{arith}
-use borrow.Author.Tests.{not-true, not-false}
 use lib.ListN.{drop}
 use Rattle.text.specs.Words.{is_decimal, value as said}
 use Rattle.numbers.proofs.decimal.Goals as goal
@@ -20,7 +19,7 @@ pub returns-then-not-is_decimal : goal.returns-then-not-is_decimal
 returns-then-not-is_decimal c =
     let at = c.loop-i in
     let w = c.args.word.now in
-    sym (decimal_other _ w (at.invariant.3 ∙ all_here is_decimal w at.i (omega arith) (sym c.is_decimal.ensures ∙ not-true _ c.if-not-is_decimal.true)))
+    sym (decimal_other _ w (at.invariant.3 ∙ all_here is_decimal w at.i (omega arith) (sym c.is_decimal.ensures ∙ c.if-not-is_decimal.true)))
 
 pub returns-then-most-value : goal.returns-then-most-value
 returns-then-most-value c =
@@ -53,7 +52,7 @@ loop-i-preserved c =
     let at = c.loop-i in
     let w = c.args.word.now in
     let more = at.invariant.4 ∙ value_step 10 at.value w at.i (omega arith) ∙ ap (λ (d : ℕ). said 10 (at.value * 10 + d) (drop (at.i + 1) w)) (sym c.wide-d.ensures.0) in
-    (omega arith, omega arith, omega arith, at.invariant.3 ∙ all_next is_decimal w at.i (omega arith) (sym c.is_decimal.ensures ∙ not-false _ c.if-not-is_decimal.false), more)
+    (omega arith, omega arith, omega arith, at.invariant.3 ∙ all_next is_decimal w at.i (omega arith) (sym c.is_decimal.ensures ∙ c.if-not-is_decimal.false), more)
 
 pub returns : goal.returns
 returns c =

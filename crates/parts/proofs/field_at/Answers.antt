@@ -17,7 +17,7 @@ returns-in_default c =
     let a = c.args in
     let w = c.word_of-word in
     let if1 = c.if-start-end in
-    let sort-of = c.sort_of-sort in let value_of_lem = c.value_of_lem in
+    let sort-of = c.sort_of-sort in let value_of_lem = c.value_of in
     let sort = sort-of.ensures in
     let none = rw sort at (sym value_of_lem.ensures.0 ∙ ap named_of c.in_default.is) in
     field_wrong _ _ _ _ _ _ c.wrong-in_default.ensures.0 (c.wrong-in_default.ensures.1 ∙ ap Wrong (c.flaw_of.ensures ∙ ap flaw_of sort)) (field_not a.line.now a.at a.tag w.result w.ensures if1.false none)
@@ -27,7 +27,7 @@ returns c =
     let a = c.args in
     let w = c.word_of-word in
     let if1 = c.if-start-end in let sort-of = c.sort_of-sort in
-    let value_of_lem = c.value_of_lem in
+    let value_of_lem = c.value_of in
     let sort = sort-of.ensures in
     let value = c.in-Is.is in
     field_is a.line.now a.at a.tag w.result w.ensures if1.false c.in-Is.value (rw sort at (sym value_of_lem.ensures.0 ∙ ap named_of value)) (rw (sort, value) at value_of_lem.ensures.1)

@@ -35,4 +35,4 @@ returns-in-8 c = rw c.in-8.is
 pub returns-in_default : goal.returns-in_default
 unfolding plain
 returns-in_default c =
-    sym (ap (λ (x : Field). x.sort) (field_plain _ c.in_default.rest.0.0.0.0.0.0.1 c.in_default.rest.0.0.0.0.0.1 c.in_default.rest.0.0.0.0.1 c.in_default.rest.0.0.0.1 c.in_default.rest.0.0.1 c.in_default.rest.0.1 c.in_default.rest.1))
+    sym (ap (λ (x : Field). x.sort) (field_plain _ c.in_default.in_default-own.rest.0.0.0.0.0.0.1 c.in_default.in_default-own.rest.0.0.0.0.0.1 c.in_default.in_default-own.rest.0.0.0.0.1 c.in_default.in_default-own.rest.0.0.0.1 c.in_default.in_default-own.rest.0.0.1 c.in_default.in_default-own.rest.0.1 c.in_default.in_default-own.rest.1))

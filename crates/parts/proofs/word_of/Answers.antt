@@ -34,5 +34,4 @@ returns-in-8 c = rw c.in-8.is c.unlabelled-in-8.ensures
 pub returns-in_default : goal.returns-in_default
 unfolding plain
 returns-in_default c =
-    let matched = c.in_default in
-    rw (field_plain _ matched.rest.0.0.0.0.0.0.1 matched.rest.0.0.0.0.0.1 matched.rest.0.0.0.0.1 matched.rest.0.0.0.1 matched.rest.0.0.1 matched.rest.0.1 matched.rest.1) c.unlabelled-in_default.ensures
+    rw (field_plain _ c.in_default.in_default-own.rest.0.0.0.0.0.0.1 c.in_default.in_default-own.rest.0.0.0.0.0.1 c.in_default.in_default-own.rest.0.0.0.0.1 c.in_default.in_default-own.rest.0.0.0.1 c.in_default.in_default-own.rest.0.0.1 c.in_default.in_default-own.rest.0.1 c.in_default.in_default-own.rest.1) c.unlabelled-in_default.ensures

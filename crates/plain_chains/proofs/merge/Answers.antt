@@ -1,7 +1,6 @@
 -- Answers to the goals of `plain_chains::merge`. Assumes nothing.
 use mathlib.Core.Path.{sym, ◌∙◌}
 use native.Mathlib.Omega.{arith}
-use borrow.Author.Tests.{not-true, not-false}
 use Rattle.plain_tables.specs.Meaning.{names}
 use Rattle.plain_chains.specs.Meaning.{maybe_of}
 use Rattle.plain_chains.proofs.Merges.{agree_none, stays, grows, differs, agrees}
@@ -39,7 +38,7 @@ returns-then-not-same c =
       within = c.requires.1;
       is =
           differs c.args.t1 c.args.t2 c.requires.0 c.requires.1 _ c.loop-k.invariant _ _
-          (omega arith) (omega arith) (sym c.same.ensures ∙ not-true _ c.if-not-same.true);
+          (omega arith) (omega arith) (sym c.same.ensures ∙ c.if-not-same.true);
     }
 
 pub overflow_add-k : goal.overflow_add-k
@@ -51,4 +50,4 @@ loop-k-smaller c = omega arith
 pub loop-k-preserved : goal.loop-k-preserved
 loop-k-preserved c =
     agrees c.args.t1 c.args.t2 c.requires.0 c.requires.1 _ c.loop-k.invariant _ _
-    (omega arith) (omega arith) (sym c.same.ensures ∙ not-false _ c.if-not-same.false)
+    (omega arith) (omega arith) (sym c.same.ensures ∙ c.if-not-same.false)

@@ -33,5 +33,5 @@ returns-in-6 c = rw c.in-6.is (tags_by 6 218 refl)
 pub returns-in_default : goal.returns-in_default
 unfolding tried iff holds has
 returns-in_default c =
-    let r = c.in_default.rest in
+    let r = c.in_default.in_default-own.rest in
     tags_other c.args.kind 2 (no_row _ r.0.0.0.0.0.1 r.0.0.0.0.1 r.0.0.0.1 r.0.0.1 r.0.1 r.1) (tags_by 0 2 refl)

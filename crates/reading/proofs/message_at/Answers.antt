@@ -65,6 +65,6 @@ pub returns-in_default : goal.returns-in_default
 unfolding read_of place_of
 returns-in_default c =
     let k = c.args.cursor.kind in
-    let r = c.in_default.rest in
+    let r = c.in_default.in_default-own.rest in
     let none_row = no_row k r.0.0.0.0.0.1 r.0.0.0.0.1 r.0.0.0.1 r.0.0.1 r.0.1 r.1 in
     ended_made c.args.s.now (place_of c.args.cursor) k c.if-cursor-s.false refl (made_none c.args.s.now k none_row)

@@ -37,4 +37,4 @@ returns-in-5 c =
 pub returns-in_default : goal.returns-in_default
 unfolding tried has iff
 returns-in_default c =
-    rw (last_kind _ c.requires.0 c.requires.1 c.in_default.rest.0.0.0.0.1 c.in_default.rest.0.0.0.1 c.in_default.rest.0.0.1 c.in_default.rest.0.1 c.in_default.rest.1) (has_by 6 (λ t. not (eqb t 2) && not (eqb t 5) && not (eqb t 8)) refl c.args.tag (omega arith) (omega arith))
+    rw (last_kind _ c.requires.0 c.requires.1 c.in_default.in_default-own.rest.0.0.0.0.1 c.in_default.in_default-own.rest.0.0.0.1 c.in_default.in_default-own.rest.0.0.1 c.in_default.in_default-own.rest.0.1 c.in_default.in_default-own.rest.1) (has_by 6 (λ t. not (eqb t 2) && not (eqb t 5) && not (eqb t 8)) refl c.args.tag (omega arith) (omega arith))

@@ -34,4 +34,4 @@ returns-in-5 c = (rw c.in-5.is, tt)
 pub returns-in_default : goal.returns-in_default
 unfolding makes message_of
 returns-in_default c =
-    (rw (last_kind _ c.requires.0 c.requires.1 c.in_default.rest.0.0.0.0.1 c.in_default.rest.0.0.0.1 c.in_default.rest.0.0.1 c.in_default.rest.0.1 c.in_default.rest.1), tt)
+    (rw (last_kind _ c.requires.0 c.requires.1 c.in_default.in_default-own.rest.0.0.0.0.1 c.in_default.in_default-own.rest.0.0.0.1 c.in_default.in_default-own.rest.0.0.1 c.in_default.in_default-own.rest.0.1 c.in_default.in_default-own.rest.1), tt)

@@ -24,7 +24,7 @@ returns-then-same_block c =
     let a = c.args in
     let l = c.loop-i in
     sym (place_here tally_of blank (words.of_block (certificate_of a.t)) a.t1.items a.t1.count l.i (long tally_of blank room a.t1.items a.t1.count c.requires) (omega arith) l.invariant.1
-    (ap (words.same_block (certificate_of a.t)) (sym c.certificate_of.ensures) ∙ sym c.same_block_lem.ensures ∙ c.if-same_block.true))
+    (ap (words.same_block (certificate_of a.t)) (sym c.certificate_of.ensures) ∙ sym c.same_block.ensures ∙ c.if-same_block.true))
 
 pub overflow_add-i : goal.overflow_add-i
 overflow_add-i c = omega arith
@@ -39,7 +39,7 @@ loop-i-preserved c =
     let l = c.loop-i in (
       omega arith,
       place_next tally_of blank (words.of_block (certificate_of a.t)) a.t1.items a.t1.count l.i (long tally_of blank room a.t1.items a.t1.count c.requires) (omega arith) l.invariant.1
-          (ap (words.same_block (certificate_of a.t)) (sym c.certificate_of.ensures) ∙ sym c.same_block_lem.ensures ∙ c.if-same_block.false),
+          (ap (words.same_block (certificate_of a.t)) (sym c.certificate_of.ensures) ∙ sym c.same_block.ensures ∙ c.if-same_block.false),
     )
 
 pub returns : goal.returns
