@@ -1,4 +1,6 @@
 // How a station quits its view, and what blames make it do: the store changed, and what it writes into the out buffer from a place on.
+#![tactic(auto)]
+
 ghost use Rattle.std.specs.Prelude.{◌≡◌, true, [], ◌∷◌, ◌+◌, ◌^◌, ◌≤◌, ◌<◌, length};
 ghost use Rattle.std.proofs.Math.Option.{none};
 ghost use Rattle.rules.specs.Messages.{view_allowed, to_all, blame_set, outgoing};

@@ -1,4 +1,6 @@
 // Whether a message is allowed under the settings: any message, any settings.
+#![tactic(auto)]
+
 ghost use Rattle.std.specs.Prelude.{◌≡◌};
 ghost use Rattle.rules.specs.Messages.{allowed};
 ghost use Rattle.settings.specs.Made.{settings_of};

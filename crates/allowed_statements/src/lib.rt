@@ -1,4 +1,6 @@
 // Whether a statement is allowed under the settings: any statement, any settings.
+#![tactic(auto)]
+
 ghost use Rattle.std.specs.Prelude.{◌≡◌, true, false};
 ghost use Rattle.std.proofs.Math.Option.{none};
 ghost use Rattle.rules.specs.Messages.{allowed};

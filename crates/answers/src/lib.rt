@@ -1,4 +1,6 @@
 // What a statement does to a well-formed store by its plan, and what it makes the station write into the out buffer from a place on.
+#![tactic(auto)]
+
 ghost use Rattle.std.specs.Prelude.{◌≡◌, true, ◌+◌, ◌≤◌, length};
 ghost use Rattle.std.proofs.Math.Option.{none};
 ghost use Rattle.rules.specs.Words.{message as said, own_block};

@@ -1,4 +1,6 @@
 // Tallies are allowed, and no two are of one block: each is looked for on its chain among those behind it, and then hangs before them.
+#![tactic(auto)]
+
 ghost use Rattle.std.specs.Prelude.{◌+◌, ◌≤◌, ◌<◌, length};
 ghost use Rattle.rules.specs.Limits.{most_stations};
 ghost use Rattle.settings.specs.Made.{settings_of};

@@ -1,5 +1,7 @@
 // Every statement has its tallies: of its own block and of the block that it certifies, each looked for among the tallies.
 // A block is told by its view and height as one number and by its name where it lies.
+#![tactic(auto)]
+
 ghost use Rattle.std.specs.Prelude.{◌≡◌, ◌+◌, ◌*◌, ◌^◌, ◌≤◌, ◌<◌, length};
 ghost use Rattle.rules.specs.Limits.{small, most_statements};
 ghost use Rattle.rules.specs.Lists.{any};
@@ -20,7 +22,7 @@ use stated::CERT;
 use store::{LINK, NAME, STATEMENT_SIZE, STATEMENTS};
 
 // The block that a statement certifies: view and height, the place of its name, and the salt stirred with all of it.
-#[derive(Drop)]
+#[derive(Clone, Copy)]
 pub struct Certified {
     pub key: u64,
     pub at: usize,
@@ -28,7 +30,7 @@ pub struct Certified {
 }
 
 // A statement's own block: view and height, the salt stirred with it, and whether its tally was found before.
-#[derive(Drop)]
+#[derive(Clone, Copy)]
 pub struct Own {
     pub key: u64,
     pub mixed: u64,

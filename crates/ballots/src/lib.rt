@@ -1,4 +1,6 @@
 // A vote for a stored statement: noted in the store, joined to its tally, and written behind the statement.
+#![tactic(auto)]
+
 ghost use Rattle.std.specs.Prelude.{◌≡◌, ◌+◌, ◌≤◌, length};
 ghost use Rattle.std.proofs.Math.Option.{none};
 ghost use Rattle.rules.specs.Words.{own_block};

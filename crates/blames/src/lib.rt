@@ -1,4 +1,6 @@
 // The blame masks of a store.
+#![tactic(auto)]
+
 ghost use Rattle.std.specs.Prelude.{◌≡◌, length};
 ghost use Rattle.rules.specs.WellFormed.{blames_good};
 ghost use Rattle.settings.specs.Made.{settings_of};

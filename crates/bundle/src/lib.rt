@@ -1,4 +1,6 @@
 // Writing a flat relay envelope: all messages are looked at first, so that a refusal writes nothing.
+#![tactic(auto)]
+
 ghost use Rattle.std.specs.Prelude.{◌≡◌, ◌+◌, ◌*◌};
 ghost use Rattle.outgoing.specs.Wrote.{wrote};
 ghost use Rattle.slots.specs.Slots.{written};
@@ -6,7 +8,7 @@ ghost use Rattle.bundle.specs.Writing.{is_message_at, bundled, writing};
 ghost use Rattle.bundle.specs.Meaning.{total_of, bundle_in, MayWrite};
 
 // The bytes of an envelope that may be written.
-#[derive(Drop)]
+#[derive(Clone, Copy)]
 enum Total {
     Fits(usize),
     Refused,

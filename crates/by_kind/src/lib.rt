@@ -1,4 +1,6 @@
 // Messages into an out buffer, a writer for each kind. It answers the place after what it wrote; a caller shows that there is room for it.
+#![tactic(auto)]
+
 ghost use Rattle.std.specs.Prelude.{true, false, ◌≡◌, ◌+◌, ◌^◌, ◌<◌, ◌≤◌, length};
 ghost use Rattle.std.proofs.Math.Option.{none};
 ghost use Rattle.fields.specs.Names.{name_of};

@@ -1,6 +1,8 @@
 // What is looked up among the tallies of a store: a block's voters, how many an author opened, and the highest certificate of an
 // earlier view; nothing here writes to the store.
 // A caller shows that the store has its form; all else is exact.
+#![tactic(auto)]
+
 ghost use Rattle.std.specs.Prelude.{◌≡◌, ◌<◌, length};
 ghost use Rattle.rules.specs.Limits.{mask_bits, most_tallies};
 ghost use Rattle.rules.specs.Words as words;

@@ -1,4 +1,6 @@
 // The call that tells when a block was certified: the clock at which its tally first had a quorum in this store. The store is only read.
+#![tactic(auto)]
+
 ghost use Rattle.std.specs.Prelude.{◌≡◌};
 ghost use Rattle.rules.specs.Words.{reached_of};
 ghost use Rattle.fields.specs.Names.{name_of};

@@ -1,5 +1,7 @@
 // Chains of a table's records, made anew in each check, so that a record is compared with those of its own chain alone.
 // Which chain goes by every word of a block and by a salt; a walk along a chain is exact whatever names were chosen.
+#![tactic(auto)]
+
 ghost use Rattle.std.specs.Prelude.{◌≡◌, ◌+◌, ◌*◌, ◌<◌, ◌≤◌, length, slice_set};
 ghost use Rattle.rules.specs.Limits.{most_tallies_large};
 ghost use Rattle.rules.specs.Lists.{any};

@@ -1,4 +1,6 @@
 // Two reports, and the certificate part of the one with the higher rank: a part of one of two lent slices, no byte copied.
+#![tactic(auto)]
+
 ghost use Rattle.std.specs.Prelude.{◌≡◌};
 ghost use Rattle.settings.specs.Made.{settings_of};
 ghost use Rattle.choose.specs.Choose.{report, taken as takenIn, taken_of, chosen};
@@ -8,14 +10,14 @@ use settings::{Made, Settings};
 use wire::{Message, Read};
 
 // What a message reports: the rank of its certificate; or it is no report.
-#[derive(Drop)]
+#[derive(Clone, Copy)]
 pub enum Report {
     Certified { view: u32, height: u32 },
     Nothing,
 }
 
 // Whose part is taken.
-#[derive(Drop)]
+#[derive(Clone, Copy)]
 pub enum Choice {
     First,
     Second,

@@ -1,4 +1,6 @@
 // The clauses of 'allowed', each a test for any numbers and any settings. Tests are joined by `&`, so that none has a branch for another.
+#![tactic(auto)]
+
 ghost use Rattle.std.specs.Prelude.{◌≡◌, ◌^◌, eqb, ltb};
 ghost use Rattle.fields.specs.Names.{name_of};
 ghost use Rattle.rules.specs.Messages.{view_allowed, block_allowed, mask_allowed, certificate_allowed};

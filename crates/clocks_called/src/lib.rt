@@ -1,1 +1,2 @@
 // No code: proofs/ shows of stores and calls what crates/clocks shows of the rules.
+#![tactic(auto)]

@@ -1,5 +1,7 @@
 // The commit stage of a tick: the log that the chains of the due statements make, as places of statements in small local tables.
 // The store is only read; a caller shows that it has the form.
+#![tactic(auto)]
+
 ghost use Rattle.std.specs.Prelude.{◌≡◌, length, ◌^◌, ◌<◌, ◌≤◌, true};
 ghost use Rattle.rules.specs.Lists.{keep};
 ghost use Rattle.rules.specs.Limits.{most_statements, most_statements_large};

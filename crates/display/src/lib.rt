@@ -1,5 +1,7 @@
 // The call for the wall display: each propose voted for in the view now held and not yet in the log, with the ticks left until its commit is due.
 // The store is only read, and every byte left in the out buffer is said.
+#![tactic(auto)]
+
 ghost use Rattle.std.specs.Prelude.{◌≡◌, ◌++◌, ◌+◌, ◌≤◌, ◌<◌, length};
 ghost use Rattle.std.proofs.Math.IntN.{sub_ℕ};
 ghost use Rattle.rules.specs.Limits.{least_out};

@@ -1,5 +1,7 @@
 // Outgoing fields, written into an out buffer from a place on: a message to all or to one station, a committed block.
 // A caller shows that there is room, and that a new-view's certificate view fits its 4 bytes; no other byte changes.
+#![tactic(auto)]
+
 ghost use Rattle.std.specs.Prelude.{◌+◌, ◌≤◌, length};
 ghost use Rattle.fields.specs.Names.{name_of};
 ghost use Rattle.rules.specs.Messages.{to_all, to_one, committed, effect};

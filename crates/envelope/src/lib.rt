@@ -1,4 +1,6 @@
 // Reading a relay envelope: its items are counted first, and then listed, so that a refusal lists nothing.
+#![tactic(auto)]
+
 ghost use Rattle.std.specs.Prelude.{◌≡◌, true, ◌≤◌, length};
 ghost use Rattle.outgoing.specs.Wrote.{wrote};
 ghost use Rattle.slots.specs.Slots.{written};

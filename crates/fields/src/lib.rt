@@ -1,11 +1,13 @@
 // Numbers and block names at places of a byte slice, big-endian.
 // A caller shows that the place lies in the slice; all else is exact.
+#![tactic(auto)]
+
 ghost use Rattle.std.specs.Prelude.{◌≡◌, ◌+◌, ◌^◌, ◌≤◌, ◌<◌, length, eqb, ltb};
 ghost use Rattle.fields.specs.Places.{number, put as written};
 ghost use Rattle.fields.specs.Names.{name_of};
 
 // A block's name, 32 bytes as four words, the first word the highest.
-#[derive(Drop)]
+#[derive(Clone, Copy)]
 pub struct Name {
     pub first: u64,
     pub second: u64,

@@ -1,4 +1,6 @@
 // The form of a store: counts in range, unused records zero, every kind 1 or 2.
+#![tactic(auto)]
+
 ghost use Rattle.std.specs.Prelude.{◌≡◌, ◌+◌, ◌*◌, ◌≤◌, length};
 ghost use Rattle.rules.specs.Lists.{all, within};
 ghost use Rattle.store.specs.Layout.{statement_table};

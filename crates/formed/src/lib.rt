@@ -1,5 +1,7 @@
 // The check that a lent store is well formed, part by part: the form, then the heading and the statements, then the other tables.
 // Any bytes of a store's length are taken; parts after the form know that the counts are in range.
+#![tactic(auto)]
+
 ghost use Rattle.std.specs.Prelude.{◌≡◌, ◌&&◌, length, replicate};
 ghost use Rattle.rules.specs.Limits.{most_statements_large};
 ghost use Rattle.rules.specs.WellFormed.{well_formed};

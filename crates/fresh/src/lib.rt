@@ -1,4 +1,6 @@
 // A fresh store.
+#![tactic(auto)]
+
 ghost use Rattle.std.specs.Prelude.{◌≡◌};
 ghost use Rattle.rules.specs.Words.{fresh};
 ghost use Rattle.settings.specs.Made.{settings_of};

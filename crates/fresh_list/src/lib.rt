@@ -1,4 +1,6 @@
 // A fresh list for the plain engine, of whatever bytes a host lends.
+#![tactic(auto)]
+
 ghost use Rattle.std.specs.Prelude.{◌≡◌};
 ghost use Rattle.lent_list.specs.Plain.{left, plain_fresh};
 

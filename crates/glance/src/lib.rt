@@ -1,5 +1,7 @@
 // What is seen of the statements before a tick: how many of its view were voted for, and from where on something due may be new to the log.
 // The store is only read; a caller shows that it has the form.
+#![tactic(auto)]
+
 ghost use Rattle.std.specs.Prelude.{◌≡◌, length, get_or, ◌+◌, ◌-◌, ◌<◌, ◌≤◌, eqb, true};
 ghost use Rattle.rules.specs.Limits.{most_statements, most_statements_large};
 ghost use Rattle.rules.specs.WellFormed.{well_formed};
@@ -14,7 +16,7 @@ use settings::Settings;
 use store::{STATEMENT_SIZE, STATEMENTS, Station, VIEW};
 
 // How many proposes of the view were voted for, and a place: the check told of each due statement below it.
-#[derive(Drop)]
+#[derive(Clone, Copy)]
 pub struct Glance {
     pub votes: usize,
     pub settled: usize,

@@ -1,4 +1,6 @@
 // A group as calls without a store are told of it: a kind and a number of stations.
+#![tactic(auto)]
+
 ghost use Rattle.std.specs.Prelude.{◌≡◌};
 ghost use Rattle.groups.specs.Groups.{group};
 ghost use Rattle.settings.specs.Made.{made_of};

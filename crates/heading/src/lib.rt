@@ -1,4 +1,6 @@
 // The header of a store: settings and view in range, clocks in order, the lock a certificate of an earlier view.
+#![tactic(auto)]
+
 ghost use Rattle.std.specs.Prelude.{◌≡◌, ◌&&◌};
 ghost use Rattle.rules.specs.Sizes.{good_settings};
 ghost use Rattle.rules.specs.Messages.{view_allowed};

@@ -1,4 +1,6 @@
 // What a word says in hex: bytes, or a name.
+#![tactic(auto)]
+
 ghost use Rattle.std.specs.Prelude.{◌≡◌, ◌+◌, ◌≤◌, ◌-◌, ◌/◌, length};
 ghost use Rattle.rules.specs.Lists.{all};
 ghost use Rattle.outgoing.specs.Wrote.{wrote};
@@ -8,7 +10,7 @@ ghost use Rattle.hex_words.specs.Meaning.{named_of};
 use fields::Name;
 
 // A name, or none.
-#[derive(Drop)]
+#[derive(Clone, Copy)]
 pub enum Named {
     Is(Name),
     Not,

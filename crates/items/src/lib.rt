@@ -1,4 +1,6 @@
 // The items of a relay envelope, read and counted in a cycle of two functions: an item may be an envelope.
+#![tactic(auto)]
+
 ghost use Rattle.std.specs.Prelude.{suc};
 ghost use Rattle.items.specs.Reading.{inside, envelope_in};
 ghost use Rattle.items.specs.Meaning.{FirstOf, AllOf};
@@ -13,14 +15,14 @@ pub const ENVELOPE_TAG: u8 = 0x30;
 const MESSAGE_TAG: u8 = 0x31;
 
 // An item: its bytes, and the messages in it.
-#[derive(Drop)]
+#[derive(Clone, Copy)]
 enum Item {
     Good { size: usize, count: usize },
     Bad,
 }
 
 // The messages in a list of items.
-#[derive(Drop)]
+#[derive(Clone, Copy)]
 pub enum Count {
     All(usize),
     Broken,

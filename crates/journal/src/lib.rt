@@ -1,4 +1,6 @@
 // A journal over slots: the place for the next record, and writing it there.
+#![tactic(auto)]
+
 ghost use Rattle.std.specs.Prelude.{◌≡◌, ◌<◌};
 ghost use Rattle.slots.specs.Slots.{judged, written};
 ghost use Rattle.slot_reader.specs.Meaning.{Judged};
@@ -8,7 +10,7 @@ ghost use Rattle.journal.specs.Meaning.{Found};
 use slot_reader::Slot;
 
 // The place for the next record, and its number.
-#[derive(Drop)]
+#[derive(Clone, Copy)]
 enum Room {
     Free { records: u64, place: usize },
     Nowhere,

@@ -1,4 +1,6 @@
 // Which answers of the station keep an input in a journal.
+#![tactic(auto)]
+
 ghost use Rattle.std.specs.Prelude.{◌≡◌};
 ghost use Rattle.keeping.specs.Taken.{is_taken};
 

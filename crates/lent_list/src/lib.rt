@@ -1,4 +1,6 @@
 // The list that a host lends to the plain engine, as it is read: its length, its form, and the inputs that it holds.
+#![tactic(auto)]
+
 ghost use Rattle.std.specs.Prelude.{◌≡◌, true, ◌<◌};
 ghost use Rattle.settings.specs.Made.{settings_of};
 ghost use Rattle.settings.specs.declared.Size.TheVariants.{Small};
@@ -103,7 +105,7 @@ pub fn has_form(list: &[u8]) -> bool
 }
 
 // What the slot of a place holds: an input, or none.
-#[derive(Drop)]
+#[derive(Clone, Copy)]
 pub enum Held {
     Input { kind: u64, start: usize, end: usize },
     Nothing,

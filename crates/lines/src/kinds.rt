@@ -11,7 +11,7 @@ use parts::{Flaw, Part, Place};
 use wire::{Message, Statement};
 
 // A message, or what is wrong with it.
-#[derive(Drop)]
+#[derive(Clone, Copy)]
 pub enum Heard {
     Is(Message),
     Wrong(Flaw),

@@ -1,4 +1,6 @@
 // What a line of a script means, read from its bytes. docs/SCRIPT.md has the form, specs/Script.antt says it exactly.
+#![tactic(auto)]
+
 ghost use Rattle.std.specs.Prelude.{◌≤◌, [], length, drop};
 ghost use Rattle.rules.specs.Lists.{unbe};
 ghost use Rattle.fields.specs.Names.{name_of};
@@ -14,7 +16,7 @@ mod kinds;
 
 // What the bytes of a line are: a message, an offered name, an envelope, the name of a slip, the name of a block of a view and a height,
 // or two messages, the first of so many bytes.
-#[derive(Drop)]
+#[derive(Clone, Copy)]
 pub enum What {
     Message,
     Offer,
@@ -25,7 +27,7 @@ pub enum What {
 }
 
 // What a line asks for. Its bytes stand at the start of the lent buffer.
-#[derive(Drop)]
+#[derive(Clone, Copy)]
 pub enum Line {
     Blank,
     Fresh { n: u64, delay: u64, own: u64 },
@@ -38,7 +40,7 @@ pub enum Line {
 }
 
 // What a line of one word asks for.
-#[derive(Drop)]
+#[derive(Clone, Copy)]
 enum Asked {
     Log,
     State,

@@ -1,4 +1,6 @@
 // The log of a store: linked by parent to genesis, through stored proposes, which hang by their height; and what of it the tick is told.
+#![tactic(auto)]
+
 ghost use Rattle.std.specs.Prelude.{◌≡◌, ◌+◌, ◌≤◌, ◌<◌, length, replicate, eqb};
 ghost use Rattle.rules.specs.Limits.{most_statements, most_statements_large};
 ghost use Rattle.rules.specs.Inputs.{is_block};
@@ -70,7 +72,7 @@ fn is_above(store: &[u8], i: usize, k: usize) -> bool
 
 // How many statements are left from the first propose of a logged name on that is above the name below, 0 where there is none; and
 // whether it is also the first of that name.
-#[derive(Drop)]
+#[derive(Clone, Copy)]
 struct Sought {
     rest: usize,
     foremost: bool,

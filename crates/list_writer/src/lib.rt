@@ -1,4 +1,6 @@
 // One input more in the list that a host lends to the plain engine.
+#![tactic(auto)]
+
 ghost use Rattle.std.specs.Prelude.{◌≡◌, true, false, ◌<◌, ◌≤◌, ◌^◌, length};
 ghost use Rattle.slots.specs.Slots.{is_input, is_kept};
 ghost use Rattle.lent_list.specs.Lists.{has_length, is_full, added};

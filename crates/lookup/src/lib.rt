@@ -1,5 +1,7 @@
 // The search of a table by a block: of records of one size, each of which begins with a view, a height and a name.
 // A caller shows that the table lies in the slice; all else is exact.
+#![tactic(auto)]
+
 ghost use Rattle.std.specs.Prelude.{◌≡◌, ◌+◌, ◌-◌, ◌*◌, ◌≤◌, ◌<◌, length, eqb};
 ghost use Rattle.fields.specs.Places.{number};
 ghost use Rattle.fields.specs.Names.{name_of};

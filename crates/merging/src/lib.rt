@@ -1,5 +1,7 @@
 // How a whole chain joins the log that a tick has so far, both by places of statements in small local tables.
 // The store is only read; a caller shows that it has the form.
+#![tactic(auto)]
+
 ghost use Rattle.std.specs.Prelude.{◌≡◌, length, get_or, ◌<◌, ◌≤◌};
 ghost use Rattle.rules.specs.Limits.{most_statements};
 ghost use Rattle.fields.specs.Names.{name_of};
@@ -10,7 +12,7 @@ ghost use Rattle.merging.specs.Joins.{name_so_far, WholeChain, Agree, Copied, Jo
 use fields::Name;
 
 // The log is so long now, or a chain differs from it.
-#[derive(Drop)]
+#[derive(Clone, Copy)]
 pub enum Merged {
     Grown(usize),
     Differs,

@@ -1,4 +1,6 @@
 // A message that is allowed, by its kind, as an outcome in the two buffers: done, or the station stops for want of room.
+#![tactic(auto)]
+
 ghost use Rattle.std.specs.Prelude.{◌≡◌, true, ◌+◌, ◌^◌, ◌≤◌, ◌<◌, length, ltb};
 ghost use Rattle.std.proofs.Math.Option.{none};
 ghost use Rattle.rules.specs.Limits.{most_stations, mask_bits, last_clock};

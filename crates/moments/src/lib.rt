@@ -1,5 +1,7 @@
 // When the parts of a tick are due, by the numbers of a loaded station: its blame, the leader's new-view, the entry into the next view.
 // The store is only read.
+#![tactic(auto)]
+
 ghost use Rattle.std.specs.Prelude.{◌≡◌, ◌+◌, ◌^◌, ◌≤◌, ◌<◌, eqb};
 ghost use Rattle.rules.specs.Inputs as inputs;
 ghost use Rattle.store.specs.Decode.{state_of, Form};

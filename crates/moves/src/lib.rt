@@ -1,4 +1,6 @@
 // What a tick does once it is decided, and what is asked before: whether its new-view has room, and whether anything but the log is due.
+#![tactic(auto)]
+
 ghost use Rattle.std.specs.Prelude.{◌≡◌, true, ◌+◌, ◌*◌, ◌≤◌, length};
 ghost use Rattle.rules.specs.Limits.{most_statements};
 ghost use Rattle.rules.specs.Inputs as inputs;

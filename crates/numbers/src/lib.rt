@@ -1,4 +1,6 @@
 // What a word says as a number or as a mask, and what a digit says.
+#![tactic(auto)]
+
 ghost use Rattle.std.specs.Prelude.{◌≡◌, ◌<◌};
 ghost use Rattle.rules.specs.Lists.{within};
 ghost use Rattle.text.specs.Words.{is_decimal, digit, decimal, mask};
@@ -7,7 +9,7 @@ ghost use Rattle.numbers.specs.Meaning.{number_of};
 use text::Over;
 
 // A number, or none.
-#[derive(Drop)]
+#[derive(Clone, Copy)]
 pub enum Number {
     Is(u64),
     Not,

@@ -1,4 +1,6 @@
 // Whether an offered name is to be taken, and the propose that it makes.
+#![tactic(auto)]
+
 ghost use Rattle.std.specs.Prelude.{◌≡◌, ◌+◌};
 ghost use Rattle.rules.specs.Inputs as inputs;
 ghost use Rattle.fields.specs.Names.{name_of};
@@ -12,7 +14,7 @@ use store::{Found, Station};
 use wire::Statement;
 
 // What an offer makes.
-#[derive(Drop)]
+#[derive(Clone, Copy)]
 pub enum Offer {
     Taken(Statement),
     NotTaken,

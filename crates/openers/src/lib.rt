@@ -1,4 +1,6 @@
 // Who opened how many tallies: none more than one may.
+#![tactic(auto)]
+
 ghost use Rattle.std.specs.Prelude.{◌≡◌, ◌≤◌};
 ghost use Rattle.rules.specs.Limits.{most_stations};
 ghost use Rattle.rules.specs.WellFormed.{few_opened};

@@ -1,4 +1,6 @@
 // Fields into an out buffer from a place on. A writer answers the place after what it wrote; a caller shows that there is room for it.
+#![tactic(auto)]
+
 ghost use Rattle.std.specs.Prelude.{[], ◌∷◌, ◌≡◌, ◌+◌, ◌^◌, ◌<◌, ◌≤◌, length};
 ghost use Rattle.fields.specs.Names.{name_of};
 ghost use Rattle.rules.specs.Lists.{unbe};

@@ -1,4 +1,6 @@
 // The fields of a line. A field is known by its tag on the wire; a plain number, as those of `fresh` and `tick`, has tag 0.
+#![tactic(auto)]
+
 ghost use Rattle.std.specs.Prelude.{[], ◌≡◌, ◌≤◌, ◌<◌, length, drop};
 ghost use Rattle.parts.specs.Fields.{says, flaw_of, field_of, unlabelled};
 ghost use Rattle.text.specs.Places.{WordOf};
@@ -12,7 +14,7 @@ use text::Span;
 
 // What is wrong with a line: the first word is unknown; a word is missing; a word is too many; a number, hex, a name or a mask isn't
 // one, or is too large for its field; the bytes have no room.
-#[derive(Drop)]
+#[derive(Clone, Copy)]
 pub enum Flaw {
     Word,
     Missing,
@@ -25,7 +27,7 @@ pub enum Flaw {
 }
 
 // The sort of a field: a number up to the largest, a name or a mask.
-#[derive(Drop)]
+#[derive(Clone, Copy)]
 pub enum Sort {
     Number(u64),
     Name,
@@ -33,14 +35,14 @@ pub enum Sort {
 }
 
 // How far a line was read, or what is wrong with it.
-#[derive(Drop)]
+#[derive(Clone, Copy)]
 pub enum Place {
     At(usize),
     Wrong(Flaw),
 }
 
 // What a field says, a number as the last word of a name, and how far the line was read with it.
-#[derive(Drop)]
+#[derive(Clone, Copy)]
 pub struct Part {
     pub value: Name,
     pub next: Place,

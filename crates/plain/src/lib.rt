@@ -1,4 +1,6 @@
 // The plain engine's calls: each works out its answer from the whole list, straight from the rules.
+#![tactic(auto)]
+
 ghost use Rattle.std.specs.Prelude.{◌≡◌};
 ghost use Rattle.lent_list.specs.Plain.{plain_step, plain_tick, plain_offer, Gives as Answers, left, plain_log};
 

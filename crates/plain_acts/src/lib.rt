@@ -1,5 +1,7 @@
 // What a rule does to a station held by value, and what it says: the parts that messages, offers and ticks share, each straight from
 // its definition. What is said goes into an out buffer from a place on.
+#![tactic(auto)]
+
 ghost use Rattle.std.specs.Prelude.{◌≡◌, [], ◌+◌, ◌<◌, ◌≤◌, length};
 ghost use Rattle.std.proofs.Math.Option.{none};
 ghost use Rattle.rules.specs.Limits.{mask_bits, last_view_small};
@@ -23,7 +25,7 @@ use plain_words::Certificate;
 use wire::{Message, Statement};
 
 // A station on the way, and the place where what it said ends.
-#[derive(Drop)]
+#[derive(Clone, Copy)]
 pub struct Work {
     pub engine: Engine,
     pub at: usize,

@@ -1,4 +1,6 @@
 // What the plain engine answers of the state that its whole list gives: the rules' answer to an input, or the log.
+#![tactic(auto)]
+
 ghost use Rattle.std.specs.Prelude.{◌≡◌, true};
 ghost use Rattle.lent_list.specs.Lists.{has_length, has_form, input_of};
 ghost use Rattle.lent_list.specs.Plain.{held, plainly, Gives as Answers, left, plain_log};
@@ -9,7 +11,7 @@ use plain_tables::Engine;
 use settings::Settings;
 
 // A state that a fold came to, or that it came to none.
-#[derive(Drop)]
+#[derive(Clone, Copy)]
 struct Folded {
     good: bool,
     engine: Engine,

@@ -1,4 +1,6 @@
 // What a station held by value does in a view that it has entered, for the plain engine, each function straight from its definition.
+#![tactic(auto)]
+
 ghost use Rattle.std.specs.Prelude.{◌+◌, ◌*◌, ◌<◌, ◌≤◌, length};
 ghost use Rattle.rules.specs.Inputs as inputs;
 ghost use Rattle.plain_words.specs.Places.{Within};

@@ -1,4 +1,6 @@
 // The blame of a tick on a station held by value, for the plain engine, straight from its definition.
+#![tactic(auto)]
+
 ghost use Rattle.std.specs.Prelude.{◌≡◌, ◌+◌, ◌*◌, ◌≤◌, length};
 ghost use Rattle.rules.specs.Limits.{last_view_small, most_delay};
 ghost use Rattle.rules.specs.Inputs as inputs;

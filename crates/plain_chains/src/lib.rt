@@ -1,4 +1,6 @@
 // A block's chain, and how it joins the log, held by value: for the plain engine, each straight from its definition.
+#![tactic(auto)]
+
 ghost use Rattle.std.specs.Prelude.{◌≡◌, ◌<◌, ◌-◌};
 ghost use Rattle.fields.specs.Names.{name_of};
 ghost use Rattle.rules.specs.Lists.{first};
@@ -13,7 +15,7 @@ use plain_statements::{Found, Held, Statements};
 use plain_tables::{NAMES, Names};
 
 // Names, or none.
-#[derive(Drop)]
+#[derive(Clone, Copy)]
 pub struct Maybe {
     pub some: bool,
     pub names: Names,

@@ -1,4 +1,6 @@
 // An input of the plain engine's list, handed to a station held by value: a tick, an offered name or a message, by its kind.
+#![tactic(auto)]
+
 ghost use Rattle.std.specs.Prelude.{◌≡◌, ◌≤◌, length};
 ghost use Rattle.rules.specs.Limits.{least_out_small};
 ghost use Rattle.lent_list.specs.Lists.{input_of};

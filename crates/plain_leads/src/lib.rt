@@ -1,4 +1,6 @@
 // The leader's new-view on a station held by value, for the plain engine, straight from its definition.
+#![tactic(auto)]
+
 ghost use Rattle.std.specs.Prelude.{◌≡◌, ◌+◌, ◌≤◌, length};
 ghost use Rattle.rules.specs.Inputs as inputs;
 ghost use Rattle.wire.specs.Meaning.{message_of};

@@ -1,4 +1,6 @@
 // What bars a call of the plain engine before the rules are asked: a length, or the form of its list.
+#![tactic(auto)]
+
 ghost use Rattle.std.specs.Prelude.{◌≡◌};
 ghost use Rattle.plain_lists.specs.Meaning.{bar};
 

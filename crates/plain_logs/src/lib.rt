@@ -1,4 +1,6 @@
 // The commit stage of a tick on a station held by value, for the plain engine: the new log, or none, and what of it is reported.
+#![tactic(auto)]
+
 ghost use Rattle.std.specs.Prelude.{◌≡◌, suc, ◌+◌, ◌-◌, ◌*◌, ◌<◌, ◌≤◌, length, drop};
 ghost use Rattle.rules.specs.Messages.{outgoing};
 ghost use Rattle.rules.specs.Inputs as inputs;

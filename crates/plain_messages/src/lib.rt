@@ -1,4 +1,6 @@
 // What a message does to a station held by value, each function straight from its definition.
+#![tactic(auto)]
+
 ghost use Rattle.std.specs.Prelude.{◌≡◌, true, [], ◌∷◌, ◌+◌, ◌≤◌, length};
 ghost use Rattle.std.proofs.Math.Option.{none};
 ghost use Rattle.rules.specs.Messages.{allowed, to_all, outgoing};

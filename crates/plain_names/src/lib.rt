@@ -1,4 +1,6 @@
 // The names of a log held by value, written out for the plain engine.
+#![tactic(auto)]
+
 ghost use Rattle.std.specs.Prelude.{◌≡◌, ◌+◌, ◌*◌, ◌≤◌, length};
 ghost use Rattle.rules.specs.Lists.{unbe};
 ghost use Rattle.fields.specs.Names.{name_of};

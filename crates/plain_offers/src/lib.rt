@@ -1,4 +1,6 @@
 // What the offer of a name to a station held by value makes, and what it is answered, each function straight from its definition.
+#![tactic(auto)]
+
 ghost use Rattle.std.specs.Prelude.{◌≡◌, ◌^◌, ◌<◌, ◌≤◌, length};
 ghost use Rattle.std.proofs.Math.Option.{none};
 ghost use Rattle.rules.specs.Inputs as inputs;
@@ -18,7 +20,7 @@ use settings::Settings;
 use wire::{Message, Statement};
 
 // What an offer makes, if it is to be taken: a propose.
-#[derive(Drop)]
+#[derive(Clone, Copy)]
 pub enum Made {
     Propose(Statement),
     Nothing,

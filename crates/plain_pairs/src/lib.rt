@@ -1,4 +1,6 @@
 // Two stored statements that conflict, held by value, for the plain engine, straight from the definition.
+#![tactic(auto)]
+
 ghost use Rattle.std.specs.Prelude.{◌≡◌, ◌≤◌, drop};
 ghost use Rattle.std.proofs.Math.Option.{none};
 ghost use Rattle.rules.specs.Lists.{first};
@@ -13,7 +15,7 @@ use plain_statements::{Found, Held, Statements};
 use wire::Statement;
 
 // Two statements that conflict, if there are.
-#[derive(Drop)]
+#[derive(Clone, Copy)]
 pub enum Two {
     Both(Held, Held),
     Neither,

@@ -1,5 +1,7 @@
 // The stored statements, held by value, for the plain engine. The array has the room of one statement beyond the limit, since no
 // call adds more: a rule runs first, and its tables are measured afterwards, as the definitions have it.
+#![tactic(auto)]
+
 ghost use Rattle.std.specs.Prelude.{◌≡◌, [], ◌∷◌, ◌++◌, ◌<◌};
 ghost use Rattle.std.proofs.Math.Option.{none};
 ghost use Rattle.rules.specs.Lists.{any, first, alter};
@@ -19,13 +21,13 @@ use wire::Statement;
 pub const ROOM: usize = Settings::MOST_STATEMENTS + 1;
 
 // A stored statement, with the clock of its vote.
-#[derive(Drop)]
+#[derive(Clone, Copy)]
 pub struct Held {
     pub statement: Statement,
     pub voted: Noted,
 }
 
-#[derive(Drop)]
+#[derive(Clone, Copy)]
 pub struct Statements {
     pub items: [Held; ROOM],
     pub count: usize,
@@ -33,7 +35,7 @@ pub struct Statements {
 
 // What a search of the statements asks for: the same one, one that conflicts, a new-view of a view, or one with a name as its own
 // or its parent's.
-#[derive(Drop)]
+#[derive(Clone, Copy)]
 enum Ask {
     Same(Statement),
     Conflict(Statement),
@@ -42,7 +44,7 @@ enum Ask {
 }
 
 // What a search of the statements finds.
-#[derive(Drop)]
+#[derive(Clone, Copy)]
 pub enum Found {
     Here(Held),
     Nowhere,

@@ -1,4 +1,6 @@
 // A station held by value, for the plain engine: its tables, its log and the rest of its state.
+#![tactic(auto)]
+
 ghost use Rattle.std.specs.Prelude.{◌≡◌, true, []};
 ghost use Rattle.rules.specs.Sizes.{good_settings};
 ghost use Rattle.rules.specs.Words as words;
@@ -18,20 +20,20 @@ pub const NAMES: usize = Settings::MOST_STATEMENTS + 1;
 pub const VIEWS: usize = Settings::LAST_VIEW as usize + 1;
 
 // Names by ascending height, from height 1: a log or a chain.
-#[derive(Drop)]
+#[derive(Clone, Copy)]
 pub struct Names {
     pub items: [Name; NAMES],
     pub count: usize,
 }
 
-#[derive(Drop)]
+#[derive(Clone, Copy)]
 pub enum Cause {
     Full,
     Split,
     Clock,
 }
 
-#[derive(Drop)]
+#[derive(Clone, Copy)]
 pub enum Phase {
     InView,
     Waiting(u32),
@@ -39,7 +41,7 @@ pub enum Phase {
 }
 
 // A station.
-#[derive(Drop)]
+#[derive(Clone, Copy)]
 pub struct Engine {
     pub settings: Settings,
     pub phase: Phase,

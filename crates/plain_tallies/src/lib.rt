@@ -1,5 +1,7 @@
 // The tallies, held by value, for the plain engine. The array has the room of three tallies beyond the limit: no call adds more than
 // two, and a joining asks for a free place. So a rule runs first, and its tables are measured afterwards, as the definitions have it.
+#![tactic(auto)]
+
 ghost use Rattle.std.specs.Prelude.{◌≡◌, [], ◌<◌};
 ghost use Rattle.rules.specs.Lists.{any};
 ghost use Rattle.rules.specs.Words as words;
@@ -16,14 +18,14 @@ use settings::Settings;
 pub const ROOM: usize = Settings::MOST_TALLIES + 3;
 
 // Who opened a tally: nobody, or the author of a vote.
-#[derive(Drop)]
+#[derive(Clone, Copy)]
 pub enum Opener {
     Nobody,
     Author(u8),
 }
 
 // A tally, with who opened it, and the clock at which it first reached a quorum.
-#[derive(Drop)]
+#[derive(Clone, Copy)]
 pub struct Tally {
     pub view: u32,
     pub height: u32,
@@ -33,14 +35,14 @@ pub struct Tally {
     pub reached: Noted,
 }
 
-#[derive(Drop)]
+#[derive(Clone, Copy)]
 pub struct Tallies {
     pub items: [Tally; ROOM],
     pub count: usize,
 }
 
 // What a joining is told: the settings, the clock, and who opens the tally if it is missing.
-#[derive(Drop)]
+#[derive(Clone, Copy)]
 pub struct Moment {
     pub settings: Settings,
     pub clock: u32,

@@ -1,4 +1,6 @@
 // A tick of a station held by value, for the plain engine: the refusals in their order, each function straight from its definition.
+#![tactic(auto)]
+
 ghost use Rattle.std.specs.Prelude.{◌≡◌, true, ◌<◌, ◌≤◌, length};
 ghost use Rattle.rules.specs.Limits.{last_clock, least_out_small};
 ghost use Rattle.rules.specs.Refusals as refusals;

@@ -1,5 +1,7 @@
 // What a message to a station held by value is answered, and what it leaves: the refusals in their order, each function straight from
 // its definition. What is said goes into a buffer from its start on.
+#![tactic(auto)]
+
 ghost use Rattle.std.specs.Prelude.{◌≡◌, true, ◌≤◌, length};
 ghost use Rattle.rules.specs.Messages.{view_of, allowed};
 ghost use Rattle.rules.specs.Refusals as refusals;
@@ -15,7 +17,7 @@ use settings::Settings;
 use wire::{Message, Read};
 
 // The number of the answer, how many bytes were written, and the station that is left.
-#[derive(Drop)]
+#[derive(Clone, Copy)]
 pub struct Turn {
     pub number: u64,
     pub count: usize,

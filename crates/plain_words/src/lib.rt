@@ -1,5 +1,7 @@
 // 01's words over values, for the plain engine, each straight from its definition: when statements are the same and when they
 // conflict, the certificate that one carries, its own block, rank.
+#![tactic(auto)]
+
 ghost use Rattle.std.specs.Prelude.{◌≡◌, ◌^◌, ◌<◌};
 ghost use Rattle.std.proofs.Math.Option.{none};
 ghost use Rattle.rules.specs.Limits.{mask_bits};
@@ -11,7 +13,7 @@ use fields::Name;
 use wire::Statement;
 
 // A block of a view, with voters: what a statement, a vote or a status carries, and the lock.
-#[derive(Drop)]
+#[derive(Clone, Copy)]
 pub struct Certificate {
     pub view: u32,
     pub height: u32,
@@ -20,7 +22,7 @@ pub struct Certificate {
 }
 
 // A clock that was noted, or that none was.
-#[derive(Drop)]
+#[derive(Clone, Copy)]
 pub enum Noted {
     Never,
     At(u32),

@@ -1,4 +1,6 @@
 // What comes of a statement, worked out before anything is written: one search each for it and its two tallies.
+#![tactic(auto)]
+
 ghost use Rattle.std.specs.Prelude.{◌≡◌};
 ghost use Rattle.std.proofs.Math.Option.{none};
 ghost use Rattle.rules.specs.Words.{message as said};
@@ -13,7 +15,7 @@ use wire::Statement;
 
 // What comes of a statement: a repeat; a new one, with the places of the tallies of its certificate and of its own block;
 // or that no record is free.
-#[derive(Drop)]
+#[derive(Clone, Copy)]
 pub enum Plan {
     Repeat,
     New(Found, Found),

@@ -1,11 +1,13 @@
 // Walking a message field by field: one reader goes from its first field to its end, and knows its place and the kind.
+#![tactic(auto)]
+
 ghost use Rattle.std.specs.Prelude.{◌≡◌, ◌≤◌};
 ghost use Rattle.rules.specs.Messages.{width};
 ghost use Rattle.wire.specs.Fields.{is_field, has as contains, Tags, start, moved, walked};
 ghost use Rattle.reader.specs.Places.{place_of};
 
 // A place in a message, and the kind that was read before it, 0 where none was.
-#[derive(Drop)]
+#[derive(Clone, Copy)]
 pub struct Cursor {
     pub at: usize,
     pub kind: u8,

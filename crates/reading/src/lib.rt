@@ -1,5 +1,7 @@
 // Reading a message from any bytes. A kind's fields stand at the same places in all its messages, so their values are read where a
 // reader has seen them stand.
+#![tactic(auto)]
+
 ghost use Rattle.std.specs.Prelude.{◌≡◌, ◌≤◌, length};
 ghost use Rattle.rules.specs.Messages.{read};
 ghost use Rattle.wire.specs.Fields.{walked, made, ended};

@@ -1,4 +1,6 @@
 // What is written to the lent store but its tallies: statements, votes noted, blame masks, the log, and the header.
+#![tactic(auto)]
+
 ghost use Rattle.std.specs.Prelude.{◌≡◌, ◌+◌, ◌^◌, ◌≤◌, ◌<◌, length};
 ghost use Rattle.std.proofs.Math.Option.{none};
 ghost use Rattle.rules.specs.Limits.{last_view, most_statements, last_clock};

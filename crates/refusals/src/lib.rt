@@ -1,4 +1,6 @@
 // What bars every call alike.
+#![tactic(auto)]
+
 ghost use Rattle.std.specs.Prelude.{◌≡◌, replicate};
 ghost use Rattle.rules.specs.Limits.{most_statements_large};
 ghost use Rattle.refusals.specs.Barred.{barred, Checks};

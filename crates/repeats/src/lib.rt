@@ -1,5 +1,7 @@
 // No two statements are the same, and every one has its tallies: from the last one down each looks for its blocks among the tallies,
 // and for itself on its chain among the statements behind it.
+#![tactic(auto)]
+
 ghost use Rattle.std.specs.Prelude.{◌≡◌, ◌&&◌, ◌+◌, ◌<◌, length};
 ghost use Rattle.rules.specs.Limits.{most_statements};
 ghost use Rattle.rules.specs.Lists.{any, all, distinct};

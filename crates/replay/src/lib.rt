@@ -1,4 +1,6 @@
 // Replaying a journal: what was lent is looked at, its slots are replayed, and what was read is reported.
+#![tactic(auto)]
+
 ghost use Rattle.std.specs.Prelude.{◌≡◌, ◌≤◌, length};
 ghost use Rattle.fields.specs.Places.{put};
 ghost use Rattle.replay.specs.Replay.{has_lengths, replaying, replayed};

@@ -1,4 +1,6 @@
 // The names that a tick adds to the log, each reported: written by the places of their statements.
+#![tactic(auto)]
+
 ghost use Rattle.std.specs.Prelude.{length};
 ghost use Rattle.rules.specs.Inputs as inputs;
 ghost use Rattle.store.specs.Decode.{state_of};

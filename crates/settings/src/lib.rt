@@ -1,17 +1,19 @@
 // The settings of a station: the limits of 01, which code reads here and nowhere else, and what follows from n and the own number.
+#![tactic(auto)]
+
 ghost use Rattle.std.specs.Prelude.{◌≡◌, ◌<◌, ◌^◌};
 ghost use Rattle.rules.specs.Limits.{mask_bits, last_view, most_statements, most_tallies};
 ghost use Rattle.rules.specs.Sizes.{leader, quorum, only, joined, holds};
 ghost use Rattle.settings.specs.Made.{made, answer_of, answered, size_from, settings_of};
 
 // Which limits a group goes by.
-#[derive(Drop)]
+#[derive(Clone, Copy)]
 pub enum Size {
     Small,
     Large,
 }
 
-#[derive(Drop)]
+#[derive(Clone, Copy)]
 pub struct Settings {
     pub n: u64,
     pub delay: u64,
@@ -19,7 +21,7 @@ pub struct Settings {
     pub size: Size,
 }
 
-#[derive(Drop)]
+#[derive(Clone, Copy)]
 pub enum Made {
     Good(Settings),
     Bad,

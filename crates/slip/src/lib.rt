@@ -1,4 +1,6 @@
 // The checker of slips: a block name and the proposes from that block down to height 1. It knows messages and settings, and nothing of a store.
+#![tactic(auto)]
+
 ghost use Rattle.std.specs.Prelude.{◌≡◌, ◌≤◌, length};
 ghost use Rattle.settings.specs.Made.{settings_of};
 ghost use Rattle.slip.specs.Slips.{name_end, top_height, judged, checked};
@@ -10,7 +12,7 @@ use slip_entries::{Entry, Link};
 // The bytes of the name's field.
 const NAME: usize = 35;
 
-#[derive(Drop)]
+#[derive(Clone, Copy)]
 pub enum Verdict {
     Accepted { entries: u64 },
     Refused { place: u64 },

@@ -1,4 +1,6 @@
 // An entry of a slip: a propose at its fixed places, and the parent that it leads to. It knows messages and settings, and nothing of a store.
+#![tactic(auto)]
+
 ghost use Rattle.std.specs.Prelude.{◌≡◌, ◌+◌, ◌≤◌, length};
 ghost use Rattle.std.proofs.Math.Option.{none};
 ghost use Rattle.fields.specs.Names.{name_of};
@@ -16,14 +18,14 @@ use wire::Statement;
 pub const ENTRY: usize = 100;
 
 // What stands at a place: a propose, or nothing that is one.
-#[derive(Drop)]
+#[derive(Clone, Copy)]
 pub enum Entry {
     Propose(Statement),
     Unread,
 }
 
 // What an entry leads to: its parent, where it is the block asked for and allowed.
-#[derive(Drop)]
+#[derive(Clone, Copy)]
 pub enum Link {
     Parent(Name),
     Broken,

@@ -1,4 +1,6 @@
 // The writer of slips: the chain of a logged block out of a store, in the bytes that the checker takes. The store is only read.
+#![tactic(auto)]
+
 ghost use Rattle.std.specs.Prelude.{◌≡◌, false, ◌+◌, ◌*◌, ◌≤◌, ◌<◌, length, eqb};
 ghost use Rattle.rules.specs.Limits.{least_out};
 ghost use Rattle.fields.specs.Names.{name_of};

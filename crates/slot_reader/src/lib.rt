@@ -1,11 +1,13 @@
 // Judging a slot: blank, torn, bad, or a whole record.
+#![tactic(auto)]
+
 ghost use Rattle.std.specs.Prelude.{◌≡◌, ◌^◌, ◌≤◌, ◌<◌, length, eqb};
 ghost use Rattle.fields.specs.Places.{number};
 ghost use Rattle.slots.specs.Slots.{record_bytes, record_in, judged};
 ghost use Rattle.slot_reader.specs.Meaning.{Judged};
 
 // What a slot holds. Of a whole record its number, its kind, and the length of its input, which begins at `slots::INPUT`.
-#[derive(Drop)]
+#[derive(Clone, Copy)]
 pub enum Slot {
     Blank,
     Torn,

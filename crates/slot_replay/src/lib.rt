@@ -1,4 +1,6 @@
 // Replaying the slots of a journal: the input of each whole record goes to the station's exported calls, in order.
+#![tactic(auto)]
+
 ghost use Rattle.std.specs.Prelude.{◌^◌, ◌≤◌, ◌<◌, length};
 ghost use Rattle.journal.specs.Journal.{slot_count};
 ghost use Rattle.slot_replay.specs.Fold.{report_length};
@@ -7,7 +9,7 @@ ghost use Rattle.slot_replay.specs.Meaning.{Hands, Replays};
 use slot_reader::Slot;
 
 // Where a replay ended: whether it was stopped, the records handed over, the place, and how many torn slots are before it.
-#[derive(Drop)]
+#[derive(Clone, Copy)]
 pub struct Ending {
     pub stopped: bool,
     pub records: u64,

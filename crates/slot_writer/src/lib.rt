@@ -1,4 +1,6 @@
 // Writing one record into a slot that is blank.
+#![tactic(auto)]
+
 ghost use Rattle.std.specs.Prelude.{◌≡◌, length};
 ghost use Rattle.slots.specs.Slots.{written, may_put, putting};
 

@@ -1,4 +1,6 @@
 // A journal's inputs and the record of one; which answers keep an input, and what a host is told of a refusal.
+#![tactic(auto)]
+
 ghost use Rattle.std.specs.Prelude.{◌≡◌, ◌+◌, ◌*◌, ◌^◌, ◌≤◌, ◌<◌, length};
 ghost use Rattle.outgoing.specs.Wrote.{wrote};
 ghost use Rattle.slots.specs.Slots.{is_input, is_readable, is_kept, record_bytes};

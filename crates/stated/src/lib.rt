@@ -1,4 +1,6 @@
 // The statements of a store: each allowed for these settings, and voted for not after the clock.
+#![tactic(auto)]
+
 ghost use Rattle.std.specs.Prelude.{◌≡◌, ◌+◌, ◌-◌, ◌≤◌, ◌<◌, length};
 ghost use Rattle.rules.specs.Limits.{most_statements};
 ghost use Rattle.rules.specs.Lists.{all};

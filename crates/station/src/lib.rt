@@ -1,4 +1,6 @@
 // The exported calls, on numbers and byte buffers. Each contract says the result and every byte left, for all inputs.
+#![tactic(auto)]
+
 ghost use Rattle.std.specs.Prelude.{◌≡◌};
 ghost use Rattle.fresh.specs.Fresh.{answer, freshly};
 ghost use Rattle.calls.specs.Calls.{step_called, offer_called, tick_called, Gives};

@@ -1,4 +1,6 @@
 // How a refusal is told, whether a station runs, and how it stops.
+#![tactic(auto)]
+
 ghost use Rattle.std.specs.Prelude.{◌≡◌, ◌*◌, ◌^◌, ◌<◌};
 ghost use Rattle.rules.specs.Refusals.{stopping, running};
 ghost use Rattle.store.specs.Decode.{state_of, Form};

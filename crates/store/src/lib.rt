@@ -1,4 +1,6 @@
 // The lent store: one byte slice whose exact length tells its limits, the bytes of a well-formed state in one way only.
+#![tactic(auto)]
+
 ghost use Rattle.std.specs.Prelude.{◌≡◌, ◌+◌, ◌-◌, ◌*◌, ◌^◌, ◌≤◌, ◌<◌, length, eqb};
 ghost use Rattle.std.proofs.Math.Option.{none};
 ghost use Rattle.rules.specs.Limits.{last_view, most_statements, most_tallies, least_out};
@@ -96,7 +98,7 @@ pub const LINK: usize = 44;
 pub const VOTE: usize = 76;
 
 // Why a station stopped.
-#[derive(Drop)]
+#[derive(Clone, Copy)]
 pub enum Cause {
     Full,
     Split,
@@ -104,7 +106,7 @@ pub enum Cause {
 }
 
 // In a view, waiting after a quit, or stopped with a cause.
-#[derive(Drop)]
+#[derive(Clone, Copy)]
 pub enum Phase {
     InView,
     Waiting(u32),
@@ -112,7 +114,7 @@ pub enum Phase {
 }
 
 // What stands in the store's header: all of a station but its tables.
-#[derive(Drop)]
+#[derive(Clone, Copy)]
 pub struct Station {
     pub settings: Settings,
     pub phase: Phase,
@@ -126,7 +128,7 @@ pub struct Station {
 }
 
 // The place of the first record that matches.
-#[derive(Drop)]
+#[derive(Clone, Copy)]
 pub enum Found {
     At(usize),
     Nothing,

@@ -1,5 +1,7 @@
 // Where the tallies of a block stand and whether records are free for them; whoever votes for a block joined, and a new statement
 // stored, as they were found.
+#![tactic(auto)]
+
 ghost use Rattle.std.specs.Prelude.{◌≡◌, ◌≤◌, ◌<◌, length};
 ghost use Rattle.std.proofs.Math.Option.{none};
 ghost use Rattle.rules.specs.Limits.{mask_bits, most_tallies, last_clock};

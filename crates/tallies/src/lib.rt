@@ -1,4 +1,6 @@
 // Tallies: a record of the table, what it certifies, and the same with whoever joins it.
+#![tactic(auto)]
+
 ghost use Rattle.std.specs.Prelude.{◌≡◌, ◌≤◌, ◌<◌};
 ghost use Rattle.rules.specs.Limits.{last_clock, mask_bits};
 ghost use Rattle.rules.specs.Sizes.{only};
@@ -13,7 +15,7 @@ use words::Certificate;
 
 // A record of the table of tallies: a block of a view, with the mask of its voters, who opened it (0 nobody, else one more than the
 // author of the vote that did), and when it first had a quorum (0 not yet, else one more than the clock).
-#[derive(Drop)]
+#[derive(Clone, Copy)]
 pub struct Tally {
     pub view: u32,
     pub height: u32,
@@ -24,7 +26,7 @@ pub struct Tally {
 }
 
 // What a joining is told: the settings, the clock, and who opens the tally if it is missing, as a record has it.
-#[derive(Drop)]
+#[derive(Clone, Copy)]
 pub struct Moment {
     pub settings: Settings,
     pub clock: u32,
@@ -32,7 +34,7 @@ pub struct Moment {
 }
 
 // Who joins a tally: the author of a vote, who opens it if it is missing, or a mask of several, which nobody does it for.
-#[derive(Drop)]
+#[derive(Clone, Copy)]
 pub enum Voters {
     One(u64),
     Mask(u16),

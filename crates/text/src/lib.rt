@@ -1,18 +1,20 @@
 // Runs of bytes, and the words of a line.
+#![tactic(auto)]
+
 ghost use Rattle.std.specs.Prelude.{List, ◌≡◌, ℕ, ◌≤◌, length, drop};
 ghost use Rattle.rules.specs.Script.{same_list};
 ghost use Rattle.text.specs.Words.{is_space, passes as passed};
 ghost use Rattle.text.specs.Places.{Runs, WordOf, Lists, placed};
 
 // A part of a line, from start up to end: empty where no word was found.
-#[derive(Drop)]
+#[derive(Clone, Copy)]
 pub struct Span {
     pub start: usize,
     pub end: usize,
 }
 
 // What a run goes over: the spaces before a word, the bytes of a word, the bytes up to a '+'.
-#[derive(Drop)]
+#[derive(Clone, Copy)]
 pub enum Over {
     Spaces,
     Word,

@@ -1,4 +1,6 @@
 // A tick of a station that runs: what decides it is known before anything is written.
+#![tactic(auto)]
+
 ghost use Rattle.std.specs.Prelude.{◌≤◌, length};
 ghost use Rattle.rules.specs.Limits.{least_out};
 ghost use Rattle.rules.specs.Refusals.{tick};

@@ -1,4 +1,6 @@
 // The parts of a tick, as acts on a well-formed store: what each does to it, and what it writes into the out buffer from a place on.
+#![tactic(auto)]
+
 ghost use Rattle.std.specs.Prelude.{◌≡◌, true, ◌+◌, ◌*◌, ◌≤◌, length};
 ghost use Rattle.std.proofs.Math.Option.{none};
 ghost use Rattle.rules.specs.Limits.{most_statements, most_statements_large};

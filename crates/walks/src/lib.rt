@@ -1,5 +1,7 @@
 // The chain of a stored statement, walked down to where it meets the log or is not stored: its blocks as places in a small local table.
 // The store is only read; a caller shows that it has the form.
+#![tactic(auto)]
+
 ghost use Rattle.std.specs.Prelude.{◌≡◌, length, get_or, ℕ, ◌<◌, ◌≤◌};
 ghost use Rattle.rules.specs.Limits.{most_statements, most_statements_large};
 ghost use Rattle.rules.specs.Inputs.{is_block};
@@ -14,7 +16,7 @@ use fields::Name;
 use store::Found;
 
 // How many of the lowest blocks of a chain are not stored, and how many of its lowest names are known to be the log's.
-#[derive(Drop)]
+#[derive(Clone, Copy)]
 pub struct Reached {
     pub left: usize,
     pub known: usize,

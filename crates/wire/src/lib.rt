@@ -1,8 +1,10 @@
 // A message, and what reading one answers.
+#![tactic(auto)]
+
 use fields::Name;
 
 // A new-view or a propose. The link of a propose is its parent's name; of a new-view it is the certificate view, as a name's number.
-#[derive(Drop)]
+#[derive(Clone, Copy)]
 pub struct Statement {
     pub is_new_view: bool,
     pub view: u32,
@@ -14,7 +16,7 @@ pub struct Statement {
 }
 
 // A message. Its fields have the widths of the wire, but for the link of a new-view: a writer asks that it fits 4 bytes.
-#[derive(Drop)]
+#[derive(Clone, Copy)]
 pub enum Message {
     Stated(Statement),
     Vote {
@@ -40,7 +42,7 @@ pub enum Message {
 }
 
 // What reading answers.
-#[derive(Drop)]
+#[derive(Clone, Copy)]
 pub enum Read {
     Readable(Message),
     Unreadable,

@@ -1,4 +1,6 @@
 // Words of 01 over values: when statements are the same and when they conflict, the certificate that one carries, its own block, rank.
+#![tactic(auto)]
+
 ghost use Rattle.std.specs.Prelude.{◌≡◌};
 ghost use Rattle.std.proofs.Math.Option.{none};
 ghost use Rattle.rules.specs.Words as words;
@@ -10,7 +12,7 @@ use fields::Name;
 use wire::Statement;
 
 // A block of a view, with the mask of its voters: what a statement, a vote or a status carries, the lock, and the key of a search.
-#[derive(Drop)]
+#[derive(Clone, Copy)]
 pub struct Certificate {
     pub view: u32,
     pub height: u32,

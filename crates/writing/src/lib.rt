@@ -1,5 +1,7 @@
 // Messages of every kind, written into an out buffer from a place on, and how long each is.
 // A caller shows that there is room, and that a new-view's certificate view fits its 4 bytes; no other byte changes.
+#![tactic(auto)]
+
 ghost use Rattle.std.specs.Prelude.{◌≡◌, ◌+◌, ◌≤◌, length};
 ghost use Rattle.rules.specs.Messages.{write};
 ghost use Rattle.wire.specs.Meaning.{message_of, Writable};
