@@ -179,7 +179,7 @@ module _ (X : Group) where
           ⊎ ((event k ≡ common_tick) × ((begun (event k) (st X i k)).log ≡ log_after (st X i k)) × (due_commits (st X i k) ≡ some (log_after (st X i k))))
           → ((st X i (suc k)).log ≡ []) ⊎ RipeLog i (st X i (suc k)).log
       go e h (inl q) = keeps (st X i k).log _ (e ∙ q) h
-      go e h (inr (f, q, c)) = now (e ∙ q) f h (commits_some _ _ _ _ c).from
+      go e h (inr (f, q, c)) = now (e ∙ q) f h (commits_some (counted (st X i k)).statements (due (counted (st X i k))) (counted (st X i k)).log (log_after (st X i k)) c).from
 
   -- ---- G5
 

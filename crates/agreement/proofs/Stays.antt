@@ -23,7 +23,7 @@ use Rattle.laws.proofs.Orderly.{propose_high}
 use Rattle.laws.proofs.Held.{held_stored}
 use Rattle.laws.proofs.Votes.{Cast}
 use Rattle.laws.proofs.Commits.{commits_some, Due, facts_due}
-use Rattle.agreement.specs.Schedule.{Event, common_tick, ticks, at, run, IsSaid, lineage}
+use Rattle.agreement.specs.Schedule.{Event, common_tick, ticks, run, IsSaid, lineage}
 use Rattle.agreement.proofs.Lineage.{up, propose_facts, chain_whole}
 use Rattle.agreement.proofs.Events.{Brings, begun, begun_same}
 use Rattle.agreement.proofs.Clock.{clock_suc, clock_before}

@@ -24,6 +24,7 @@ module _ {A : Type 0} (P : A → Type 0) where
   mem_each (x ∷ xs) f = (f x (here refl), mem_each xs (λ y m. f y (there m)))
 
   pub each_mem : {x : A} {xs : List A} → Each P xs → Mem x xs → P x
+  each_mem {xs = []} h m = elim m [ ]
   each_mem {xs = y ∷ ys} h (here e) = rw e h.0
   each_mem {xs = y ∷ ys} h (there m) = each_mem h.1 m
 
@@ -36,6 +37,7 @@ module _ {A : Type 0} (p : A → Bool) where
 
   pub all_mem : {x : A} {xs : List A} → all p xs ≡ true → Mem x xs → p x ≡ true
   unfolding all
+  all_mem {xs = []} h m = elim m [ ]
   all_mem {xs = y ∷ ys} h (here e) = ap p e ∙ (and_2 (p y) (all p ys) h).0
   all_mem {xs = y ∷ ys} h (there m) = all_mem (and_2 (p y) (all p ys) h).1 m
 

@@ -13,7 +13,7 @@ use Rattle.rules.specs.Limits.{most_tallies, most_opened}
 use Rattle.rules.specs.Lists.{all, keep}
 use Rattle.rules.specs.Sizes.{Settings}
 use Rattle.rules.specs.Words.{Opener, Tally, is_author, opened_by, State}
-use Rattle.rules.specs.WellFormed.{tally_good, few_opened}
+use Rattle.rules.specs.WellFormed.{tally_good}
 use Rattle.laws.proofs.Tests.{by_bool}
 use Rattle.laws.proofs.Truths.{and_2}
 use Rattle.kept.specs.Parts.{Formed}

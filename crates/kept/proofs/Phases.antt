@@ -7,7 +7,7 @@ use lib.Dec.{leb}
 use borrow.Author.Tests.{leb-true, le-leb}
 use Rattle.rules.specs.Limits.{first_view, last_view, last_clock}
 use Rattle.rules.specs.Lists.{within}
-use Rattle.rules.specs.Words.{Cause, Certificate, opened, Phase, in_view, waiting, stopped, State}
+use Rattle.rules.specs.Words.{Cause, Certificate, Phase, in_view, waiting, stopped, State}
 use Rattle.rules.specs.Inputs.{with_phase, with_clock, entering}
 use Rattle.rules.specs.WellFormed.{clocks_in_order, lock_good, statement_good, tally_good}
 use Rattle.laws.proofs.Truths.{and_3}

@@ -30,6 +30,7 @@ top_mem v (y ∷ ys) x e =
 -- if one of a view is stored, the greatest-height statement of it is found, and no lower
 pub top_some : (v : ℕ) (xs : List Statement) (z : Statement) → Memᴰ z xs → z.view ≡ v → (x : Statement) × (top v xs ≡ some x) × (z.height ≤ x.height)
 unfolding top
+top_some v [] z m w = elim m [ ]
 top_some v (y ∷ ys) z (mathlib.Core.List.Memᴰ.head e) w =
     let q : eqb y.view v ≡ true = eq-eqb y.view v (ap (λ (u : Statement). u.view) (sym e) ∙ w) in
     let h : z.height ≡ y.height = ap (λ (u : Statement). u.height) e in

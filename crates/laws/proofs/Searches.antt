@@ -43,6 +43,7 @@ module _ {A : Type 0} (p : A → Bool) where
 
   pub any_mem : (xs : List A) (z : A) → Memᴰ z xs → p z ≡ true → any p xs ≡ true
   unfolding any
+  any_mem [] z m h = elim m [ ]
   any_mem (x ∷ xs) z (mathlib.Core.List.Memᴰ.head e) h = rw (ap p (sym e) ∙ h, any) refl
   any_mem (x ∷ xs) z (mathlib.Core.List.Memᴰ.tail m) h = by_bool (p x) (λ q. rw (q, any) refl) (λ q. rw (q, any) (any_mem xs z m h))
 
@@ -75,12 +76,14 @@ module _ {A : Type 0} (p : A → Bool) where
 
   pub mem_keep : (xs : List A) (z : A) → Memᴰ z (keep p xs) → Memᴰ z xs × (p z ≡ true)
   unfolding keep
+  mem_keep [] z m = elim m [ ]
   mem_keep (x ∷ xs) z m =
       let rest : Memᴰ z (keep p xs) → Memᴰ z (x ∷ xs) × (p z ≡ true) = λ t. let r = mem_keep xs z t in (mathlib.Core.List.Memᴰ.tail r.0, r.1) in
       by_bool (p x) (λ q. by_mem (rw (q, keep) at m) (λ e. (mathlib.Core.List.Memᴰ.head e, ap p e ∙ q)) rest) (λ q. rest (rw (q, keep) at m))
 
   pub keep_mem : (xs : List A) (z : A) → Memᴰ z xs → p z ≡ true → Memᴰ z (keep p xs)
   unfolding keep
+  keep_mem [] z m h = elim m [ ]
   keep_mem (x ∷ xs) z (mathlib.Core.List.Memᴰ.head e) h = rw (ap p (sym e) ∙ h, keep) (mathlib.Core.List.Memᴰ.head e)
   keep_mem (x ∷ xs) z (mathlib.Core.List.Memᴰ.tail m) h =
       by_bool (p x) (λ q. rw (q, keep) (mathlib.Core.List.Memᴰ.tail (keep_mem xs z m h))) (λ q. rw (q, keep) (keep_mem xs z m h))
@@ -118,6 +121,7 @@ module _ {A : Type 0} (key : A → ℕ) where
 
   pub sorted_mem : (xs : List A) (z : A) → Memᴰ z xs → Memᴰ z (sorted key xs)
   unfolding sorted
+  sorted_mem [] z m = elim m [ ]
   sorted_mem (x ∷ xs) z m =
       insert_mem x (sorted key xs) z (by_mem m (λ e. mathlib.Core.List.Memᴰ.head e) (λ t. mathlib.Core.List.Memᴰ.tail (sorted_mem xs z t)))
 
@@ -137,6 +141,7 @@ module _ {A : Type 0} (P : A → Type 0) where
   all_split (x ∷ xs) ys a = let r = all_split xs ys a.1 in ((a.0, r.0), r.1)
 
   pub all_of : (xs : List A) → All xs → (z : A) → Memᴰ z xs → P z
+  all_of [] a z m = elim m [ ]
   all_of (x ∷ xs) a z (mathlib.Core.List.Memᴰ.head q) = subst P (sym q) a.0
   all_of (x ∷ xs) a z (mathlib.Core.List.Memᴰ.tail m) = all_of xs a.1 z m
 

@@ -260,6 +260,7 @@ mem_order s x m = let r = mem_keep (λ (y : Statement). eqb y.view s.view) s.sta
 -- where no statement is stored twice, a stored one is what a search for it finds
 pub once_first : (xs : List Statement) (z : Statement) → distinct same_statement xs ≡ true → Memᴰ z xs → first (same_statement z) xs ≡ some z
 unfolding first distinct
+once_first [] z o m = elim m [ ]
 once_first (x ∷ xs) z o m =
     let (n, d) = and_2 (not (any (same_statement x) xs)) (distinct same_statement xs) o in
     by_mem m (λ e. rw e (rw (same_self x, first) refl))

@@ -1,7 +1,7 @@
 -- Tallies, seen by the voters that a search finds; rank; the highest certificate ranks at or above each; who has every sound
 -- vote has a quorum. Assumes nothing.
 use mathlib.Core.Path.{◌≡◌, refl, sym, ap, ◌∙◌}
-use Prim.Native.Nat.{ℕ, zero, suc, ◌+◌, ◌-◌, ◌*◌, ◌/◌, ◌%◌, ◌≤◌, ◌<◌, ◌^◌}
+use Prim.Native.Nat.{ℕ, zero, suc, ◌+◌, ◌*◌, ◌/◌, ◌%◌, ◌≤◌, ◌<◌, ◌^◌}
 use native.Mathlib.Omega.{arith}
 use native.Mathlib.Nat.{pow-suc, zero-div, div_self, one-le-pow, mul_comm, div-div-eq-div-mul, mul-div_cancel}
 use native.Mathlib.Decide.{dec_lt}

@@ -1,7 +1,7 @@
 -- L4: a vote is cast only in its view, for a statement stored there and said just before it: a propose, or a new-view whose
 -- certificate ranks at or above the lock. S c e: the station said e at clock c. Assumes nothing.
 use mathlib.Core.Path.{◌≡◌, refl, sym, ◌∙◌}
-use Prim.Native.Nat.{ℕ, ◌+◌}
+use Prim.Native.Nat.{ℕ}
 use mathlib.Core.Bool.{Bool, true, false}
 use mathlib.Core.List.{List, [], ◌∷◌, ◌++◌}
 use Rattle.rules.specs.Messages.{Message, new_view, propose, vote, blame, blame_set, status, Effect, to_all, to_one, committed}

@@ -1,6 +1,6 @@
 -- Who votes says the statement at the same event. Assumes nothing.
 use mathlib.Core.Path.{◌≡◌, subst, refl, sym}
-use Prim.Native.Nat.{ℕ, ◌+◌}
+use Prim.Native.Nat.{ℕ}
 use mathlib.Core.Bool.{Bool, true, false}
 use mathlib.Core.List.Memᴰ
 use mathlib.Core.List.{List, [], ◌∷◌, ◌++◌, Memᴰ}

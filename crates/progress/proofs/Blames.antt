@@ -249,6 +249,7 @@ enter_blames s =
     (λ q. rw (q, enter) refl)
 
 pub mem_left : (a b : List Effect) (e : Effect) → Memᴰ e a → Memᴰ e (a ++ b)
+mem_left [] b e m = elim m [ ]
 mem_left (x ∷ a) b e (Memᴰ.head q) = Memᴰ.head q
 mem_left (x ∷ a) b e (Memᴰ.tail m) = Memᴰ.tail (mem_left a b e m)
 

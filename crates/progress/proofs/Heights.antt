@@ -4,12 +4,13 @@ use Prim.Native.Nat.{ℕ, zero, suc, ◌+◌, ◌*◌, ◌≤◌}
 use native.Mathlib.Omega.{arith}
 use native.Mathlib.Nat.{add-mul}
 use native.Mathlib.Decide.{ℕ_discrete}
-use mathlib.Core.List.{List, ◌∷◌, Memᴰ}
+use mathlib.Core.List.{List, [], ◌∷◌, Memᴰ}
 use lib.ListN.{length}
 
 module _ {A : Type 0} (f : A → ℕ) where
   -- the list without one element, which still has all of another height
   without : (xs : List A) (z : A) → Memᴰ z xs → (ys : List A) × (length xs ≡ suc (length ys)) × ((x : A) → Memᴰ x xs → ¬ (f x ≡ f z) → Memᴰ x ys)
+  without [] z m = elim m [ ]
   without (y ∷ xs) z (Memᴰ.head e) = (xs, refl, λ x m ne. rest x m ne)
     where
       rest : (x : A) → Memᴰ x (y ∷ xs) → ¬ (f x ≡ f z) → Memᴰ x xs

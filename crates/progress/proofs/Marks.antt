@@ -63,6 +63,7 @@ certificate_marked g c k t us m = by_bool (eqb t.view 0) (λ e. rw (e, join_cert
 -- the highest certificate of an earlier view ranks at or above it
 pub marked_above : (g : Settings) (v : ℕ) (c : Certificate) (ts : List Tally) → c.view < v → Marked g c ts → Above (highest g v ts) c
 unfolding highest certified
+marked_above g v c [] l (u, m, p, h, q) = elim m [ ]
 marked_above g v c (t ∷ ts) l (u, Memᴰ.head e, p, h, q) =
     let tv : t.view ≡ c.view = ap (λ (x : Tally). x.view) (sym e) ∙ p in
     let th : t.height ≡ c.height = ap (λ (x : Tally). x.height) (sym e) ∙ h in
