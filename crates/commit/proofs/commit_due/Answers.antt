@@ -10,14 +10,14 @@ use Rattle.commit.proofs.Course.{Turn, ripe_propose, course_start, course_end, c
 use Rattle.commit.proofs.commit_due.Goals as goal
 
 -- statement i - 1 is due
-due : (c : tie.Else2 invariant-loop decreases-loop)
+due : (c : goal.Else-not-is_due invariant-loop decreases-loop)
     → let a = c.args in
     is_ripe a.view a.wait a.clock (statement_at a.store.now (c.loop-i.i - 1)) ≡ true
 due c =
     sym c.is_due.ensures ∙ c.if-not-is_due.false
 
 -- its chain was walked
-turn : (c : tie.After-slice-known3 invariant-loop decreases-loop)
+turn : (c : goal.After-slice_known-in-loop-i-1 invariant-loop decreases-loop)
     → let a = c.args in
     let l = c.loop-i in
     let walk = c.walk-walked in

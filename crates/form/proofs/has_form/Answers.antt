@@ -23,7 +23,7 @@ table_fits-log-requires c =
     omega (arith, pre.long, c.log_in.ensures, c.most_statements-most.ensures ∙ ap most_statements pre.holds.size)
 
 -- the three tests are those of the tables
-tests : (c : tie.After-table-fits3)
+tests : (c : goal.After-table_fits-log)
     → Tested c.args.store.now c.args.station c.table_fits-statements.result c.table_fits-tallies.result c.table_fits-log.result
 tests c =
     let same = c.requires.holds.size in

@@ -20,7 +20,7 @@ returns-in_default c =
     no_room _ a.kind a.input.now (slot_count_lem a.journal.now) if1.false is-input.ensures if2.true c.find_room.ensures c.in_default.is c.refuse-in_default.ensures
 
 -- the slot that was found lies within the journal, once the room is taken apart
-fits : (k : tie.After-records) → k.in-Free.place * slot_length + slot_length ≤ length k.args.journal.now
+fits : (k : goal.In-Free-2) → k.in-Free.place * slot_length + slot_length ≤ length k.args.journal.now
 fits k =
     let a = k.args in
     (place_within _ a.kind a.input.now (slot_count_lem a.journal.now) k.if-count-gt4294967295.false k.is_input.ensures k.if-is_input.true k.find_room.ensures k.in-Free.is).2

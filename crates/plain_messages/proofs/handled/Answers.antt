@@ -24,7 +24,7 @@ statement-requires c =
     (k, ap (λ (z : Message). allowed (state a.e).settings (message_of z)) (sym c.in-Stated.is) ∙ c.requires.1, c.requires.2)
 
 -- whoever votes is a station, once the vote is taken apart
-voter-small : (m : tie.After-message2) → m.in-Vote.author < mask_bits
+voter-small : (m : goal.In-Vote-2) → m.in-Vote.author < mask_bits
 unfolding message_of
 voter-small m =
     let start = m in
@@ -47,7 +47,7 @@ tallied-engine-requires c =
     (k.sized, omega (arith, few_tallies_lem a.e k))
 
 -- and so is whoever blames
-blamer-small : (m : tie.After-message3) → m.in-Blame.author < mask_bits
+blamer-small : (m : goal.In-Blame-2) → m.in-Blame.author < mask_bits
 unfolding message_of
 blamer-small m =
     let start = m in

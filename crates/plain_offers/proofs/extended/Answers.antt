@@ -31,13 +31,13 @@ overflow_add-result c =
     omega (arith, ltb-true h last_height (and_right c.quorum-certified.result (ltb h last_height) c.if-certified-x.true))
 
 -- the voters are those of the top's own block, and the tests are those of an extension
-held : (k : tie.After-quorum) → let a = k.args in k.voters-mask.result ≡ words.voters-mask (words.own_block (statement_of a.x none) 0) (state a.e).tallies
+held : (k : goal.After-quorum-certified) → let a = k.args in k.voters-mask.result ≡ words.voters (words.own_block (statement_of a.x none) 0) (state a.e).tallies
 unfolding statement_of state
 held k =
     let a = k.args in
-    k.voters-mask.ensures ∙ ap (λ (t : words.Certificate). words.voters-mask t (tallies a.e.tallies)) k.own_block.ensures
+    k.voters-mask.ensures ∙ ap (λ (t : words.Certificate). words.voters t (tallies a.e.tallies)) k.own_block.ensures
 
-extends : (k : tie.After-quorum) → let a = k.args in
+extends : (k : goal.After-quorum-certified) → let a = k.args in
     (k.quorum-certified.result && ltb a.x.height last_height) ≡ inputs.extendable (statement_of a.x none) (state a.e)
 unfolding statement_of state
 extends k =

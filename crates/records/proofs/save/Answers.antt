@@ -9,7 +9,7 @@ use Rattle.store.specs.Layout.{header_size}
 use Rattle.records.proofs.save.Goals as goal
 
 -- the view is put: the store is as long as at the start
-view-put : (c : tie.After-put2) → (header_size ≤ length c.put-2.new.0) × (length c.put-2.new.0 ≡ length c.args.store.now)
+view-put : (c : goal.After-put-2) → (header_size ≤ length c.put-2.new.0) × (length c.put-2.new.0 ≡ length c.args.store.now)
 view-put c =
     (
       omega (arith, c.requires, c.put-2.auto.0, c.put_settings.auto.0, c.put.auto.0),
@@ -24,7 +24,7 @@ put-requires-4 c =
     omega (arith, (view-put c).0, c.put-3.auto.0)
 
 -- the clock is put
-clock-put : (c : tie.After-put4) → (header_size ≤ length c.put-4.new.0) × (length c.put-4.new.0 ≡ length c.args.store.now)
+clock-put : (c : goal.After-put-4) → (header_size ≤ length c.put-4.new.0) × (length c.put-4.new.0 ≡ length c.args.store.now)
 clock-put c =
     let view = view-put c in
     (omega (arith, c.put-4.auto.0, c.put-3.auto.0, view.0), omega (arith, c.put-4.auto.0, c.put-3.auto.0, view.1))

@@ -75,12 +75,12 @@ slice_bounds-hand-end c =
     omega (arith, whole_within c.judge_at.ensures.within c.in-Whole.is)
 
 -- the slot was judged, and its input lies in it
-slot : (c : tie.After-is-taken invariant-loop decreases-loop)
+slot : (c : goal.After-is_taken invariant-loop decreases-loop)
     → let s = slot_at c.args.journal.now c.loop-place.place in
     slot_of s c.judge_at.result ≡ judged s
 slot c = c.judge_at.ensures.is
 
-input : (c : tie.After-is-taken invariant-loop decreases-loop)
+input : (c : goal.After-is_taken invariant-loop decreases-loop)
     → let j = c.args.journal.now in
     let p = c.loop-place.place in
     let m = c.in-Whole.length in

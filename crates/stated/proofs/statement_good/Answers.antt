@@ -25,7 +25,7 @@ returns-then-not-vote_in_order c =
     bad_vote a.store.now c.type_inv.store a.i a.station (rw (← c.voted_at.ensures) (sym c.vote_in_order.ensures ∙ c.if-not-vote_in_order.true))
 
 -- the tests before the last one, at the place where the kind is known
-passed : (k : tie.After-kind-at)
+passed : (k : goal.After-kind_at)
     → let a = k.args in
     Passed a.store.now k.type_inv.store a.i a.station
 passed k =

@@ -16,21 +16,14 @@ pub first-i-requires : goal.first-i-requires
 first-i-requires c =
     (lit≤ tt, omega (arith, c.requires.0, c.requires.1, c.tallies_in-base.ensures))
 
--- the search tests each tally for the block
-found : (c : tie.After-key-of)
-    → (i : ℕ) → has_block c.args.store.now c.key_of-key.result (name_of c.args.block.name) (c.tallies_in-base.result + tally_size * i) ≡ of_block (block_of c.args.block) (tally_at c.args.store.now i)
-unfolding block_of
-found c =
-    block_found c.args.store.now c.type_inv.store (block_of c.args.block) c.well_formed.1.1.1.0.1.1.1.0.1 _ _ c.key_of-key.ensures c.tallies_in-base.ensures
-
 pub returns-then-end-i : goal.returns-then-end-i
 unfolding block_of
 returns-then-end-i c =
     let a = c.args in
-    placed_nowhere (tally_at a.store.now) (of_block (block_of a.block)) _ (found c) _ _ _ c.first-i.ensures c.if-end-i.true
+    placed_nowhere (tally_at a.store.now) (of_block (block_of a.block)) _ (block_found c.args.store.now c.type_inv.store (block_of c.args.block) c.well_formed.1.1.1.0.1.1.1.0.1 _ _ c.key_of-key.ensures c.tallies_in-base.ensures) _ _ _ c.first-i.ensures c.if-end-i.true
 
 pub returns : goal.returns
 unfolding block_of
 returns c =
     let a = c.args in
-    placed_here (tally_at a.store.now) (of_block (block_of a.block)) _ (found c) _ _ _ c.first-i.ensures c.if-end-i.false
+    placed_here (tally_at a.store.now) (of_block (block_of a.block)) _ (block_found c.args.store.now c.type_inv.store (block_of c.args.block) c.well_formed.1.1.1.0.1.1.1.0.1 _ _ c.key_of-key.ensures c.tallies_in-base.ensures) _ _ _ c.first-i.ensures c.if-end-i.false

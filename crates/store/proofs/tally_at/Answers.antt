@@ -10,7 +10,7 @@ use Rattle.store.proofs.tally_at.Goals as goal
 
 -- a block with its voters, who opened it, and when it had a quorum
 abbrev with : ℕ → ℕ → Certificate → Tally
-with k r t = record { view = t.view; height = t.height; name = t.name-1; mask = t.mask; opener = opener_of k; reached = reached_from r }
+with k r t = record { view = t.view; height = t.height; name = t.name; mask = t.mask; opener = opener_of k; reached = reached_from r }
 
 same-with : {k k' r r' : ℕ} {t t' : Certificate} → k ≡ k' → r ≡ r' → t ≡ t' → with k r t ≡ with k' r' t'
 same-with p q e = λ i. with (p i) (q i) (e i)
