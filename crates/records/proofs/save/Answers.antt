@@ -10,11 +10,10 @@ use Rattle.records.proofs.save.Goals as goal
 
 -- the view is put: the store is as long as at the start
 view-put : (c : goal.After-put-2) → (header_size ≤ length c.put-2.new.0) × (length c.put-2.new.0 ≡ length c.args.store.now)
-view-put c =
-    (
-      omega (arith, c.requires, c.put-2.auto.0, c.put_settings.auto.0, c.put.auto.0),
-      omega (arith, c.put-2.auto.0, c.put_settings.auto.0, c.put.auto.0),
-    )
+view-put c = (
+  omega (arith, c.requires, c.put-2.auto.0, c.put_settings.auto.0, c.put.auto.0),
+  omega (arith, c.put-2.auto.0, c.put_settings.auto.0, c.put.auto.0),
+)
 
 pub put-requires-3 : goal.put-requires-3
 put-requires-3 c = omega (arith, (view-put c).0)
