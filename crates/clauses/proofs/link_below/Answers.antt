@@ -1,0 +1,11 @@
+-- `clauses::link_below` meets its contract: a view as a name is its own number. Assumes nothing.
+use lib.Dec.{ltb}
+use mathlib.Core.Path.{◌∙◌, ap}
+use Rattle.fields.specs.Names.{name_of}
+use native.Mathlib.Nat.{zero-add}
+use Rattle.clauses.proofs.link_below.Goals as goal
+
+pub returns : goal.returns
+unfolding name_of
+returns c =
+    c.less.ensures ∙ ap (ltb (name_of c.args.link)) (zero-add c.args.view)

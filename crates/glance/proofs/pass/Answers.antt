@@ -1,0 +1,30 @@
+-- Answers to the goals of `glance::pass`. Assumes nothing.
+use Rattle.glance.proofs.Viewing.{others_on}
+use native.Mathlib.Omega.{arith}
+use mathlib.Core.Path.{ap}
+use mathlib.Core.Bool.{not}
+use Rattle.glance.proofs.pass.Goals as goal
+
+pub loop-i-init : goal.loop-i-init
+loop-i-init c =
+    (omega arith, λ j l m. absurd (omega arith))
+
+pub are_others-requires : goal.are_others-requires
+are_others-requires c =
+    (c.requires.0, omega (arith, c.loop-i.invariant.0, c.requires.1))
+
+pub loop-i-smaller : goal.loop-i-smaller
+loop-i-smaller c =
+    omega arith
+
+pub loop-i-preserved : goal.loop-i-preserved
+loop-i-preserved c =
+    (omega (arith, c.loop-i.invariant.0), others_on _ _ _ _ c.are_others.result (omega arith) c.are_others.ensures (ap not c.if-not-are_others.false) c.loop-i.invariant.1)
+
+pub returns-then-i-lt4 : goal.returns-then-i-lt4
+returns-then-i-lt4 c =
+    c.loop-i.invariant
+
+pub returns-then-not-are_others : goal.returns-then-not-are_others
+returns-then-not-are_others c =
+    c.loop-i.invariant

@@ -1,0 +1,14 @@
+-- `merging::copy_places` meets its contract. The invariant: the places from `start` up to k are copied. The measure is what is left. Assumes nothing.
+use Rattle.merging.specs.Joins.{Copied}
+use lib.ListN.{length}
+use mathlib.Core.Path.{◌≡◌}
+use Prim.Native.Nat.{◌≤◌, ◌-◌}
+use Rattle.merging.proofs.copy_places.Given as goal
+
+abbrev pub invariant-loop-k : goal.invariant-loop-k
+invariant-loop-k l =
+    (l.start ≤ l.k) × (length l.to ≡ length l.initial.to) × Copied l.from l.initial.to l.to l.start l.k
+
+abbrev pub decreases-loop-k : goal.decreases-loop-k
+decreases-loop-k l =
+    l.end - l.k

@@ -1,0 +1,19 @@
+-- `plain_acts::blames_of` meets its contract. Assumes nothing.
+use native.Mathlib.Omega.{arith}
+use mathlib.Core.Path.{refl}
+use Rattle.rules.specs.Inputs as inputs
+use Rattle.plain_tables.specs.Meaning.{state}
+use Rattle.plain_acts.proofs.blames_of.Goals as goal
+
+pub offset_bounds-e-v : goal.offset_bounds-e-v
+offset_bounds-e-v c =
+    omega arith
+
+pub bounds-e-v : goal.bounds-e-v
+bounds-e-v c =
+    omega arith
+
+pub returns : goal.returns
+unfolding inputs.blames_of state
+returns c =
+    refl

@@ -1,0 +1,8 @@
+-- `plain_words::same_statement` meets its contract. Assumes nothing.
+use Rattle.plain_words.proofs.Statements.{same_is}
+use Rattle.plain_words.proofs.same_statement.Goals as goal
+
+pub returns : goal.returns
+returns c =
+    let a = c.args in
+    rw (c.same-name.ensures, c.same-link.ensures) (same_is a.x a.y)

@@ -1,0 +1,16 @@
+-- `Tally::grown` meets its contract: the mask and the clock alone change. Assumes nothing.
+use mathlib.Core.Path.{ap, ◌∙◌}
+use Rattle.rules.specs.Words.{reached_at, grown}
+use Rattle.fields.specs.Names.{name_of}
+use Rattle.tallies.specs.Values.{opener_of, reached_from}
+use Rattle.tallies.specs.Meaning.{tally_of, moment_of}
+use Rattle.tallies.proofs.Tally.grown.Goals as goal
+
+pub returns : goal.returns
+unfolding tally_of grown
+returns c =
+    let a = c.args in
+    let t = a.self in
+    let voters = c.joined-voters.ensures in
+    let since = c.reached-reached.ensures ∙ ap (reached_at (moment_of a.moment) (reached_from t.reached)) voters in
+    λ i. record { view = t.view; height = t.height; name = name_of t.name; mask = voters i; opener = opener_of t.opener; reached = since i }
