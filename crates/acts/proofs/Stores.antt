@@ -9,7 +9,7 @@ use lib.Dec.{eqb}
 use lib.ListN.{get_or}
 use Rattle.rules.specs.Limits.{first_view, last_view, last_view_large}
 use Rattle.rules.specs.Messages.{view_allowed}
-use Rattle.rules.specs.Sizes.{quorum}
+use Rattle.rules.specs.Sizes.{Settings, quorum}
 use Rattle.rules.specs.Words as words
 use Rattle.rules.specs.Words.{State, in_view, waiting, stopped}
 use Rattle.rules.specs.Inputs.{saying, with_phase, with_blames, is_in, quit, blames_of, blamed, blame_full}
@@ -78,7 +78,7 @@ blame_place b v a =
 pub blame_quorum : (s : Station) (b : List ℕ) → Loads s b → (v : ℕ) → view_allowed (state_of b).settings v ≡ true
     → quorum (settings_of s.settings) (blame_at b (v - 1)) ≡ blame_full v (state_of b)
 unfolding blame_full
-blame_quorum s b e v a = rw (loaded_settings s b e, blame_place b v a)
+blame_quorum s b e v a = ap (λ (g : Settings). quorum g (blame_at b (v - 1))) (loaded_settings s b e) ∙ ap (quorum (state_of b).settings) (blame_place b v a)
 
 -- ---- quitting
 

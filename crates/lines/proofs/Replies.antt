@@ -223,8 +223,8 @@ fresh_is : (s : List ℕ) (at : ℕ) (n d o : Name) (p q r x : Place) → Field 
     → freshened (drop at s) ≡ meant (λ _. fresh (name_of n) (name_of d) (name_of o)) (ended x)
 unfolding freshened onto meant
 fresh_is s at n d o p q r x a b c e =
-    made_of _ _ _ (λ g. onto (name_of n) (onto (name_of d) (onto (name_of o) g))) x
-    (a.goes _ ∙ ap (onto (name_of n)) (b.goes _ ∙ ap (onto (name_of d)) (c.goes [] ∙ ap (onto (name_of o)) (sym e)))) refl (λ _. refl)
+    made_of _ (λ vs. fresh (get_or vs 0 0) (get_or vs 1 0) (get_or vs 2 0)) _ (λ g. onto (name_of n) (onto (name_of d) (onto (name_of o) g))) x
+    (a.goes (0 ∷ 0 ∷ []) ∙ ap (onto (name_of n)) (b.goes (0 ∷ []) ∙ ap (onto (name_of d)) (c.goes [] ∙ ap (onto (name_of o)) (sym e)))) refl (λ _. refl)
 
 module _ (s : List ℕ) (at : ℕ) (n d o : Name) (p q r x : Place) (a : Field s (At at) 0 n p) (b : Field s p 0 d q) (c : Field s q 0 o r) (e : ended x ≡ reads_at [] s r) where
   pub fresh_good : (i : ℕ) → x ≡ At i → freshened (drop at s) ≡ fresh n.fourth d.fourth o.fourth
@@ -368,7 +368,7 @@ certified_is s at v h n p q r a b c =
     let f : List ℕ → Meaning = λ vs. given (Certified (get_or vs 0 0) (get_or vs 1 0)) (unbe 32 (get_or vs 2 0)) in
     let left = reads_at [] s r in
     let e : certified (drop at s) ≡ meant (λ _. given (Certified (name_of v) (name_of h)) (unbe 32 (name_of n))) left =
-    ap (meant f) (a.goes _ ∙ ap (onto (name_of v)) (b.goes _ ∙ ap (onto (name_of h)) (c.goes [])))
+    ap (meant f) (a.goes (3 ∷ 4 ∷ []) ∙ ap (onto (name_of v)) (b.goes (4 ∷ []) ∙ ap (onto (name_of h)) (c.goes [])))
     ∙ meant_onto f (name_of v) (onto (name_of h) (onto (name_of n) left))
     ∙ meant_onto (λ vs. f (name_of v ∷ vs)) (name_of h) (onto (name_of n) left)
     ∙ meant_onto (λ vs. f (name_of v ∷ name_of h ∷ vs)) (name_of n) left in
