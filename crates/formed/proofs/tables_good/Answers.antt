@@ -12,7 +12,7 @@ returns-then-not-good c =
 pub there_and_apart-requires : goal.there_and_apart-requires
 there_and_apart-requires c =
     let p = c.requires.0 in
-    (p.tallies, c.good_and_apart-good.ensures.hang ((ap not c.if-not-good.false)), p.statements, p.certify)
+    (p.tallies, c.good_and_apart-good.ensures.hang c.if-not-good.false, p.statements, p.certify)
 
 pub returns : goal.returns
 returns c =

@@ -16,12 +16,12 @@ pub is_placed-requires : goal.is_placed-requires
 is_placed-requires c = (c.requires, rw (← c.loop-place.invariant.1) c.loop-place-test.true)
 
 pub returns-then-not-is_placed : goal.returns-then-not-is_placed
-returns-then-not-is_placed c = placed_stops _ _ c.loop-place.invariant.1 _ c.loop-place.invariant.2 c.loop-place-test.true c.is_placed.ensures ((ap not c.if-not-is_placed.true))
+returns-then-not-is_placed c = placed_stops _ _ c.loop-place.invariant.1 _ c.loop-place.invariant.2 c.loop-place-test.true c.is_placed.ensures c.if-not-is_placed.true
 
 pub loop-place-preserved : goal.loop-place-preserved
 loop-place-preserved c =
     let loop = c.loop-place in
-    (omega arith, loop.invariant.1, placed_next _ _ loop.invariant.1 _ loop.invariant.2 c.loop-place-test.true c.is_placed.ensures ((ap not c.if-not-is_placed.false)))
+    (omega arith, loop.invariant.1, placed_next _ _ loop.invariant.1 _ loop.invariant.2 c.loop-place-test.true c.is_placed.ensures c.if-not-is_placed.false)
 
 pub returns : goal.returns
 returns c = placed_ends _ _ c.loop-place.invariant.1 _ c.loop-place.invariant.2 c.loop-place-test.false

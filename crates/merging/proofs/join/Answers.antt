@@ -14,13 +14,13 @@ pub returns-then-not-agrees : goal.returns-then-not-agrees
 returns-then-not-agrees c =
     let agrees = c.agrees in
     let least = c.least.ensures in
-    join_differs _ _ _ _ _ _ c.requires.0 _ agrees.result agrees.ensures least.0 least.1 ((ap not c.if-not-agrees.true))
+    join_differs _ _ _ _ _ _ c.requires.0 _ agrees.result agrees.ensures least.0 least.1 c.if-not-agrees.true
 
 pub returns-then-height-len : goal.returns-then-height-len
 returns-then-height-len c =
     let agrees = c.agrees in
     let short = c.if-height-len.true in
-    join_stays _ _ _ _ _ _ c.requires.0 _ agrees.result agrees.ensures short (c.least.ensures.2 short) ((ap not c.if-not-agrees.false))
+    join_stays _ _ _ _ _ _ c.requires.0 _ agrees.result agrees.ensures short (c.least.ensures.2 short) c.if-not-agrees.false
 
 pub copy_places-requires : goal.copy_places-requires
 copy_places-requires c =

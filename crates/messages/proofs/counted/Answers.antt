@@ -16,4 +16,4 @@ returns-then-not-tallied c =
 pub returns : goal.returns
 returns c =
     let a = c.args in
-    tallied_answers (author_of a.voters) (with_voters (voters_of a.voters) (block_of a.block)) (state_of a.store.now) c.tallied.ensures ((ap not c.if-not-tallied.false))
+    tallied_answers (author_of a.voters) (with_voters (voters_of a.voters) (block_of a.block)) (state_of a.store.now) c.tallied.ensures c.if-not-tallied.false

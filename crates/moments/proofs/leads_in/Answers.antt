@@ -10,7 +10,7 @@ is_in_view-requires c =
 
 pub returns-then-not-is_in_view : goal.returns-then-not-is_in_view
 returns-then-not-is_in_view c =
-    loaded_outside c.requires.0 c.args.station c.requires.1 _ c.is_in_view.ensures ((ap not c.if-not-is_in_view.true))
+    loaded_outside c.requires.0 c.args.station c.requires.1 _ c.is_in_view.ensures c.if-not-is_in_view.true
 
 pub leader-requires : goal.leader-requires
 leader-requires c =

@@ -13,7 +13,7 @@ is_in_view-requires c =
 
 pub returns-then-not-is_in_view : goal.returns-then-not-is_in_view
 returns-then-not-is_in_view c =
-    loaded_calm c.requires.0 c.args.station c.requires.1 c.args.clock _ c.is_in_view.ensures ((ap not c.if-not-is_in_view.true))
+    loaded_calm c.requires.0 c.args.station c.requires.1 c.args.clock _ c.is_in_view.ensures c.if-not-is_in_view.true
 
 pub overflow_mul-wait : goal.overflow_mul-wait
 overflow_mul-wait c =

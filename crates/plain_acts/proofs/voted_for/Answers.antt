@@ -29,4 +29,4 @@ returns c =
     let own_Block = c.own_block-block in let noted = c.noted-noted in
     given c.with_tables.ensures
     (voted_gives a.e pre.0 (moment_of moment-of.result) (statement_of a.x none) (certificate_of own_Block.result) noted.result c.join-joined.result moment-of.ensures
-    (own_Block.ensures ∙ ap (words.own_block-block (statement_of a.x none)) mask-of.ensures) noted.ensures c.join-joined.ensures)
+    (own_Block.ensures ∙ ap (words.own_block (statement_of a.x none)) mask-of.ensures) noted.ensures c.join-joined.ensures)

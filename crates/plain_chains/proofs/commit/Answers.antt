@@ -13,7 +13,7 @@ unfolding maybe_of
 returns-then-not-own c =
     record {
       within = c.requires.2;
-      is = sym (commit_passed (statements c.args.xs) (held_of c.args.x) (names c.args.log) (gives_none c.chain-own.ensures ((ap not c.if-not-own.true))));
+      is = sym (commit_passed (statements c.args.xs) (held_of c.args.x) (names c.args.log) (gives_none c.chain-own.ensures c.if-not-own.true));
     }
 
 pub returns : goal.returns
@@ -22,5 +22,5 @@ returns c =
       within = c.merge.ensures.within;
       is =
           c.merge.ensures.is
-          ∙ sym (commit_joins (statements c.args.xs) (held_of c.args.x) _ (names c.args.log) (gives_some c.chain-own.ensures ((ap not c.if-not-own.false))));
+          ∙ sym (commit_joins (statements c.args.xs) (held_of c.args.x) _ (names c.args.log) (gives_some c.chain-own.ensures c.if-not-own.false));
     }

@@ -20,7 +20,7 @@ returns-then-not-log c =
     let t = c.with_clock-later in
     let k = later_whole c.args.e t.result t.ensures c.requires.0 c.requires.2 in
     let m = c.commits-log in
-    let n = later_commits c.args.e t.result t.ensures (no_log t.result k m.result m.ensures ((ap not c.if-not-log.true))) in
+    let n = later_commits c.args.e t.result t.ensures (no_log t.result k m.result m.ensures c.if-not-log.true) in
     turn_is c.halted.ensures (turn_as (ticking_split (state c.args.e) n) (halted_turned 7 Split c.args.e _ c.requires.0.sized))
 
 pub turned-w-requires : goal.turned-w-requires
@@ -28,7 +28,7 @@ turned-w-requires c =
     let t = c.with_clock-later in
     let k = later_whole c.args.e t.result t.ensures c.requires.0 c.requires.2 in
     let m = c.commits-log in
-    (some_keepable t.result k m.result m.ensures ((ap not c.if-not-log.false)), c.requires.3)
+    (some_keepable t.result k m.result m.ensures c.if-not-log.false, c.requires.3)
 
 pub if_room-requires : goal.if_room-requires
 if_room-requires c = c.turned-w.ensures.now.sized

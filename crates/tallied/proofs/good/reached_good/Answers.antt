@@ -14,9 +14,9 @@ returns-then-reached-eq0 c =
 pub returns-then-not-certified : goal.returns-then-not-certified
 returns-then-not-certified c =
     let a = c.args in
-    ap (λ (x : Bool). x && leb (a.reached - 1) a.clock) (sym ((ap not c.if-not-certified.true)) ∙ c.quorum-certified.ensures) ∙ reached_some a.settings a.clock a.mask a.reached c.if-reached-eq0.false
+    ap (λ (x : Bool). x && leb (a.reached - 1) a.clock) (sym c.if-not-certified.true ∙ c.quorum-certified.ensures) ∙ reached_some a.settings a.clock a.mask a.reached c.if-reached-eq0.false
 
 pub returns : goal.returns
 returns c =
     let a = c.args in
-    ap (λ (x : Bool). x && leb (a.reached - 1) a.clock) (sym ((ap not c.if-not-certified.false)) ∙ c.quorum-certified.ensures) ∙ reached_some a.settings a.clock a.mask a.reached c.if-reached-eq0.false
+    ap (λ (x : Bool). x && leb (a.reached - 1) a.clock) (sym c.if-not-certified.false ∙ c.quorum-certified.ensures) ∙ reached_some a.settings a.clock a.mask a.reached c.if-reached-eq0.false
