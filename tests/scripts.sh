@@ -60,7 +60,9 @@ cmp "$place/words.played" "$place/hex.played"
 tail -n 1 "$place/words.played" | grep ' 0 bad$' >/dev/null
 echo "$(wc -l <"$place/messages.txt") printed messages are taken again, in words and in hex alike"
 
-# README shows the first script, and what it prints with the hex cut short
+# README shows the first script, which is also the one that the program's own run in `rt ci` takes, and what it prints with the hex
+# cut short
+cmp examples/first.txt crates/play/stdin
 sed -n '/`examples\/first.txt`:$/,/^It prints/{/^    \|^$/{s/^    //;p}}' README.md | sed '1d;$d' | diff - examples/first.txt
 tools/play examples/first.txt | sed -E 's/( # .{12}).*/\1../' | diff <(sed -n '/^It prints the following/,/^Any message/s/^    //p' README.md) -
 echo "README's run is as it says"

@@ -1,12 +1,7 @@
 -- What stays to be typed, as a loop goes on. Assumes nothing.
-use native.Mathlib.Omega.{arith}
-use Prim.Native.Nat.{ℕ, suc, ◌+◌, ◌/◌, ◌%◌, ◌≤◌, ◌<◌}
-use mathlib.Core.Path.{◌≡◌, refl, sym, ap}
-use mathlib.Core.List.{List, [], ◌∷◌}
-use native.Mathlib.Numerals.{add-one}
+use Rattle.std.proofs.Common.{ℕ, suc, ◌+◌, ◌/◌, ◌%◌, ◌≤◌, ◌<◌, ◌≡◌, refl, sym, ap, List, [], ◌∷◌, add-one, length, set, drop, get_or, drop-cons, arith}
+use Rattle.std.proofs.Math.Seq.{drop-length}
 use borrow.Author.Tests.{lt-ltb, le-ltb}
-use lib.ListN.{length, set, drop, get_or}
-use lib.Seq.{drop-cons, drop-length}
 use Rattle.io.specs.Digits.{hex_digit_ascii}
 use Rattle.page.specs.Page.{place, typed, pairs, in_hex}
 

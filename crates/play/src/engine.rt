@@ -72,19 +72,20 @@ pub fn take(
 }
 
 // Prints the log.
-pub fn log(store: &Store, list: &List, is_plain: bool, number: u64) {
+pub fn log(rt: &impl Print, store: &Store, list: &List, is_plain: bool, number: u64) {
     if is_plain {
-        plain_log(number, list);
+        plain_log(rt, number, list);
         return;
     }
-    stored::log(number, store);
+    stored::log(rt, number, store);
 }
 
 // The log, as the plain engine tells it.
-fn plain_log(line: u64, list: &List) {
+fn plain_log(rt: &impl Print, line: u64, list: &List) {
     let mut out = show::out_buffer();
     let answer = plain::plain_log(list, &mut out);
     stored::names(
+        rt,
         line,
         show::refusal(answer),
         answer as usize / stored::NAME,

@@ -1,7 +1,11 @@
 // Plays a script from standard input to one station, or to the plain engine; docs/SCRIPT.md has its form.
+#![tactic(auto)]
+
 use engine::List;
-use libc::{STDERR_FILENO, STDIN_FILENO};
 use said::show;
+use std::env::Env;
+use std::io;
+use std::io::Read;
 use stored::Store;
 
 mod doing;
@@ -12,7 +16,7 @@ mod relay;
 const LONGEST: usize = 4096;
 
 // How far the script is read: bytes of the line so far, 4,097 where it is too long; lines that ended, and the bad ones of them.
-#[derive(Drop)]
+#[derive(Clone, Copy)]
 struct Progress {
     used: usize,
     lines: u64,
@@ -39,6 +43,7 @@ fn kept(line: &mut [u8; LONGEST], so_far: Progress, byte: u8) -> Progress {
 
 // Plays the first bytes of a line's buffer, and says whether they were a line.
 fn played(
+    rt: &impl Print,
     store: &mut Store,
     list: &mut List,
     is_plain: bool,
@@ -47,14 +52,15 @@ fn played(
     number: u64,
 ) -> bool {
     if line.len() < used {
-        show::long(number);
+        show::long(rt, number);
         return false;
     }
-    doing::line(store, list, is_plain, &line[..used], number)
+    doing::line(rt, store, list, is_plain, &line[..used], number)
 }
 
 // The line ends.
 fn ended(
+    rt: &impl Print,
     store: &mut Store,
     list: &mut List,
     is_plain: bool,
@@ -62,7 +68,7 @@ fn ended(
     so_far: Progress,
 ) -> Progress {
     let number = next(so_far.lines);
-    let bad = if played(store, list, is_plain, line, so_far.used, number) {
+    let bad = if played(rt, store, list, is_plain, line, so_far.used, number) {
         so_far.bad
     } else {
         next(so_far.bad)
@@ -76,6 +82,7 @@ fn ended(
 
 // A piece of the script: lines, and parts of lines.
 fn read_on(
+    rt: &impl Print,
     store: &mut Store,
     list: &mut List,
     is_plain: bool,
@@ -87,7 +94,7 @@ fn read_on(
     let mut i = 0;
     while i < piece.len() {
         if piece[i] == b'\n' {
-            progress = ended(store, list, is_plain, line, progress);
+            progress = ended(rt, store, list, is_plain, line, progress);
         } else {
             progress = kept(line, progress, piece[i]);
         }
@@ -98,10 +105,11 @@ fn read_on(
 
 // The whole script, played to the working station or to the plain engine, a piece at a time. The turns are counted down from a
 // number that no input uses up.
-fn run(is_plain: bool) {
+fn run(rt: &(impl Input + Print), is_plain: bool) -> io::Result<()> {
+    let mut input = rt.reader();
     let mut list = engine::no_list();
     let mut store = stored::no_store();
-    let mut line = io::buffer();
+    let mut line = [0u8; LONGEST];
     let mut progress = Progress {
         used: 0,
         lines: 0,
@@ -109,13 +117,13 @@ fn run(is_plain: bool) {
     };
     let mut turns = u64::MAX;
     while turns > 0 {
-        let mut piece = io::large_buffer();
-        let got = libc::read(STDIN_FILENO, &mut piece);
-        let n = io::count(got, &piece);
+        let mut piece = [0u8; 65536];
+        let n = input.read(&mut piece)?;
         if n == 0 {
             break;
         }
         progress = read_on(
+            rt,
             &mut store,
             &mut list,
             is_plain,
@@ -126,23 +134,26 @@ fn run(is_plain: bool) {
         turns -= 1;
     }
     if progress.used != 0 {
-        progress = ended(&mut store, &mut list, is_plain, &line, progress);
+        progress = ended(rt, &mut store, &mut list, is_plain, &line, progress);
     }
-    show::end_of_script(progress.lines, progress.bad);
+    show::end_of_script(rt, progress.lines, progress.bad);
+    Ok(())
 }
 
 // Whether the first argument asks for the plain engine.
-fn is_plain() -> bool {
-    let mut word = io::buffer();
-    let len = os::arg(1, &mut word);
-    text::same(&word[..len], b"--plain")
+fn is_plain(rt: &impl Env) -> bool {
+    let mut word = [0u8; 4096];
+    match rt.arg(1, &mut word) {
+        Ok(len) => text::same(&word[..len], b"--plain"),
+        Err(_) => false,
+    }
 }
 
 // What is printed is the same for both; that the plain engine answers is said beside it.
-fn main() {
-    let plain = is_plain();
+fn main(rt: HostRuntime) -> io::Result<()> {
+    let plain = is_plain(&rt);
     if plain {
-        io::write_all(STDERR_FILENO, b"the plain engine answers\n");
+        rt.eprintln("the plain engine answers")?;
     }
-    run(plain);
+    run(&rt, plain)
 }

@@ -7,10 +7,17 @@ use said::show;
 use stored::Store;
 
 // Hands over the messages of an envelope; of one that is refused none.
-pub fn hand_over(store: &mut Store, list: &mut List, is_plain: bool, number: u64, bytes: &[u8]) {
-    let mut places = io::buffer();
+pub fn hand_over(
+    rt: &impl Print,
+    store: &mut Store,
+    list: &mut List,
+    is_plain: bool,
+    number: u64,
+    bytes: &[u8],
+) {
+    let mut places = [0u8; 4096];
     let answer = envelope::envelope_read(bytes, &mut places);
-    show::envelope(number, answer);
+    show::envelope(rt, number, answer);
     if show::refusal(answer) != 0 {
         return;
     }
@@ -20,7 +27,7 @@ pub fn hand_over(store: &mut Store, list: &mut List, is_plain: bool, number: u64
         if left == 0 {
             break;
         }
-        one(store, list, is_plain, number, bytes, &places, at);
+        one(rt, store, list, is_plain, number, bytes, &places, at);
         left -= 1;
         at += 8;
     }
@@ -28,6 +35,7 @@ pub fn hand_over(store: &mut Store, list: &mut List, is_plain: bool, number: u64
 
 // Hands over the message whose place is listed.
 fn one(
+    rt: &impl Print,
     store: &mut Store,
     list: &mut List,
     is_plain: bool,
@@ -41,6 +49,6 @@ fn one(
     let offset = fields::get(places, at, 4) as usize;
     let end = offset + fields::get(places, at + 4, 4) as usize;
     if end <= bytes.len() {
-        doing::message(store, list, is_plain, number, &bytes[offset..end]);
+        doing::message(rt, store, list, is_plain, number, &bytes[offset..end]);
     }
 }

@@ -1,8 +1,5 @@
 -- A store of the small limits' length is of its exact length. Assumes nothing.
-use Prim.Native.Nat.{ℕ}
-use mathlib.Core.Path.{◌≡◌, sym, ap, ◌∙◌}
-use mathlib.Core.List.{List}
-use lib.ListN.{length}
+use Rattle.std.proofs.Common.{ℕ, ◌≡◌, sym, ap, ◌∙◌, List, length}
 use Rattle.rules.specs.Limits.{small, last_view, most_statements, most_tallies}
 use Rattle.store.specs.Layout.{store_length, small_length, size_in}
 use Rattle.store.proofs.Forms.{sized}

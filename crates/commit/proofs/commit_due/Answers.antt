@@ -21,7 +21,7 @@ turn : (c : goal.After-slice_known-in-loop-i-1 invariant-loop decreases-loop)
     → let a = c.args in
     let l = c.loop-i in
     let walk = c.walk-walked in
-    Turn a.store.now (is_ripe a.view a.wait a.clock) a.count l.i l.len l.gained walk.new.1.1.1.1.0 walk.result.left c.height_at-own.result
+    Turn a.store.now (is_ripe a.view a.wait a.clock) a.count l.i l.len l.gained walk.new.chain walk.result.left c.height_at-own.result
 turn c =
     let begun = c.requires.0 in
     let course = c.loop-i.invariant in
@@ -34,7 +34,7 @@ turn c =
       tall = c.height_at-own.ensures;
       high = omega (arith, c.if-count-own.false, begun.all, form_statements _ begun.form);
       walked = c.walk-walked.ensures.from;
-      whole = omega (arith, c.walk-walked.auto.1.1.1.1.0, course.chained.long);
+      whole = omega (arith, c.walk-walked.auto.chain, course.chained.long);
     }
 
 pub loop-i-init : goal.loop-i-init
@@ -144,7 +144,7 @@ loop-i-preserved c =
     let loop = c.loop-i in
     let if6 = c.if-left-ne0 in
     let join = c.join in
-    turn_grown (turn c) if6.false _ join.result join.ensures (omega (arith, join.auto.1.1.1.0, loop.invariant.long)) _ c.in-Grown.is
+    turn_grown (turn c) if6.false _ join.result join.ensures (omega (arith, join.auto.gained, loop.invariant.long)) _ c.in-Grown.is
 
 pub shape_of-gained-then-i-settled : goal.shape_of-gained-then-i-settled
 shape_of-gained-then-i-settled c =
@@ -164,14 +164,14 @@ shape_of-gained-in_default c =
     let pre = c.requires in
     let loop = c.loop-i in
     let join = c.join in
-    omega (arith, join.auto.1.1.1.0, loop.invariant.long, pre.3)
+    omega (arith, join.auto.gained, loop.invariant.long, pre.3)
 
 pub shape_of-chain-in_default : goal.shape_of-chain-in_default
 shape_of-chain-in_default c =
     let pre = c.requires in
     let loop = c.loop-i in
     let walk = c.walk-walked in
-    omega (arith, walk.auto.1.1.1.1.0, loop.invariant.chained.long, pre.4)
+    omega (arith, walk.auto.chain, loop.invariant.chained.long, pre.4)
 
 pub returns-in_default : goal.returns-in_default
 returns-in_default c =

@@ -22,26 +22,41 @@ table_fits-log-requires c =
     let pre = c.requires in
     omega (arith, pre.long, c.log_in.ensures, c.most_statements-most.ensures ∙ ap most_statements pre.holds.size)
 
--- the three tests are those of the tables
-tests : (c : goal.After-table_fits-log)
-    → Tested c.args.store.now c.args.station c.table_fits-statements.result c.table_fits-tallies.result c.table_fits-log.result
-tests c =
+pub returns-then-not-tables : goal.returns-then-not-tables
+returns-then-not-tables c =
     let same = c.requires.holds.size in
     let most = c.most_statements-most.ensures ∙ ap most_statements same in
+    let tests : Tested c.args.store.now c.args.station c.table_fits-statements.result c.table_fits-tallies.result c.table_fits-log.result =
     record {
       statements = used_by_lem statement_table _ _ refl most c.table_fits-statements.ensures;
       tallies = used_by_lem tally_table _ _ c.tallies_in.ensures (c.most_tallies.ensures ∙ ap most_tallies same) c.table_fits-tallies.ensures;
       log = used_by_lem log_table _ _ c.log_in.ensures most c.table_fits-log.ensures;
     }
-
-pub returns-then-not-tables : goal.returns-then-not-tables
-returns-then-not-tables c =
-    tests_fail _ c.args.station c.requires (tests c) (ap not c.if-not-tables.true)
+    in
+    tests_fail _ c.args.station c.requires tests (ap not c.if-not-tables.true)
 
 pub kinds_good-requires : goal.kinds_good-requires
 kinds_good-requires c =
-    counts_statements _ c.args.station c.requires (tests_hold _ c.args.station c.requires (tests c) (ap not c.if-not-tables.false))
+    let same = c.requires.holds.size in
+    let most = c.most_statements-most.ensures ∙ ap most_statements same in
+    let tests : Tested c.args.store.now c.args.station c.table_fits-statements.result c.table_fits-tallies.result c.table_fits-log.result =
+    record {
+      statements = used_by_lem statement_table _ _ refl most c.table_fits-statements.ensures;
+      tallies = used_by_lem tally_table _ _ c.tallies_in.ensures (c.most_tallies.ensures ∙ ap most_tallies same) c.table_fits-tallies.ensures;
+      log = used_by_lem log_table _ _ c.log_in.ensures most c.table_fits-log.ensures;
+    }
+    in
+    counts_statements _ c.args.station c.requires (tests_hold _ c.args.station c.requires tests (ap not c.if-not-tables.false))
 
 pub returns : goal.returns
 returns c =
-    c.kinds_good.ensures ∙ tests_then _ c.args.station c.requires (tests c) (ap not c.if-not-tables.false)
+    let same = c.requires.holds.size in
+    let most = c.most_statements-most.ensures ∙ ap most_statements same in
+    let tests : Tested c.args.store.now c.args.station c.table_fits-statements.result c.table_fits-tallies.result c.table_fits-log.result =
+    record {
+      statements = used_by_lem statement_table _ _ refl most c.table_fits-statements.ensures;
+      tallies = used_by_lem tally_table _ _ c.tallies_in.ensures (c.most_tallies.ensures ∙ ap most_tallies same) c.table_fits-tallies.ensures;
+      log = used_by_lem log_table _ _ c.log_in.ensures most c.table_fits-log.ensures;
+    }
+    in
+    c.kinds_good.ensures ∙ tests_then _ c.args.station c.requires tests (ap not c.if-not-tables.false)

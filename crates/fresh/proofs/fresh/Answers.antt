@@ -24,7 +24,7 @@ save-requires c =
     let if1 = c.if-not-is_whole in let clear = c.clear in
     let b = c.args.store.now in
     let l = eqb-true (length b) (store_length (size_in b)) (sym is_whole.ensures ∙ if1.false) in
-    omega (arith, l, clear.auto.0)
+    omega (arith, l, clear.auto.s)
 
 pub returns : goal.returns
 returns c =

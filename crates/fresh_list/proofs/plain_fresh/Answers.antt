@@ -20,7 +20,7 @@ put-requires-then-has_length c =
     let args = c.args in
     let has-length = c.has_length in
     let if1 = c.if-has_length in let put = c.put in
-    omega (arith, (lengths args.list.now (sym has-length.ensures ∙ if1.true)).0, put.auto.0)
+    omega (arith, (lengths args.list.now (sym has-length.ensures ∙ if1.true)).0, put.auto.s)
 
 pub put-requires-then-has_length-2 : goal.put-requires-then-has_length-2
 put-requires-then-has_length-2 c =
@@ -28,7 +28,7 @@ put-requires-then-has_length-2 c =
     let has-length = c.has_length in
     let if1 = c.if-has_length in
     let put = c.put in let put2 = c.put-then-has_length in
-    omega (arith, (lengths args.list.now (sym has-length.ensures ∙ if1.true)).0, put.auto.0, put2.auto.0)
+    omega (arith, (lengths args.list.now (sym has-length.ensures ∙ if1.true)).0, put.auto.s, put2.auto.s)
 
 pub overflow_sub-rest : goal.overflow_sub-rest
 overflow_sub-rest c =
@@ -36,7 +36,7 @@ overflow_sub-rest c =
     let has-length = c.has_length in
     let if1 = c.if-has_length in
     let put = c.put in let put2 = c.put-then-has_length in
-    omega (arith, (lengths args.list.now (sym has-length.ensures ∙ if1.true)).0, put.auto.0, put2.auto.0, c.put-then-has_length-2.auto.0)
+    omega (arith, (lengths args.list.now (sym has-length.ensures ∙ if1.true)).0, put.auto.s, put2.auto.s, c.put-then-has_length-2.auto.s)
 
 pub clear-requires : goal.clear-requires
 clear-requires c =
@@ -45,7 +45,7 @@ clear-requires c =
     let if1 = c.if-has_length in
     let put = c.put in
     let put2 = c.put-then-has_length in let put3 = c.put-then-has_length-2 in
-    omega (arith, (lengths args.list.now (sym has-length.ensures ∙ if1.true)).0, put.auto.0, put2.auto.0, put3.auto.0)
+    omega (arith, (lengths args.list.now (sym has-length.ensures ∙ if1.true)).0, put.auto.s, put2.auto.s, put3.auto.s)
 
 pub returns-then-has_length : goal.returns-then-has_length
 returns-then-has_length c =

@@ -20,13 +20,12 @@ pub moment_in-moment-requires : goal.moment_in-moment-requires
 moment_in-moment-requires c = (c.requires.0, c.requires.4)
 
 pub join_at-requires : goal.join_at-requires
-join_at-requires c =
-    (
-      c.requires.0,
-      place_within c.args.store.now (author_of c.args.voters) (block_of c.args.block) _ c.requires.2 _ c.in-At.is,
-      in-time c.moment_in-moment.result (author_of c.args.voters) (state_of c.args.store.now) c.moment_in-moment.ensures c.requires.3,
-      c.requires.4,
-    )
+join_at-requires c = (
+  c.requires.0,
+  place_within c.args.store.now (author_of c.args.voters) (block_of c.args.block) _ c.requires.2 _ c.in-At.is,
+  in-time c.moment_in-moment.result (author_of c.args.voters) (state_of c.args.store.now) c.moment_in-moment.ensures c.requires.3,
+  c.requires.4,
+)
 
 pub joined-requires : goal.joined-requires
 joined-requires c =

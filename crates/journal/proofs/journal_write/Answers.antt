@@ -19,27 +19,31 @@ returns-in_default c =
     let is-input = c.is_input in let if2 = c.if-is_input in
     no_room _ a.kind a.input.now (slot_count_lem a.journal.now) if1.false is-input.ensures if2.true c.find_room.ensures c.in_default.is c.refuse-in_default.ensures
 
--- the slot that was found lies within the journal, once the room is taken apart
-fits : (k : goal.In-Free-2) → k.in-Free.place * slot_length + slot_length ≤ length k.args.journal.now
-fits k =
-    let a = k.args in
-    (place_within _ a.kind a.input.now (slot_count_lem a.journal.now) k.if-count-gt4294967295.false k.is_input.ensures k.if-is_input.true k.find_room.ensures k.in-Free.is).2
-
 pub overflow_mul-at : goal.overflow_mul-at
-overflow_mul-at c = omega (arith, fits c, c.well_formed.0.0)
+overflow_mul-at c =
+    let a = c.args in
+    let fits = (place_within _ a.kind a.input.now (slot_count_lem a.journal.now) c.if-count-gt4294967295.false c.is_input.ensures c.if-is_input.true c.find_room.ensures c.in-Free.is).2 in
+    omega (arith, fits, c.well_formed.0.0)
 
 pub overflow_add-end : goal.overflow_add-end
-overflow_add-end c = omega (arith, fits c, c.well_formed.0.0)
+overflow_add-end c =
+    let a = c.args in
+    let fits = (place_within _ a.kind a.input.now (slot_count_lem a.journal.now) c.if-count-gt4294967295.false c.is_input.ensures c.if-is_input.true c.find_room.ensures c.in-Free.is).2 in
+    omega (arith, fits, c.well_formed.0.0)
 
 pub slice_bounds-write_record-end : goal.slice_bounds-write_record-end
-slice_bounds-write_record-end c = fits c
+slice_bounds-write_record-end c =
+    let a = c.args in
+    let fits = (place_within _ a.kind a.input.now (slot_count_lem a.journal.now) c.if-count-gt4294967295.false c.is_input.ensures c.if-is_input.true c.find_room.ensures c.in-Free.is).2 in
+    fits
 
 pub write_record-requires : goal.write_record-requires
 write_record-requires c =
     let a = c.args in
+    let fits = (place_within _ a.kind a.input.now (slot_count_lem a.journal.now) c.if-count-gt4294967295.false c.is_input.ensures c.if-is_input.true c.find_room.ensures c.in-Free.is).2 in
     let m = may_write _ a.kind a.input.now (slot_count_lem a.journal.now) c.if-count-gt4294967295.false c.is_input.ensures c.if-is_input.true c.find_room.ensures c.in-Free.is in
     let p = c.in-Free.place in
-    (mid_len (p * 128) (p * 128 + 128) a.journal.now (fits c) ∙ omega arith, m.0, m.1, m.2)
+    (mid_len (p * 128) (p * 128 + 128) a.journal.now fits ∙ omega arith, m.0, m.1, m.2)
 
 pub returns-then-is_input : goal.returns-then-is_input
 returns-then-is_input c =

@@ -18,7 +18,7 @@ pub slice_bounds-write_record-end : goal.slice_bounds-write_record-end
 slice_bounds-write_record-end c =
     let args = c.args in let pre = c.requires in
     let get = c.get-records in
-    omega (arith, (within args.list.now pre.0 pre.1 get.ensures.0).1, c.put.auto.0)
+    omega (arith, (within args.list.now pre.0 pre.1 get.ensures.0).1, c.put.auto.s)
 
 pub write_record-requires : goal.write_record-requires
 write_record-requires c =
@@ -27,7 +27,7 @@ write_record-requires c =
     let w = within args.list.now pre.0 pre.1 get.ensures.0 in
     let f = input_fits args.kind args.input.now pre.2 in
     let at = 16 + get.result * 128 in
-    (mid_len at (at + 128) put.new.0 (omega (arith, w.1, put.auto.0)) ∙ omega arith, omega (arith, w.0), f.0, f.1)
+    (mid_len at (at + 128) put.new.s (omega (arith, w.1, put.auto.s)) ∙ omega arith, omega (arith, w.0), f.0, f.1)
 
 pub returns : goal.returns
 returns c =

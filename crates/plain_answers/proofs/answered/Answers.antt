@@ -27,7 +27,7 @@ slice_bounds-enter-end c =
     let if1 = c.if-number-ne0 in
     let fold = c.fold-folded in let if2 = c.if-folded in
     let turn_by = c.turn_by-t in
-    count_fits args.list.now args.out.now (input_of args.kind args.input.now) barred.ensures if1.false fold.ensures if2.true turn_by.ensures (let n : length turn_by.new.1.1.1.0 ≡ least_out_small = turn_by.auto.1.1.1.0 ∙ length-replicate {A = ℕ} least_out_small 0 in n)
+    count_fits args.list.now args.out.now (input_of args.kind args.input.now) barred.ensures if1.false fold.ensures if2.true turn_by.ensures (let n : length turn_by.new.out ≡ least_out_small = turn_by.auto.out ∙ length-replicate {A = ℕ} least_out_small 0 in n)
 
 pub enter-requires : goal.enter-requires
 enter-requires c =
@@ -46,7 +46,7 @@ enter-requires c =
     fold.ensures
     if2.true
     turn_by.ensures
-    (let n : length turn_by.new.1.1.1.0 ≡ least_out_small = turn_by.auto.1.1.1.0 ∙ length-replicate {A = ℕ} least_out_small 0 in n)
+    (let n : length turn_by.new.out ≡ least_out_small = turn_by.auto.out ∙ length-replicate {A = ℕ} least_out_small 0 in n)
     (sym c.requires.kind)
     (sym c.requires.bytes)
     (plain_bytes a.input.now shared-slice-known.given)

@@ -72,7 +72,7 @@ loop-place-preserved c =
     let held_at = c.held_at in
     let turn_by = c.turn_by-t in
     let loop-test = c.loop-place-test in
-    (omega (arith, loop-test.true), loop.invariant.1, turn_by.auto.1.1.1.0 ∙ loop.invariant.2, turn_by.ensures.whole, fold_next args.list.now loop.place loop.engine loop.invariant.4 held_at.ensures c.in-Input.is turn_by.ensures c.is_kept.ensures ((ap not c.if-not-is_kept.false)))
+    (omega (arith, loop-test.true), loop.invariant.1, turn_by.auto.out ∙ loop.invariant.2, turn_by.ensures.whole, fold_next args.list.now loop.place loop.engine loop.invariant.4 held_at.ensures c.in-Input.is turn_by.ensures c.is_kept.ensures ((ap not c.if-not-is_kept.false)))
 
 pub returns : goal.returns
 returns c = let l = c.loop-place in fold_ends c.args.list.now l.place l.engine l.invariant.4 l.invariant.3 (omega (arith, l.invariant.1, c.loop-place-test.false))

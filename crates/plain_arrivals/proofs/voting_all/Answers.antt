@@ -25,8 +25,8 @@ pub voting-w-requires : goal.voting-w-requires
 voting-w-requires c =
     let a = c.args in let p = c.requires in
     let l = c.loop-i in
-    let x = get_or a.t1.items l.i blank in
-    let v = next_votable a.t1 p.0 blank l.i c.loop-i-test.true (state l.engine).tallies l.invariant.votable in
+    let x = get_or a.xs.items l.i blank in
+    let v = next_votable a.xs p.0 blank l.i c.loop-i-test.true (state l.engine).tallies l.invariant.votable in
     (l.invariant.sized, l.invariant.free, held_certifies x v.certifies, held_linked x v.certifies, omega (arith, l.invariant.space, c.loop-i-test.true))
 
 pub loop-i-smaller : goal.loop-i-smaller
@@ -35,10 +35,10 @@ loop-i-smaller c = omega (arith, c.loop-i-test.true)
 pub loop-i-preserved : goal.loop-i-preserved
 loop-i-preserved c =
     let l = c.loop-i in
-    votes_again c.args.t1 c.requires.0 blank l.i c.loop-i-test.true l.invariant c.voting-w.ensures
+    votes_again c.args.xs c.requires.0 blank l.i c.loop-i-test.true l.invariant c.voting-w.ensures
 
 pub shape_of-out : goal.shape_of-out
 shape_of-out c = c.loop-i.invariant.long
 
 pub returns : goal.returns
-returns c = let v = c.loop-i in let a = c.args in v.invariant.does _ _ (votes_end a.t1 v.engine _ v.i v.next v.invariant.sized c.loop-i-test.false)
+returns c = let v = c.loop-i in let a = c.args in v.invariant.does _ _ (votes_end a.xs v.engine _ v.i v.next v.invariant.sized c.loop-i-test.false)

@@ -27,7 +27,7 @@ unfolding maybe_of
 returns-then-not-next c =
     let l = c.loop-i in
     let loop-test = c.loop-i-test in
-    record { within = l.invariant.1; is = sym (l.invariant.2 ∙ commits_differ (statements c.args.xs) c.args.t2.items c.args.t2.count _ l.i (tables.names-1 l.names) (omega (arith, c.requires.2.long, c.requires.2.most)) loop-test.true (gives_none c.commit-next.ensures ((ap not c.if-not-next.true)))) }
+    record { within = l.invariant.1; is = sym (l.invariant.2 ∙ commits_differ (statements c.args.xs) c.args.due.items c.args.due.count _ l.i (tables.names-1 l.names) (omega (arith, c.requires.2.long, c.requires.2.most)) loop-test.true (gives_none c.commit-next.ensures ((ap not c.if-not-next.true)))) }
 
 pub overflow_add-i : goal.overflow_add-i
 overflow_add-i c = omega arith
@@ -40,10 +40,10 @@ loop-i-preserved c =
     let l = c.loop-i in
     let loop-test = c.loop-i-test in
     let commit = c.commit-next in
-    (omega arith, commit.ensures.within, l.invariant.2 ∙ commits_go (statements c.args.xs) c.args.t2.items c.args.t2.count _ l.i (tables.names-1 l.names) (omega (arith, c.requires.2.long, c.requires.2.most)) loop-test.true _ (gives_some commit.ensures ((ap not c.if-not-next.false))))
+    (omega arith, commit.ensures.within, l.invariant.2 ∙ commits_go (statements c.args.xs) c.args.due.items c.args.due.count _ l.i (tables.names-1 l.names) (omega (arith, c.requires.2.long, c.requires.2.most)) loop-test.true _ (gives_some commit.ensures ((ap not c.if-not-next.false))))
 
 pub returns : goal.returns
 unfolding maybe_of
 returns c =
     let l = c.loop-i in
-    record { within = l.invariant.1; is = sym (l.invariant.2 ∙ commits_end (statements c.args.xs) c.args.t2.items c.args.t2.count l.i (tables.names-1 l.names) c.loop-i-test.false) }
+    record { within = l.invariant.1; is = sym (l.invariant.2 ∙ commits_end (statements c.args.xs) c.args.due.items c.args.due.count l.i (tables.names-1 l.names) c.loop-i-test.false) }

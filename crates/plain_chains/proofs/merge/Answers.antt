@@ -7,17 +7,17 @@ use Rattle.plain_chains.proofs.Merges.{agree_none, stays, grows, differs, agrees
 use Rattle.plain_chains.proofs.merge.Goals as goal
 
 pub loop-k-init : goal.loop-k-init
-loop-k-init c = agree_none (names c.args.t1) (names c.args.t2)
+loop-k-init c = agree_none (names c.args.chain) (names c.args.log)
 
 pub returns-then-chain-k : goal.returns-then-chain-k
 unfolding maybe_of
 returns-then-chain-k c =
-    record { within = c.requires.1; is = stays c.args.t1 c.args.t2 c.requires.0 c.requires.1 _ c.loop-k.invariant c.if-chain-k.true }
+    record { within = c.requires.1; is = stays c.args.chain c.args.log c.requires.0 c.requires.1 _ c.loop-k.invariant c.if-chain-k.true }
 
 pub returns-then-log-k : goal.returns-then-log-k
 unfolding maybe_of
 returns-then-log-k c =
-    record { within = c.requires.0; is = grows c.args.t1 c.args.t2 c.requires.0 c.requires.1 _ c.loop-k.invariant c.if-log-k.true }
+    record { within = c.requires.0; is = grows c.args.chain c.args.log c.requires.0 c.requires.1 _ c.loop-k.invariant c.if-log-k.true }
 
 pub offset_bounds-chain-k : goal.offset_bounds-chain-k
 offset_bounds-chain-k c = omega arith
@@ -37,7 +37,7 @@ returns-then-not-same c =
     record {
       within = c.requires.1;
       is =
-          differs c.args.t1 c.args.t2 c.requires.0 c.requires.1 _ c.loop-k.invariant _ _
+          differs c.args.chain c.args.log c.requires.0 c.requires.1 _ c.loop-k.invariant _ _
           (omega arith) (omega arith) (sym c.same.ensures ∙ c.if-not-same.true);
     }
 
@@ -49,5 +49,5 @@ loop-k-smaller c = omega arith
 
 pub loop-k-preserved : goal.loop-k-preserved
 loop-k-preserved c =
-    agrees c.args.t1 c.args.t2 c.requires.0 c.requires.1 _ c.loop-k.invariant _ _
+    agrees c.args.chain c.args.log c.requires.0 c.requires.1 _ c.loop-k.invariant _ _
     (omega arith) (omega arith) (sym c.same.ensures ∙ c.if-not-same.false)

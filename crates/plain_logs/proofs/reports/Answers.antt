@@ -26,7 +26,7 @@ overflow_cast-k c = let p = c.requires in record { fits = omega (arith, p.0.most
 pub committed-next-requires : goal.committed-next-requires
 committed-next-requires c =
     let l = c.loop-k in
-    let log = c.args.t1 in
+    let log = c.args.log in
     omega (arith, l.invariant.space, c.loop-k-test.true, length_committed (l.k + 1) (name_of (get_or log.items l.k (record { first = 0; second = 0; third = 0; fourth = 0 }))))
 
 pub loop-k-smaller : goal.loop-k-smaller
@@ -36,10 +36,10 @@ pub loop-k-preserved : goal.loop-k-preserved
 loop-k-preserved c =
     let args = c.args in let pre = c.requires in
     let loop = c.loop-k in let loop-test = c.loop-k-test in
-    report_again args.t1 pre.0 _ loop-test.true loop.invariant c.committed-next.ensures
+    report_again args.log pre.0 _ loop-test.true loop.invariant c.committed-next.ensures
 
 pub shape_of-out : goal.shape_of-out
 shape_of-out c = c.loop-k.invariant.long
 
 pub returns : goal.returns
-returns c = let v = c.loop-k in let a = c.args in v.invariant.says _ _ (report_end a.t1 _ v.k v.next c.loop-k-test.false)
+returns c = let v = c.loop-k in let a = c.args in v.invariant.says _ _ (report_end a.log _ v.k v.next c.loop-k-test.false)

@@ -29,7 +29,7 @@ loop-k-preserved c =
     let args = c.args in let pre = c.requires in
     let loop = c.loop-k in let loop-test = c.loop-k-test in
     let write-name = c.write_name in
-    (omega arith, loop.invariant.1, write-name.auto.0 ∙ loop.invariant.2, log_next args.t1 pre.0 _ _ loop.k loop.invariant.3 _ (let h = loop-test.true in omega (arith, h, loop.invariant.1)) write-name.ensures)
+    (omega arith, loop.invariant.1, write-name.auto.out ∙ loop.invariant.2, log_next args.log pre.0 _ _ loop.k loop.invariant.3 _ (let h = loop-test.true in omega (arith, h, loop.invariant.1)) write-name.ensures)
 
 pub overflow_mul-result : goal.overflow_mul-result
 overflow_mul-result c = omega (arith, c.requires.0.most)
@@ -40,4 +40,4 @@ shape_of-out c = c.loop-k.invariant.2
 pub returns : goal.returns
 returns c =
     let args = c.args in let pre = c.requires in
-    let l = c.loop-k in (log_ends args.t1 pre.0 _ _ l.k l.invariant.3 (omega (arith, l.invariant.1, c.loop-k-test.false)), log_long args.t1 pre.0)
+    let l = c.loop-k in (log_ends args.log pre.0 _ _ l.k l.invariant.3 (omega (arith, l.invariant.1, c.loop-k-test.false)), log_long args.log pre.0)

@@ -26,7 +26,7 @@ returns-then-conflict c =
     let l = c.loop-i in
     let loop-test = c.loop-i-test in
     let w = pre.0 in
-    sym (l.invariant.1 ∙ first_here held_of (words.conflict (statement_of a.x none)) a.t1.items a.t1.count blank l.i (omega (arith, w.long, w.most)) loop-test.true (conflict_held a.x (get_or a.t1.items l.i blank) ∙ sym c.conflict.ensures ∙ c.if-conflict.true))
+    sym (l.invariant.1 ∙ first_here held_of (words.conflict (statement_of a.x none)) a.xs.items a.xs.count blank l.i (omega (arith, w.long, w.most)) loop-test.true (conflict_held a.x (get_or a.xs.items l.i blank) ∙ sym c.conflict.ensures ∙ c.if-conflict.true))
 
 pub overflow_add-i : goal.overflow_add-i
 overflow_add-i c = let w = c.requires.0 in omega (arith, w.most, c.loop-i-test.true)
@@ -40,11 +40,11 @@ loop-i-preserved c =
     let l = c.loop-i in
     let loop-test = c.loop-i-test in
     let w = pre.0 in
-    (omega (arith, loop-test.true), l.invariant.1 ∙ first_next held_of (words.conflict (statement_of a.x none)) a.t1.items a.t1.count blank l.i (omega (arith, w.long, w.most)) loop-test.true (conflict_held a.x (get_or a.t1.items l.i blank) ∙ sym c.conflict.ensures ∙ c.if-conflict.false))
+    (omega (arith, loop-test.true), l.invariant.1 ∙ first_next held_of (words.conflict (statement_of a.x none)) a.xs.items a.xs.count blank l.i (omega (arith, w.long, w.most)) loop-test.true (conflict_held a.x (get_or a.xs.items l.i blank) ∙ sym c.conflict.ensures ∙ c.if-conflict.false))
 
 pub returns : goal.returns
 unfolding statements
 returns c =
     let a = c.args in
     let l = c.loop-i in
-    sym (l.invariant.1 ∙ first_done held_of (words.conflict (statement_of a.x none)) a.t1.items a.t1.count l.i c.loop-i-test.false)
+    sym (l.invariant.1 ∙ first_done held_of (words.conflict (statement_of a.x none)) a.xs.items a.xs.count l.i c.loop-i-test.false)

@@ -27,7 +27,7 @@ returns-in-Here c =
     let l = c.loop-i in
     let loop-test = c.loop-i-test in
     let conflict-from = c.conflict_from-found in
-    sym (l.invariant.1 ∙ pair_here a.t1.items a.t1.count blank l.i (omega (arith, w.long, w.most)) loop-test.true _ (sym conflict-from.ensures ∙ ap found_of c.in-Here.is))
+    sym (l.invariant.1 ∙ pair_here a.xs.items a.xs.count blank l.i (omega (arith, w.long, w.most)) loop-test.true _ (sym conflict-from.ensures ∙ ap found_of c.in-Here.is))
 
 pub loop-i-smaller : goal.loop-i-smaller
 loop-i-smaller c = omega (arith, c.loop-i-test.true)
@@ -38,11 +38,11 @@ loop-i-preserved c =
     let a = c.args in let w = c.requires in
     let l = c.loop-i in
     let loop-test = c.loop-i-test in
-    (omega (arith, loop-test.true), l.invariant.1 ∙ pair_next a.t1.items a.t1.count blank l.i (omega (arith, w.long, w.most)) loop-test.true (sym c.conflict_from-found.ensures ∙ ap found_of c.in_default.is))
+    (omega (arith, loop-test.true), l.invariant.1 ∙ pair_next a.xs.items a.xs.count blank l.i (omega (arith, w.long, w.most)) loop-test.true (sym c.conflict_from-found.ensures ∙ ap found_of c.in_default.is))
 
 pub returns : goal.returns
 unfolding statements
 returns c =
     let a = c.args in
     let l = c.loop-i in
-    sym (l.invariant.1 ∙ pair_done a.t1.items a.t1.count l.i c.loop-i-test.false)
+    sym (l.invariant.1 ∙ pair_done a.xs.items a.xs.count l.i c.loop-i-test.false)

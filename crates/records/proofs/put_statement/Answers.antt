@@ -9,7 +9,7 @@ overflow_add-at-4 c =
 
 pub put_name-requires : goal.put_name-requires
 put_name-requires c =
-    omega (arith, c.requires, c.put-3.auto.0, c.put-2.auto.0, c.put.auto.0, c.put_block.auto.0)
+    omega (arith, c.requires, c.put-3.auto.s, c.put-2.auto.s, c.put.auto.s, c.put_block.auto.store)
 
 pub overflow_add-at-5 : goal.overflow_add-at-5
 overflow_add-at-5 c =
@@ -17,7 +17,7 @@ overflow_add-at-5 c =
 
 pub put-requires-4 : goal.put-requires-4
 put-requires-4 c =
-    omega (arith, c.requires, c.put_name.auto.0, c.put-3.auto.0, c.put-2.auto.0, c.put.auto.0, c.put_block.auto.0)
+    omega (arith, c.requires, c.put_name.auto.s, c.put-3.auto.s, c.put-2.auto.s, c.put.auto.s, c.put_block.auto.store)
 
 pub returns : goal.returns
 unfolding statement_of

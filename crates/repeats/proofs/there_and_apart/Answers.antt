@@ -24,14 +24,13 @@ returns-then-stored-eq0 c =
     sym (ap₂ ◌&&◌ (ap (all (tallies_there (tallies store))) whole ∙ all_end (statement_at store) _ (tallies_there (tallies store)) 0 none) (ap (distinct same_statement) whole ∙ distinct_end (statement_at store) _ same_statement 0 none))
 
 pub loop-i-init : goal.loop-i-init
-loop-i-init c =
-    (
-      omega arith,
-      chained_none _ _ _ _ (record { heads-are = refl; nexts-are = refl }),
-      distinct_end (statement_at _) _ same_statement _ (omega arith),
-      all_end (statement_at _) _ _ _ (omega arith),
-      record { fits = omega (arith, c.requires.0.long); mixes = λ l. absurd (omega (arith, l)); has = λ l. absurd (omega (arith, l)) },
-    )
+loop-i-init c = (
+  omega arith,
+  chained_none _ _ _ _ (record { heads-are = refl; nexts-are = refl }),
+  distinct_end (statement_at _) _ same_statement _ (omega arith),
+  all_end (statement_at _) _ _ _ (omega arith),
+  record { fits = omega (arith, c.requires.0.long); mixes = λ l. absurd (omega (arith, l)); has = λ l. absurd (omega (arith, l)) },
+)
 
 pub certified_block-block-requires : goal.certified_block-block-requires
 certified_block-block-requires c =

@@ -46,7 +46,7 @@ loop-place-preserved-in-Torn c =
       omega arith,
       l.invariant.3,
       l.invariant.4,
-      omega (arith, put.auto.0, l.invariant.5),
+      omega (arith, put.auto.s, l.invariant.5),
       at_torn j _ l.records l.place (length j / 128) l.torn l.store l.out l.report l.invariant.6 loop-test.true _ s c.in-Torn.is (omega (arith, slot_count_lem j, pre.0, loop-test.true)) put.ensures,
     )
 
@@ -101,8 +101,8 @@ loop-place-preserved c =
       omega arith,
       omega arith,
       omega arith,
-      omega (arith, hand.auto.1.1.0, l.invariant.3),
-      omega (arith, hand.auto.1.1.1.0, l.invariant.4),
+      omega (arith, hand.auto.store, l.invariant.3),
+      omega (arith, hand.auto.out, l.invariant.4),
       l.invariant.5,
       at_taken j _ l.records l.place (length j / 128) l.torn l.store l.out l.report l.invariant.6 loop-test.true _ (slot c) c.in-Whole.is hand.ensures if1.false (input c) c.is_taken.ensures c.if-is_taken.true,
     )

@@ -28,7 +28,7 @@ growing-requires c =
     let if1 = c.if-calm in
     let p = pre.0 in
     let station = args.station in
-    clears p.formed p.runs station p.loaded p.ahead (gained_by commits.ensures c.in-Grown.is) commits.auto.1.1.1.1.0
+    clears p.formed p.runs station p.loaded p.ahead (gained_by commits.ensures c.in-Grown.is) commits.auto.gained
     (calm_room p.formed station p.loaded p.runs p.ahead pre.3 if1.true) refl p.space
 
 pub returns-then-calm : goal.returns-then-calm
@@ -54,7 +54,7 @@ turning-requires c =
     let if2 = c.if-not-next_fits in
     let p = pre.0 in
     let station = args.station in (
-      clears p.formed p.runs station p.loaded p.ahead (gained_by commits.ensures c.in-Grown.is) commits.auto.1.1.1.1.0 next-fits.ensures (if2.false) p.space,
+      clears p.formed p.runs station p.loaded p.ahead (gained_by commits.ensures c.in-Grown.is) commits.auto.gained next-fits.ensures (if2.false) p.space,
       seen_votes _ _ station p.loaded args.glance pre.2,
     )
 

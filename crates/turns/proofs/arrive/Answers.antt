@@ -69,7 +69,7 @@ vote_in_order-requires c =
     let o = c.in_order-count in
     let f = order_few pre.0 load.result load.ensures _ o.result o.ensures in
     let m = statements_most (size_in c.args.store.now) in
-    record { formed = pre.0; few = omega (arith, f, m); long = omega (arith, f, m, o.auto.1.1.0, pre.2); inside = o.ensures.inside; space = omega (arith, f, pre.1) }
+    record { formed = pre.0; few = omega (arith, f, m); long = omega (arith, f, m, o.auto.order, pre.2); inside = o.ensures.inside; space = omega (arith, f, pre.1) }
 
 pub returns-in-At : goal.returns-in-At
 returns-in-At c =

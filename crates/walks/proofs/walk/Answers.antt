@@ -95,7 +95,7 @@ pub shape_of-chain-then-meets : goal.shape_of-chain-then-meets
 shape_of-chain-then-meets c =
     let pre = c.requires in
     let loop = c.loop-k in
-    omega (arith, c.copy_told.auto.1.0, loop.invariant.long, pre.4)
+    omega (arith, c.copy_told.auto.to, loop.invariant.long, pre.4)
 
 pub returns-then-meets : goal.returns-then-meets
 returns-then-meets c =

@@ -10,10 +10,10 @@ pub returns-then-i-self : goal.returns-then-i-self
 unfolding statements
 returns-then-i-self c =
     let a = c.args in
-    found_first held_of blank room a.t1.items a.t1.count c.requires (words.conflict (statement_of a.x none)) c.place_of-i.result c.place_of-i.ensures c.if-i-self.true
+    found_first held_of blank room a.self.items a.self.count c.requires (words.conflict (statement_of a.x none)) c.place_of-i.result c.place_of-i.ensures c.if-i-self.true
 
 pub returns : goal.returns
 unfolding statements
 returns c =
     let a = c.args in
-    found_none held_of blank room a.t1.items a.t1.count c.requires (words.conflict (statement_of a.x none)) c.place_of-i.result c.place_of-i.ensures c.if-i-self.false
+    found_none held_of blank room a.self.items a.self.count c.requires (words.conflict (statement_of a.x none)) c.place_of-i.result c.place_of-i.ensures c.if-i-self.false

@@ -15,8 +15,8 @@ returns-then-i-self c =
     let a = c.args in let w = c.requires in let place_of = c.place_of-i in
     let i = place_of.result in
     record {
-      within = within_set room a.t1.items a.t1.count w i _;
-      is = altered held_of blank room a.t1.items a.t1.count w (words.same_statement (statement_of a.x none)) i place_of.ensures (inputs.noted a.clock) _ c.if-i-self.true (noted_held a.clock (get_or a.t1.items i blank));
+      within = within_set room a.self.items a.self.count w i _;
+      is = altered held_of blank room a.self.items a.self.count w (words.same_statement (statement_of a.x none)) i place_of.ensures (inputs.noted a.clock) _ c.if-i-self.true (noted_held a.clock (get_or a.self.items i blank));
     }
 
 pub returns-else-i-self : goal.returns-else-i-self
@@ -26,5 +26,5 @@ returns-else-i-self c =
     let w = c.requires in
     record {
       within = w;
-      is = unaltered held_of blank room a.t1.items a.t1.count w (words.same_statement (statement_of a.x none)) c.place_of-i.result c.place_of-i.ensures (inputs.noted a.clock) c.if-i-self.false;
+      is = unaltered held_of blank room a.self.items a.self.count w (words.same_statement (statement_of a.x none)) c.place_of-i.result c.place_of-i.ensures (inputs.noted a.clock) c.if-i-self.false;
     }

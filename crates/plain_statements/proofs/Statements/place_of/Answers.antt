@@ -23,8 +23,8 @@ unfolding statements
 returns-then-is_asked c =
     let a = c.args in
     let l = c.loop-i in
-    sym (place_here held_of blank (asked a.ask) a.t1.items a.t1.count l.i (long held_of blank room a.t1.items a.t1.count c.requires) (omega arith) l.invariant.1
-    (asked_held a.ask (get_or a.t1.items l.i blank) ∙ sym c.is_asked.ensures ∙ c.if-is_asked.true))
+    sym (place_here held_of blank (asked a.ask) a.self.items a.self.count l.i (long held_of blank room a.self.items a.self.count c.requires) (omega arith) l.invariant.1
+    (asked_held a.ask (get_or a.self.items l.i blank) ∙ sym c.is_asked.ensures ∙ c.if-is_asked.true))
 
 pub overflow_add-i : goal.overflow_add-i
 overflow_add-i c = omega arith
@@ -38,8 +38,8 @@ loop-i-preserved c =
     let a = c.args in
     let l = c.loop-i in (
       omega arith,
-      place_next held_of blank (asked a.ask) a.t1.items a.t1.count l.i (long held_of blank room a.t1.items a.t1.count c.requires) (omega arith) l.invariant.1
-          (asked_held a.ask (get_or a.t1.items l.i blank) ∙ sym c.is_asked.ensures ∙ c.if-is_asked.false),
+      place_next held_of blank (asked a.ask) a.self.items a.self.count l.i (long held_of blank room a.self.items a.self.count c.requires) (omega arith) l.invariant.1
+          (asked_held a.ask (get_or a.self.items l.i blank) ∙ sym c.is_asked.ensures ∙ c.if-is_asked.false),
     )
 
 pub returns : goal.returns
@@ -47,4 +47,4 @@ unfolding statements
 returns c =
     let a = c.args in
     let l = c.loop-i in
-    sym (place_done held_of blank (asked a.ask) a.t1.items a.t1.count l.i l.invariant.0 (omega arith) l.invariant.1)
+    sym (place_done held_of blank (asked a.ask) a.self.items a.self.count l.i l.invariant.0 (omega arith) l.invariant.1)

@@ -9,7 +9,7 @@ use Rattle.plain_statements.proofs.Statements.push.Goals as goal
 pub returns : goal.returns
 unfolding statements held_of
 returns c =
-    let t = c.args.t1 in
+    let t = c.args.self in
     let w = c.requires.0 in
     record {
       within = record { long = length-set t.items t.count _ ∙ w.long; most = omega arith };

@@ -14,7 +14,7 @@ pub loop-i-init : goal.loop-i-init
 unfolding statements inputs.top
 loop-i-init c =
     let a = c.args in
-    (omega arith, sym (ap (inputs.top a.view) (firsts_done held_of a.t1.items a.t1.count a.t1.count (omega arith))))
+    (omega arith, sym (ap (inputs.top a.view) (firsts_done held_of a.self.items a.self.count a.self.count (omega arith))))
 
 pub overflow_sub-i : goal.overflow_sub-i
 overflow_sub-i c = omega arith
@@ -33,7 +33,7 @@ unfolding statements
 loop-i-preserved c =
     let a = c.args in let pre = c.requires in
     let l = c.loop-i in
-    (omega arith, c.greater-best.ensures ∙ ap (over a.view (held_of (get_or a.t1.items (l.i - 1) blank))) l.invariant.1 ∙ sym (ap (inputs.top a.view) (firsts_back held_of blank a.t1.items a.t1.count l.i (long held_of blank room a.t1.items a.t1.count pre) (omega arith) l.invariant.0) ∙ top_over a.view _ _))
+    (omega arith, c.greater-best.ensures ∙ ap (over a.view (held_of (get_or a.self.items (l.i - 1) blank))) l.invariant.1 ∙ sym (ap (inputs.top a.view) (firsts_back held_of blank a.self.items a.self.count l.i (long held_of blank room a.self.items a.self.count pre) (omega arith) l.invariant.0) ∙ top_over a.view _ _))
 
 pub returns : goal.returns
 unfolding statements

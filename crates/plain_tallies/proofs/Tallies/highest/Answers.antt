@@ -15,7 +15,7 @@ pub loop-i-init : goal.loop-i-init
 unfolding tallies words.highest
 loop-i-init c =
     let a = c.args in
-    (omega arith, c.genesis-best.ensures ∙ sym (ap (words.highest (settings_of a.settings) a.view) (firsts_done tally_of a.t1.items a.t1.count a.t1.count (omega arith))))
+    (omega arith, c.genesis-best.ensures ∙ sym (ap (words.highest (settings_of a.settings) a.view) (firsts_done tally_of a.self.items a.self.count a.self.count (omega arith))))
 
 pub overflow_sub-i : goal.overflow_sub-i
 overflow_sub-i c = omega arith
@@ -34,8 +34,8 @@ unfolding tallies
 loop-i-preserved c =
     let a = c.args in let pre = c.requires in let loop = c.loop-i in (
       omega arith,
-      c.better-best.ensures ∙ ap (best_of (settings_of a.settings) a.view (tally_of (get_or a.t1.items (loop.i - 1) blank))) loop.invariant.1
-          ∙ sym (ap (words.highest (settings_of a.settings) a.view) (firsts_back tally_of blank a.t1.items a.t1.count loop.i (long tally_of blank room a.t1.items a.t1.count pre) (omega arith) loop.invariant.0) ∙ highest_best (settings_of a.settings) a.view _ _),
+      c.better-best.ensures ∙ ap (best_of (settings_of a.settings) a.view (tally_of (get_or a.self.items (loop.i - 1) blank))) loop.invariant.1
+          ∙ sym (ap (words.highest (settings_of a.settings) a.view) (firsts_back tally_of blank a.self.items a.self.count loop.i (long tally_of blank room a.self.items a.self.count pre) (omega arith) loop.invariant.0) ∙ highest_best (settings_of a.settings) a.view _ _),
     )
 
 pub returns : goal.returns

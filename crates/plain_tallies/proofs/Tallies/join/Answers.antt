@@ -12,8 +12,8 @@ returns-then-i-n c =
     let w = c.requires.0 in
     let i = c.place_of-i.result in
     record {
-      within = within_set room a.t1.items a.t1.count w i c.grown-now.result;
-      is = joined_here (certificate_of a.t) a.t1 w i c.place_of-i.ensures (moment_of a.moment) c.grown-now.result c.if-i-n.true c.grown-now.ensures;
+      within = within_set room a.self.items a.self.count w i c.grown-now.result;
+      is = joined_here (certificate_of a.t) a.self w i c.place_of-i.ensures (moment_of a.moment) c.grown-now.result c.if-i-n.true c.grown-now.ensures;
     }
 
 pub returns : goal.returns
@@ -22,6 +22,6 @@ returns c =
     let a = c.args in let pre = c.requires in let place_of = c.place_of-i in
     let w = pre.0 in
     record {
-      within = within_more room a.t1.items a.t1.count w a.t1.count c.opened-tally.result pre.1;
-      is = joined_new (certificate_of a.t) a.t1 w place_of.result place_of.ensures (moment_of a.moment) c.opened-tally.result pre.1 c.if-i-n.false c.opened-tally.ensures;
+      within = within_more room a.self.items a.self.count w a.self.count c.opened-tally.result pre.1;
+      is = joined_new (certificate_of a.t) a.self w place_of.result place_of.ensures (moment_of a.moment) c.opened-tally.result pre.1 c.if-i-n.false c.opened-tally.ensures;
     }

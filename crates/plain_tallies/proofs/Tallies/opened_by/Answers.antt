@@ -14,7 +14,7 @@ pub loop-i-init : goal.loop-i-init
 unfolding tallies words.opened_by
 loop-i-init c =
     let a = c.args in
-    (omega arith, sym (ap (words.opened_by a.author) (firsts_done tally_of a.t1.items a.t1.count a.t1.count (omega arith))), omega arith)
+    (omega arith, sym (ap (words.opened_by a.author) (firsts_done tally_of a.self.items a.self.count a.self.count (omega arith))), omega arith)
 
 pub overflow_sub-i : goal.overflow_sub-i
 overflow_sub-i c = omega arith
@@ -36,7 +36,7 @@ unfolding tallies tally_of
 loop-i-preserved-then-is_author c =
     let a = c.args in let pre = c.requires in let l = c.loop-i in (
       omega arith,
-      ap (λ (k : ℕ). k + 1) l.invariant.1 ∙ opened_one a.author (tally_of (get_or a.t1.items (l.i - 1) blank)) (drop l.i (tallies a.t1)) (sym c.is_author.ensures ∙ c.if-is_author.true) ∙ sym (ap (words.opened_by a.author) (firsts_back tally_of blank a.t1.items a.t1.count l.i (long tally_of blank room a.t1.items a.t1.count pre) (omega arith) l.invariant.0)),
+      ap (λ (k : ℕ). k + 1) l.invariant.1 ∙ opened_one a.author (tally_of (get_or a.self.items (l.i - 1) blank)) (drop l.i (tallies a.self)) (sym c.is_author.ensures ∙ c.if-is_author.true) ∙ sym (ap (words.opened_by a.author) (firsts_back tally_of blank a.self.items a.self.count l.i (long tally_of blank room a.self.items a.self.count pre) (omega arith) l.invariant.0)),
       omega arith,
     )
 
@@ -48,7 +48,7 @@ unfolding tallies tally_of
 loop-i-preserved c =
     let a = c.args in let pre = c.requires in let l = c.loop-i in (
       omega arith,
-      l.invariant.1 ∙ opened_other a.author (tally_of (get_or a.t1.items (l.i - 1) blank)) (drop l.i (tallies a.t1)) (sym c.is_author.ensures ∙ c.if-is_author.false) ∙ sym (ap (words.opened_by a.author) (firsts_back tally_of blank a.t1.items a.t1.count l.i (long tally_of blank room a.t1.items a.t1.count pre) (omega arith) l.invariant.0)),
+      l.invariant.1 ∙ opened_other a.author (tally_of (get_or a.self.items (l.i - 1) blank)) (drop l.i (tallies a.self)) (sym c.is_author.ensures ∙ c.if-is_author.false) ∙ sym (ap (words.opened_by a.author) (firsts_back tally_of blank a.self.items a.self.count l.i (long tally_of blank room a.self.items a.self.count pre) (omega arith) l.invariant.0)),
       omega arith,
     )
 

@@ -23,7 +23,7 @@ unfolding tallies
 returns-then-same_block c =
     let a = c.args in
     let l = c.loop-i in
-    sym (place_here tally_of blank (words.of_block (certificate_of a.t)) a.t1.items a.t1.count l.i (long tally_of blank room a.t1.items a.t1.count c.requires) (omega arith) l.invariant.1
+    sym (place_here tally_of blank (words.of_block (certificate_of a.t)) a.self.items a.self.count l.i (long tally_of blank room a.self.items a.self.count c.requires) (omega arith) l.invariant.1
     (ap (words.same_block (certificate_of a.t)) (sym c.certificate_of.ensures) ∙ sym c.same_block.ensures ∙ c.if-same_block.true))
 
 pub overflow_add-i : goal.overflow_add-i
@@ -38,7 +38,7 @@ loop-i-preserved c =
     let a = c.args in
     let l = c.loop-i in (
       omega arith,
-      place_next tally_of blank (words.of_block (certificate_of a.t)) a.t1.items a.t1.count l.i (long tally_of blank room a.t1.items a.t1.count c.requires) (omega arith) l.invariant.1
+      place_next tally_of blank (words.of_block (certificate_of a.t)) a.self.items a.self.count l.i (long tally_of blank room a.self.items a.self.count c.requires) (omega arith) l.invariant.1
           (ap (words.same_block (certificate_of a.t)) (sym c.certificate_of.ensures) ∙ sym c.same_block.ensures ∙ c.if-same_block.false),
     )
 
@@ -47,4 +47,4 @@ unfolding tallies
 returns c =
     let a = c.args in
     let l = c.loop-i in
-    sym (place_done tally_of blank (words.of_block (certificate_of a.t)) a.t1.items a.t1.count l.i l.invariant.0 (omega arith) l.invariant.1)
+    sym (place_done tally_of blank (words.of_block (certificate_of a.t)) a.self.items a.self.count l.i l.invariant.0 (omega arith) l.invariant.1)

@@ -8,9 +8,9 @@ pub returns-then-i-self : goal.returns-then-i-self
 unfolding tally_of
 returns-then-i-self c =
     let a = c.args in
-    voters_here (certificate_of a.t) a.t1 c.requires c.place_of-i.result c.place_of-i.ensures c.if-i-self.true
+    voters_here (certificate_of a.t) a.self c.requires c.place_of-i.result c.place_of-i.ensures c.if-i-self.true
 
 pub returns : goal.returns
 returns c =
     let a = c.args in
-    voters_none (certificate_of a.t) a.t1 c.requires c.place_of-i.result c.place_of-i.ensures c.if-i-self.false
+    voters_none (certificate_of a.t) a.self c.requires c.place_of-i.result c.place_of-i.ensures c.if-i-self.false
