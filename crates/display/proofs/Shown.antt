@@ -80,6 +80,7 @@ shows s (x ∷ xs) z m =
 
 pub shown_mem : (s : State) (xs : List Statement) (x : Statement) (c : ℕ) → Mem x xs → x.voted ≡ some c → is_shown s x ≡ true → Mem (shown s x c) (showing_all s xs)
 unfolding showing_all
+shown_mem s [] x c m v e = elim m [ ]
 shown_mem s (y ∷ ys) x c m v e =
     by_mem m (λ q. rw (← q, is_shown_lem s x c v e) (Mem.head refl))
     (λ t. behind (showing s y) (shown_mem s ys x c t v e))
