@@ -25,7 +25,7 @@ use Rattle.laws.proofs.Truths.{and_2, both, or_2}
 use Rattle.laws.proofs.Searches.{by_mem, first_mem, first_any, first_none}
 use Rattle.agreement.specs.Schedule.{Event, idle, common_tick, tick_of, given, offered_to, happens, ticks, IsCommon, CommonTicks, settings_of, at, out, clock, IsSaid, HasMade, Sound, NeverFull, IsLent, ProperBuffers, Sends, InTime, VotersVoted, Genuine, Hands, NoForgery, Offers, OneBlock, OneName, NeverUsedUp, Run, run, HasRoom, Schedule}
 use Rattle.agreement.proofs.Events.{never_idle}
-use Rattle.agreement.specs.Checks.{Premise, settingsGood, fewFaulty, neverFull, commonTicks, properBuffers, in_time, no_forgery, one_name, neverUsedUp, premises, place, other, Holds, AllBut, test, verdict, implies, every, some?, same_message, mask_in, to_all_that}
+use Rattle.agreement.specs.Checks.{Premise, settings_good, few_faulty, never_full, common_ticks, proper_buffers, in_time, no_forgery, one_name, never_used_up, premises, place, other, Holds, AllBut, test, verdict, implies, every, some?, same_message, mask_in, to_all_that}
 use Rattle.agreement.specs.Checks.{brought, if_some, is_common, given_to, offered_as, listed, is_sound, has_said, voters_voted, has_made, is_genuine, taken, none_forged, comes, comes_in_time, said_in_time, all_in_time, all_common, all_run, all_lent, is_one_block, one_named, all_heard}
 
 -- ---- tests
@@ -341,28 +341,28 @@ module _ (size : Size) (n D : ℕ) (es : List Event) (faulty : ℕ) where
 
     tested : (p : Premise) → tests p ≡ true → Holds R faulty height_of parent_of p
     unfolding test
-    tested settingsGood t = t
-    tested fewFaulty t = leb-true (count faulty) (faults (settings_of size n D 0)) t
-    tested neverFull t = run_checked t
-    tested commonTicks t = common_checked t
-    tested properBuffers t = lent_checked t
+    tested settings_good t = t
+    tested few_faulty t = leb-true (count faulty) (faults (settings_of size n D 0)) t
+    tested never_full t = run_checked t
+    tested common_ticks t = common_checked t
+    tested proper_buffers t = lent_checked t
     tested in_time t = time_checked t
     tested no_forgery t = forgery_checked t
     tested one_name t = names_checked height_of parent_of t
-    tested neverUsedUp t = heard_checked t
+    tested never_used_up t = heard_checked t
 
     -- a test stands in the verdict at its place
     placed : (f : Premise → Bool) (p : Premise) → get_or (map f premises) (place p) false ≡ f p
     unfolding premises place
-    placed f settingsGood = refl
-    placed f fewFaulty = refl
-    placed f neverFull = refl
-    placed f commonTicks = refl
-    placed f properBuffers = refl
+    placed f settings_good = refl
+    placed f few_faulty = refl
+    placed f never_full = refl
+    placed f common_ticks = refl
+    placed f proper_buffers = refl
     placed f in_time = refl
     placed f no_forgery = refl
     placed f one_name = refl
-    placed f neverUsedUp = refl
+    placed f never_used_up = refl
 
     holds : (f : Premise → Bool) → verdict size n D es faulty height_of parent_of ≡ map f premises → (p : Premise) → f p ≡ true → Holds R faulty height_of parent_of p
     unfolding verdict
@@ -377,14 +377,14 @@ module _ (size : Size) (n D : ℕ) (es : List Event) (faulty : ℕ) where
         record {
           premises =
               record {
-                settings = all settingsGood;
-                few = all fewFaulty;
-                common = all commonTicks;
-                lent = all properBuffers;
+                settings = all settings_good;
+                few = all few_faulty;
+                common = all common_ticks;
+                lent = all proper_buffers;
                 in_time = all in_time;
                 no_forgery = all no_forgery;
                 one_name = all one_name;
-                heard = all neverUsedUp;
+                heard = all never_used_up;
               };
-          room = all neverFull;
+          room = all never_full;
         }

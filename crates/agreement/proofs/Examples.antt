@@ -11,7 +11,7 @@ use Rattle.rules.specs.Words.{in_view}
 use Rattle.rules.specs.Inputs.{merge}
 use Rattle.laws.proofs.Commits.{begins_merge}
 use Rattle.agreement.specs.Schedule.{Event, given, happens, ticks, at, out, clock, run, IsSaid, Schedule, OneBegins}
-use Rattle.agreement.specs.Checks.{fewFaulty, commonTicks, in_time, no_forgery, one_name, premises, other, AllBut, listed, verdict}
+use Rattle.agreement.specs.Checks.{few_faulty, common_ticks, in_time, no_forgery, one_name, premises, other, AllBut, listed, verdict}
 use Rattle.agreement.specs.Examples.{two_views, one_ahead, held_back, forged_votes, many_faulty, two_parents, own_ticks, height_of, parent_of, rival_height, rival_parent}
 use Rattle.agreement.proofs.Checked.{all_but, schedule_checked}
 
@@ -95,15 +95,15 @@ unfolding at out clock ticks listed many_faulty
 many_faulty_missed = (Memᴰ.head refl, Memᴰ.tail (Memᴰ.head refl), refl, refl, refl, refl, refl)
 
 -- without at most f faulty
-pub many_faulty_lem : AllBut (run small 5 1 (listed many_faulty)) 14 height_of parent_of fewFaulty × Missed 5 many_faulty 0 14
+pub many_faulty_lem : AllBut (run small 5 1 (listed many_faulty)) 14 height_of parent_of few_faulty × Missed 5 many_faulty 0 14
 unfolding verdict premises other many_faulty height_of parent_of
-many_faulty_lem = (all_but small 5 1 many_faulty 14 height_of parent_of fewFaulty refl, many_faulty_missed)
+many_faulty_lem = (all_but small 5 1 many_faulty 14 height_of parent_of few_faulty refl, many_faulty_missed)
 
 own_ticks_missed : Missed 3 own_ticks 2 6
 unfolding at out clock ticks listed own_ticks
 own_ticks_missed = (Memᴰ.head refl, Memᴰ.tail (Memᴰ.head refl), refl, refl, refl, refl, refl)
 
 -- without common ticks
-pub own_ticks_lem : AllBut (run small 3 1 (listed own_ticks)) 2 height_of parent_of commonTicks × Missed 3 own_ticks 2 6
+pub own_ticks_lem : AllBut (run small 3 1 (listed own_ticks)) 2 height_of parent_of common_ticks × Missed 3 own_ticks 2 6
 unfolding verdict premises other own_ticks height_of parent_of
-own_ticks_lem = (all_but small 3 1 own_ticks 2 height_of parent_of commonTicks refl, own_ticks_missed)
+own_ticks_lem = (all_but small 3 1 own_ticks 2 height_of parent_of common_ticks refl, own_ticks_missed)

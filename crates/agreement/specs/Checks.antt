@@ -79,21 +79,21 @@ offered_as (offered_to j b) p = p j b
 -- ---- the premises, by name
 
 pub data Premise : Type 0 where
-  settingsGood fewFaulty neverFull commonTicks properBuffers in_time no_forgery one_name neverUsedUp : Premise
+  settings_good few_faulty never_full common_ticks proper_buffers in_time no_forgery one_name never_used_up : Premise
 
 unfoldable pub premises : List Premise
-premises = settingsGood ∷ fewFaulty ∷ neverFull ∷ commonTicks ∷ properBuffers ∷ in_time ∷ no_forgery ∷ one_name ∷ neverUsedUp ∷ []
+premises = settings_good ∷ few_faulty ∷ never_full ∷ common_ticks ∷ proper_buffers ∷ in_time ∷ no_forgery ∷ one_name ∷ never_used_up ∷ []
 
 unfoldable pub place : Premise → ℕ
-place settingsGood = 0
-place fewFaulty = 1
-place neverFull = 2
-place commonTicks = 3
-place properBuffers = 4
+place settings_good = 0
+place few_faulty = 1
+place never_full = 2
+place common_ticks = 3
+place proper_buffers = 4
 place in_time = 5
 place no_forgery = 6
 place one_name = 7
-place neverUsedUp = 8
+place never_used_up = 8
 
 unfoldable pub other : Premise → Premise → Bool
 unfolding place
@@ -101,15 +101,15 @@ other p q = not (eqb (place p) (place q))
 
 module _ (R : Run) (faulty : ℕ) (height_of parent_of : ℕ → ℕ) where
   abbrev pub Holds : Premise → Type 0
-  Holds settingsGood = GoodSettings R
-  Holds fewFaulty = AtMostF R faulty
-  Holds neverFull = NeverFull R faulty
-  Holds commonTicks = CommonTicks R
-  Holds properBuffers = ProperBuffers R
+  Holds settings_good = GoodSettings R
+  Holds few_faulty = AtMostF R faulty
+  Holds never_full = NeverFull R faulty
+  Holds common_ticks = CommonTicks R
+  Holds proper_buffers = ProperBuffers R
   Holds in_time = InTime R faulty
   Holds no_forgery = NoForgery R faulty
   Holds one_name = OneName R faulty height_of parent_of
-  Holds neverUsedUp = NeverUsedUp R faulty
+  Holds never_used_up = NeverUsedUp R faulty
 
   -- every premise but one holds
   abbrev pub AllBut : Premise → Type 0
@@ -211,15 +211,15 @@ module _ (size : Size) (n D : ℕ) (es : List Event) (faulty : ℕ) where
     -- the test of each premise
     unfoldable pub test : Premise → Bool
     unfolding good_settings count all_run all_common all_lent all_in_time none_forged one_named all_heard
-    test settingsGood = good_settings (settings_of size n D 0)
-    test fewFaulty = leb (count faulty) (faults (settings_of size n D 0))
-    test neverFull = all_run
-    test commonTicks = all_common
-    test properBuffers = all_lent
+    test settings_good = good_settings (settings_of size n D 0)
+    test few_faulty = leb (count faulty) (faults (settings_of size n D 0))
+    test never_full = all_run
+    test common_ticks = all_common
+    test proper_buffers = all_lent
     test in_time = all_in_time
     test no_forgery = none_forged
     test one_name = one_named
-    test neverUsedUp = all_heard
+    test never_used_up = all_heard
 
     unfoldable pub verdict : List Bool
     unfolding test

@@ -21,10 +21,10 @@ use Rattle.settings.specs.Made.{settings_of}
 use Rattle.outgoing.specs.Wrote.{Says}
 use Rattle.outgoing.proofs.Writing.{says_none, says_one, says_outgoing}
 use Rattle.plain_statements.specs.declared.Statements.{Statements}
-use Rattle.plain_statements.specs.Meaning as statementRoom
+use Rattle.plain_statements.specs.Meaning as statement_room
 use Rattle.plain_statements.specs.Meaning.{statements}
 use Rattle.plain_tallies.specs.declared.Tallies.{Tallies}
-use Rattle.plain_tallies.specs.Meaning as tallyRoom
+use Rattle.plain_tallies.specs.Meaning as tally_room
 use Rattle.plain_tallies.specs.Meaning.{tallies}
 use Rattle.plain_tables.specs.declared.Cause.{Cause}
 use Rattle.plain_tables.specs.declared.Phase.TheVariants.{InView, Waiting, Stopped}
@@ -65,25 +65,25 @@ module _ (e : Engine) (k : Sized e) where
   module _ (m : words.Moment) where
     -- a certificate joins
     certified : (o : words.Opener) (t c : words.Certificate) (ts : Tallies) → m ≡ words.moment o (state e) → c ≡ t
-        → tallyRoom.Holds ts (join_certificate m c (tallies e.tallies))
+        → tally_room.Holds ts (join_certificate m c (tallies e.tallies))
         → Gives (tabled e.statements ts e) (inputs.with_tables (statements e.statements) (join_certificate (words.moment o (state e)) t (tallies e.tallies)) (state e))
     certified o t c ts em ec h =
         gives_tabled e k e.statements ts (record { within = k.statements; is = refl })
         (record { within = h.within; is = h.is ∙ ap₂ (λ (m : words.Moment) (c : words.Certificate). join_certificate m c (tallies e.tallies)) em ec })
 
     pub tallied_gives : (o : words.Opener) (t : words.Certificate) (ts : Tallies) → m ≡ words.moment o (state e)
-        → tallyRoom.Holds ts (join_certificate m t (tallies e.tallies)) → Gives (tabled e.statements ts e) (inputs.tallied o t (state e)).now
+        → tally_room.Holds ts (join_certificate m t (tallies e.tallies)) → Gives (tabled e.statements ts e) (inputs.tallied o t (state e)).now
     unfolding inputs.tallied inputs.saying state
     tallied_gives o t ts em h = certified o t t ts em refl h
 
     pub certificate_gives : (x : words.Statement) (c : words.Certificate) (ts : Tallies) → m ≡ words.moment none (state e) → c ≡ certificate x
-        → tallyRoom.Holds ts (join_certificate m c (tallies e.tallies)) → Gives (tabled e.statements ts e) (inputs.certificate_joined x (state e))
+        → tally_room.Holds ts (join_certificate m c (tallies e.tallies)) → Gives (tabled e.statements ts e) (inputs.certificate_joined x (state e))
     unfolding inputs.certificate_joined state
     certificate_gives x c ts em ec h = certified none (certificate x) c ts em ec h
 
     pub stored_gives : (x : words.Statement) (c b : words.Certificate) (xs : Statements) (ts us : Tallies) → m ≡ words.moment none (state e)
-        → c ≡ certificate x → b ≡ own_block x 0 → statementRoom.Holds xs (statements e.statements ++ x ∷ [])
-        → tallies ts ≡ join_certificate m c (tallies e.tallies) → tallyRoom.Holds us (join m b (tallies ts)) → Gives (tabled xs us e) (inputs.stored x (state e))
+        → c ≡ certificate x → b ≡ own_block x 0 → statement_room.Holds xs (statements e.statements ++ x ∷ [])
+        → tallies ts ≡ join_certificate m c (tallies e.tallies) → tally_room.Holds us (join m b (tallies ts)) → Gives (tabled xs us e) (inputs.stored x (state e))
     unfolding inputs.stored state
     stored_gives x c b xs ts us em ec eb hx et hu =
         gives_tabled e k xs us hx
@@ -94,8 +94,8 @@ module _ (e : Engine) (k : Sized e) where
         })
 
     pub voted_gives : (x : words.Statement) (b : words.Certificate) (xs : Statements) (us : Tallies) → m ≡ words.moment none (state e)
-        → b ≡ own_block x (only e.settings.own) → statementRoom.Holds xs (alter (same_statement x) (inputs.noted e.clock) (statements e.statements))
-        → tallyRoom.Holds us (join m b (tallies e.tallies)) → Gives (tabled xs us e) (inputs.voted_for x (state e))
+        → b ≡ own_block x (only e.settings.own) → statement_room.Holds xs (alter (same_statement x) (inputs.noted e.clock) (statements e.statements))
+        → tally_room.Holds us (join m b (tallies e.tallies)) → Gives (tabled xs us e) (inputs.voted_for x (state e))
     unfolding inputs.voted_for state
     voted_gives x b xs us em eb hx hu =
         gives_tabled e k xs us hx

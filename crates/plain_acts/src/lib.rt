@@ -12,8 +12,8 @@ ghost use Rattle.rules.specs.Inputs as inputs;
 ghost use Rattle.wire.specs.Meaning.{statement_of, Linked};
 ghost use Rattle.outgoing.specs.Wrote.{Says};
 ghost use Rattle.plain_words.specs.Meaning.{certificate_of, Certifies};
-ghost use Rattle.plain_statements.specs.Meaning as statementRoom;
-ghost use Rattle.plain_tallies.specs.Meaning as tallyRoom;
+ghost use Rattle.plain_statements.specs.Meaning as statement_room;
+ghost use Rattle.plain_tallies.specs.Meaning as tally_room;
 ghost use Rattle.plain_tallies.specs.Meaning.{opener_of, moment_of};
 ghost use Rattle.plain_tables.specs.Meaning.{state, Sized, Gives};
 ghost use Rattle.plain_acts.specs.Works.{Worked};
@@ -76,7 +76,7 @@ fn below_lock(e: Engine, x: Statement) -> bool
 
 // "Vote, status join their tally, opened if missing".
 pub fn tallied(e: Engine, opener: Opener, t: Certificate) -> Engine
-    requires { (Sized e) × (e.tallies.count < tallyRoom.room) }
+    requires { (Sized e) × (e.tallies.count < tally_room.room) }
     ensures { Gives result (inputs.tallied (opener_of opener) (certificate_of t) (state e)).now }
 {
     let moment = moment_of(e, opener);
@@ -88,7 +88,7 @@ pub fn tallied(e: Engine, opener: Opener, t: Certificate) -> Engine
 
 // "Its certificate mask joins its tally".
 pub fn certificate_joined(e: Engine, x: Statement) -> Engine
-    requires { (Sized e) × (e.tallies.count < tallyRoom.room) × (Certifies (statement_of x none)) }
+    requires { (Sized e) × (e.tallies.count < tally_room.room) × (Certifies (statement_of x none)) }
     ensures { Gives result (inputs.certificate_joined (statement_of x none) (state e)) }
 {
     let moment = moment_of(e, Opener::Nobody);
@@ -101,7 +101,7 @@ pub fn certificate_joined(e: Engine, x: Statement) -> Engine
 
 // "If new, it is stored with the mask as received, and tallies exist from now on for its certified block and its own block".
 pub fn stored(e: Engine, x: Statement) -> Engine
-    requires { (Sized e) × (e.statements.count < statementRoom.room) × (e.tallies.count + 1 < tallyRoom.room) × (Certifies (statement_of x none)) }
+    requires { (Sized e) × (e.statements.count < statement_room.room) × (e.tallies.count + 1 < tally_room.room) × (Certifies (statement_of x none)) }
     ensures { Gives result (inputs.stored (statement_of x none) (state e)) }
 {
     let moment = moment_of(e, Opener::Nobody);
@@ -125,7 +125,7 @@ pub fn mask_of(station: u64) -> u16
 
 // "Adds the own vote and notes the clock".
 fn voted_for(e: Engine, x: Statement) -> Engine
-    requires { (Sized e) × (e.tallies.count < tallyRoom.room) }
+    requires { (Sized e) × (e.tallies.count < tally_room.room) }
     ensures { Gives result (inputs.voted_for (statement_of x none) (state e)) }
 {
     let settings = e.settings;
@@ -158,7 +158,7 @@ fn ballot(e: Engine, x: Statement, out: &mut [u8], at: usize) -> usize
 
 // "A propose is voted for; a new-view is voted for if its certificate ranks at or above the lock".
 pub fn voting(e: Engine, x: Statement, out: &mut [u8], at: usize) -> Work
-    requires { (Sized e) × (e.tallies.count < tallyRoom.room) × (Certifies (statement_of x none)) × (Linked x) × (at + 200 ≤ length out.old) }
+    requires { (Sized e) × (e.tallies.count < tally_room.room) × (Certifies (statement_of x none)) × (Linked x) × (at + 200 ≤ length out.old) }
     ensures { Worked (inputs.voting (statement_of x none) (state e)) out.old at result out.new }
 {
     if below_lock(e, x) {

@@ -24,7 +24,7 @@ use Rattle.plain_words.proofs.Firsts.{firsts_next, firsts_done}
 use Rattle.plain_statements.specs.declared.Held.{Held}
 use Rattle.plain_statements.specs.declared.Statements.{Statements}
 use Rattle.plain_statements.specs.Meaning.{held_of, statements, room}
-use Rattle.plain_tallies.specs.Meaning as tallyRoom
+use Rattle.plain_tallies.specs.Meaning as tally_room
 use Rattle.plain_tallies.specs.Meaning.{tallies}
 use Rattle.plain_tallies.proofs.Laws.{tally_count}
 use Rattle.plain_tables.specs.declared.Engine.{Engine}
@@ -98,7 +98,7 @@ pub record Voting (xs : Statements) (e : Engine) (o₀ : List ℕ) (at : ℕ) (o
   pub long : length o ≡ length o₀
   pub space : next + 160 * (xs.count - i) + 40 ≤ length o
   pub sized : Sized g
-  pub free : g.tallies.count < tallyRoom.room
+  pub free : g.tallies.count < tally_room.room
   pub votable : Votables (state g).tallies (drop i (statements xs))
   pub does : (o' : List ℕ) (r : Work) → Worked (voting_all (drop i (statements xs)) (state g)) o next r o' → Worked (voting_all (statements xs) (state e)) o₀ at r o'
 

@@ -5,8 +5,8 @@ use Rattle.rules.specs.Words.{Statement, Tally, of_block, own_block}
 use Rattle.kept.specs.Parts.{Formed}
 use Rattle.kept.specs.Said.{Each}
 use Rattle.plain_words.specs.Meaning.{Certifies}
-use Rattle.plain_statements.specs.Meaning as statementRoom
-use Rattle.plain_tallies.specs.Meaning as tallyRoom
+use Rattle.plain_statements.specs.Meaning as statement_room
+use Rattle.plain_tallies.specs.Meaning as tally_room
 use Rattle.plain_tables.specs.declared.Engine.{Engine}
 use Rattle.plain_tables.specs.Meaning.{state, Sized}
 
@@ -21,10 +21,10 @@ Votables ts xs = Each (Votable ts) xs
 -- the bytes that a statement and the vote for it take at most, for every statement that a table has room for; and what a voting asks
 -- for beyond them
 abbrev pub votes_long : ℕ
-votes_long = 160 * statementRoom.room + 40
+votes_long = 160 * statement_room.room + 40
 
 -- a station in a formed state whose tallies have room for one more
 pub record OneFree (e : Engine) : Type 0 where
   pub sized : Sized e
   pub formed : Formed (state e)
-  pub free : e.tallies.count < tallyRoom.room
+  pub free : e.tallies.count < tally_room.room

@@ -5,7 +5,7 @@ ghost use Rattle.std.specs.Prelude.{◌+◌, ◌*◌, ◌<◌, ◌≤◌, length
 ghost use Rattle.rules.specs.Inputs as inputs;
 ghost use Rattle.plain_words.specs.Places.{Within};
 ghost use Rattle.plain_statements.specs.Meaning.{statements, room};
-ghost use Rattle.plain_tallies.specs.Meaning as tallyRoom;
+ghost use Rattle.plain_tallies.specs.Meaning as tally_room;
 ghost use Rattle.plain_tables.specs.Meaning.{state, Sized};
 ghost use Rattle.plain_acts.specs.Works.{Worked};
 ghost use Rattle.plain_arrivals.specs.Votable.{Votables, votes_long, OneFree};
@@ -18,7 +18,7 @@ use wire::Message;
 
 // "Votes on stored statements of it by the rules above", one after the other.
 fn voting_all(xs: Statements, e: Engine, out: &mut [u8], at: usize) -> Work
-    requires { (Within room xs.items xs.count) × (Sized e) × (e.tallies.count < tallyRoom.room) × (Votables (state e).tallies (statements xs)) × (at + 160 * xs.count + 40 ≤ length out.old) }
+    requires { (Within room xs.items xs.count) × (Sized e) × (e.tallies.count < tally_room.room) × (Votables (state e).tallies (statements xs)) × (at + 160 * xs.count + 40 ≤ length out.old) }
     ensures { Worked (inputs.voting_all (statements xs) (state e)) out.old at result out.new }
 {
     let n = xs.count;

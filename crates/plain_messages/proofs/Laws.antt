@@ -32,9 +32,9 @@ use Rattle.kept.proofs.Lists.{all_mem}
 use Rattle.plain_words.specs.Meaning.{certificate_of, Certifies}
 use Rattle.plain_words.proofs.Tables.{counted}
 use Rattle.plain_statements.specs.declared.Held.{Held}
-use Rattle.plain_statements.specs.Meaning as statementRoom
+use Rattle.plain_statements.specs.Meaning as statement_room
 use Rattle.plain_statements.specs.Meaning.{held_of, blank, statements}
-use Rattle.plain_tallies.specs.Meaning as tallyRoom
+use Rattle.plain_tallies.specs.Meaning as tally_room
 use Rattle.plain_tallies.specs.Meaning.{tallies}
 use Rattle.plain_tallies.proofs.Laws.{tally_count, join_long, certificate_long}
 use Rattle.plain_tables.specs.declared.Engine.{Engine}
@@ -67,7 +67,7 @@ links g x e = (certifies g (statement_of x none) e).view
 module _ (e : Engine) (k : Whole e) where
   statement_count : length (statements e.statements) ≡ e.statements.count
   unfolding statements
-  statement_count = counted held_of blank statementRoom.room e.statements.items e.statements.count k.sized.statements
+  statement_count = counted held_of blank statement_room.room e.statements.items e.statements.count k.sized.statements
 
   pub few_statements_lem : e.statements.count ≤ most_statements_small
   unfolding state most_statements
@@ -100,7 +100,7 @@ module _ (e : Engine) (k : Whole e) where
       links (settings_of e.settings) h.statement (and_4 (allowed (settings_of e.settings) (message (held_of h))) (is_name (held_of h).name) (is_name (held_of h).link) _ good).0
 
   -- what is stored leaves room for a vote
-  pub stored_room : (x : words.Statement) (r : Engine) → Gives r (inputs.stored x (state e)) → r.tallies.count < tallyRoom.room
+  pub stored_room : (x : words.Statement) (r : Engine) → Gives r (inputs.stored x (state e)) → r.tallies.count < tally_room.room
   unfolding inputs.stored inputs.with_tables state
   stored_room x r g =
       let m = words.moment none (state e) in

@@ -8,10 +8,10 @@ use Rattle.settings.specs.Made.{settings_of}
 use Rattle.settings.specs.declared.Size.TheVariants.{Small}
 use Rattle.plain_words.specs.Meaning.{certificate_of}
 use Rattle.plain_words.specs.Places.{firsts, Within}
-use Rattle.plain_statements.specs.Meaning as statementRoom
+use Rattle.plain_statements.specs.Meaning as statement_room
 use Rattle.plain_statements.specs.Meaning.{statements}
 use Rattle.plain_statements.specs.declared.Statements.{Statements}
-use Rattle.plain_tallies.specs.Meaning as tallyRoom
+use Rattle.plain_tallies.specs.Meaning as tally_room
 use Rattle.plain_tallies.specs.Meaning.{tallies}
 use Rattle.plain_tallies.specs.declared.Tallies.{Tallies}
 use Rattle.plain_tables.specs.declared.Names.{Names}
@@ -64,8 +64,8 @@ state e =
 
 -- a station whose tables keep to their room, of a small group with good settings
 pub record Sized (e : Engine) : Type 0 where
-  pub statements : Within statementRoom.room e.statements.items e.statements.count
-  pub tallies : Within tallyRoom.room e.tallies.items e.tallies.count
+  pub statements : Within statement_room.room e.statements.items e.statements.count
+  pub tallies : Within tally_room.room e.tallies.items e.tallies.count
   pub log : Within room e.log.items e.log.count
   pub small : e.settings.size ≡ Small
   pub good : good_settings (settings_of e.settings) ≡ true

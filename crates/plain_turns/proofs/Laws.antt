@@ -28,7 +28,7 @@ use Rattle.outgoing.proofs.Writing.{wrote_prefix}
 use Rattle.kept.proofs.Room.{handled_bytes}
 use Rattle.kept.proofs.Calls.{step_whole}
 use Rattle.plain_words.proofs.Tables.{counted}
-use Rattle.plain_statements.specs.Meaning as statementRoom
+use Rattle.plain_statements.specs.Meaning as statement_room
 use Rattle.plain_statements.specs.Meaning.{held_of, blank, statements}
 use Rattle.plain_tallies.specs.Meaning.{tallies}
 use Rattle.plain_tallies.proofs.Laws.{tally_count}
@@ -61,7 +61,7 @@ module _ (e : Engine) where
 
 statement_count : (e : Engine) → Sized e → length (statements e.statements) ≡ e.statements.count
 unfolding statements
-statement_count e k = counted held_of blank statementRoom.room e.statements.items e.statements.count k.statements
+statement_count e k = counted held_of blank statement_room.room e.statements.items e.statements.count k.statements
 
 pub room_is : (e : Engine) → Sized e → (leb e.statements.count most_statements_small && leb e.tallies.count most_tallies_small) ≡ refusals.has_room (state e)
 unfolding refusals.has_room state most_statements most_tallies

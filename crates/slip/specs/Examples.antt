@@ -79,9 +79,9 @@ examples =
 
 -- "A slip shows a chain, it doesn't show a commit". Station 1 is faulty and proposes 77 and 78 in its view, so stations 0 and 2
 -- quit; in view 2 both log 79 at that height, where neither of the others can be logged any more. The slip of 77 is accepted.
-notACommit : List Bool
+not_a_commit : List Bool
 unfolding told slip_bytes of station
-notACommit =
+not_a_commit =
     eqb (told (slip_bytes 77 (of 1 1 77 0 ∷ []))) 1
     ∷ station 0 (hears (propose 1 1 77 0 3 1) ⇒ bytes 160 ∷ hears (propose 1 1 78 0 3 1) ⇒ bytes 200 ∷ idle 2 ∷ ticks ⇒ bytes 62 ∷ idle 5
     ∷ hears (new_view 2 0 0 1 3 2) ⇒ bytes 132 ∷ hears (propose 2 1 79 0 5 2) ⇒ bytes 160 ∷ idle 4 ∷ ticks ⇒ says (committed 1 79 ∷ []) ∷ logged ∷ [])
@@ -92,6 +92,6 @@ notACommit =
     logged : Line
     logged = holds (λ s. same_list s.log (79 ∷ []))
 
-the_examples : failing 1 (examples ++ notACommit) ≡ []
-unfolding failing examples notACommit
+the_examples : failing 1 (examples ++ not_a_commit) ≡ []
+unfolding failing examples not_a_commit
 the_examples = refl
