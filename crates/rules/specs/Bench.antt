@@ -1,13 +1,12 @@
 -- 01, 'Examples on the bench': those marked (P), one for each of the 'Slips we have seen proposed', and the corners of
--- every other clause, evaluated together under a single claim. Assumes nothing.
-use Rattle.std.specs.Prelude.{◌≡◌, refl, suc, Bool, List, [], ◌∷◌, ◌++◌, length, take, eqb}
+-- every other clause. proofs/Bench.antt evaluates them together, under a single claim. Assumes nothing.
+use Rattle.std.specs.Prelude.{suc, Bool, List, [], ◌∷◌, ◌++◌, length, take, eqb}
 use Rattle.rules.specs.Limits.{last_view_small}
 use Rattle.rules.specs.Messages.{new_view, propose, vote, blame_set, status, write, to_all, to_one, committed}
-use Rattle.rules.specs.Script.{◌⇒◌, idle, holds, ticks, hears, hears_bytes, is_offered, bytes, exactly, says, refuses, failing, made, station, block, other}
-use Rattle.rules.specs.Corners.{corners}
+use Rattle.rules.specs.Script.{◌⇒◌, idle, holds, ticks, hears, hears_bytes, is_offered, bytes, exactly, says, refuses, made, station, block, other}
 
 -- n=3, D=2
-bench : List Bool
+unfoldable pub bench : List Bool
 unfolding station made block other write
 bench =
     -- "Station 2, no messages: ticks 1 to 13 write nothing; tick 14 writes whole: .."
@@ -33,7 +32,7 @@ bench =
     ∷ station 0 (hears_bytes (take 96 (write block)) ⇒ refuses 4 ∷ hears_bytes (write block ++ 0 ∷ []) ⇒ refuses 4 ∷ [])
     ∷ []
 
-slips : List Bool
+unfoldable pub slips : List Bool
 unfolding station block
 slips =
     -- "firing the commit at exactly 2D": voted at 0, nothing at 4, committed at 5
@@ -52,7 +51,3 @@ slips =
     ∷ station 0 (hears (blame_set 1 3) ⇒ bytes 19 ∷ hears (vote 1 1 77 1) ⇒ bytes 0 ∷ hears (vote 1 1 77 2) ⇒ bytes 0 ∷ idle 2
     ∷ ticks ⇒ says (to_one 2 (status 1 77 1 6) ∷ []) ∷ [])
     ∷ []
-
-the_bench : failing 1 (bench ++ slips ++ corners) ≡ []
-unfolding failing bench slips corners
-the_bench = refl

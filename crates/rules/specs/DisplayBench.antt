@@ -1,12 +1,12 @@
--- The wall display evaluated: the values at -1, 0 and 1 and at both clock ends, who is shown and who isn't, the order, the bytes. Assumes nothing.
-use Rattle.std.specs.Prelude.{◌≡◌, refl, ℕ, ◌-◌, ◌^◌, Bool, true, false, ◌&&◌, List, [], ◌∷◌, ◌++◌, eqb, ℤ, pos, negsuc, neg_ℤ}
+-- Examples of the wall display: the values at -1, 0 and 1 and at both clock ends, who is shown and who isn't, the order, the bytes. proofs/DisplayBench.antt evaluates them. Assumes nothing.
+use Rattle.std.specs.Prelude.{ℕ, ◌-◌, ◌^◌, Bool, true, false, ◌&&◌, List, [], ◌∷◌, eqb, ℤ, pos, negsuc, neg_ℤ}
 use Rattle.std.proofs.Math.Option.{Option, none, some}
 use Rattle.rules.specs.Limits.{last_clock}
 use Rattle.rules.specs.Lists.{unbe}
 use Rattle.rules.specs.Messages.{new_view, propose, blame_set, committed}
 use Rattle.rules.specs.Words.{Statement, waiting, stopped, full, State, fresh}
 use Rattle.rules.specs.Inputs.{with_phase, with_clock, with_tables, with_log}
-use Rattle.rules.specs.Script.{Line, ◌⇒◌, idle, holds, ticks, hears, bytes, says, same_list, failing, group, station, block, child}
+use Rattle.rules.specs.Script.{Line, ◌⇒◌, idle, holds, ticks, hears, bytes, says, same_list, group, station, block, child}
 use Rattle.rules.specs.Display.{Shown, display, twos, signed, entries}
 
 same_integer : ℤ → ℤ → Bool
@@ -47,7 +47,7 @@ unfolding same display
 wall s xs = same (display s) xs
 
 -- along the ticks: D = 2, so that what is voted for at clock c is due at c + 5
-along : List Bool
+unfoldable pub along : List Bool
 unfolding station shows left by block child
 along =
     -- a fresh station shows none; 5 ticks left at the vote, 1 before the commit, and none once it is logged
@@ -66,7 +66,7 @@ along =
     ∷ []
 
 -- state by state
-apart : List Bool
+unfoldable pub apart : List Bool
 unfolding wall held left by said with_phase
 apart =
     -- both clock ends: voted for at 0 and seen at 0; voted for at the end and due behind it; voted for at 0 and seen at the end
@@ -90,7 +90,7 @@ apart =
     one c = said false 1 1 77 0 (some c)
 
 -- to the byte
-written : List Bool
+unfoldable pub written : List Bool
 unfolding same_list same_integer entries left by twos signed unbe
 written =
     same_list (entries []) [] ∷ same_list (entries (left 3 0xABCD (pos 258) ∷ left 1 77 (by 2) ∷ []))
@@ -99,7 +99,3 @@ written =
     ∷ same_integer (signed (2 ^ 64 - 1)) (by 1) ∷ same_integer (signed 0) (pos 0) ∷ same_integer (signed 1) (pos 1)
     ∷ same_integer (signed (2 ^ 63)) (by (2 ^ 63)) ∷ same_integer (signed (2 ^ 63 - 1)) (pos (2 ^ 63 - 1))
     ∷ []
-
-the_display : failing 1 (along ++ apart ++ written) ≡ []
-unfolding failing along apart written
-the_display = refl
