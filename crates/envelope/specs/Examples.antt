@@ -1,7 +1,7 @@
--- Envelopes and what reading them answers and lists, evaluated together under a single claim. Assumes nothing.
-use Rattle.std.specs.Prelude.{◌≡◌, refl, ℕ, zero, suc, ◌+◌, ◌*◌, ◌^◌, Bool, ◌&&◌, List, [], ◌∷◌, ◌++◌, length, take, drop, replicate, eqb}
-use Rattle.rules.specs.Messages.{field, vote, blame, blame_set, write, read}
-use Rattle.rules.specs.Script.{failing, same_list}
+-- Envelopes and what reading them answers and lists, which proofs/Examples.antt evaluates together, under a single claim. Assumes nothing.
+use Rattle.std.specs.Prelude.{ℕ, zero, suc, ◌+◌, ◌*◌, ◌^◌, Bool, ◌&&◌, List, [], ◌∷◌, ◌++◌, length, take, drop, replicate, eqb}
+use Rattle.rules.specs.Messages.{field, vote, blame, blame_set, write}
+use Rattle.rules.specs.Script.{same_list}
 use Rattle.items.specs.Reading.{most_bytes, envelope_in}
 use Rattle.envelope.specs.Reading.{least_list, reading}
 
@@ -56,7 +56,7 @@ stray k s = take k s ++ 0 ∷ drop k s
 other : ℕ → ℕ → List ℕ → List ℕ
 other k x s = take k s ++ x ∷ drop (suc k) s
 
-examples : List Bool
+unfoldable pub examples : List Bool
 unfolding short set long item of times lent answer left refused stray other reading envelope_in same_list write field
 examples =
     -- no items, one, and two, "left to right": each by its offset and its length
@@ -89,7 +89,3 @@ examples =
     ∷ eqb (length (of (times 437 short ++ times 17 set))) most_bytes ∷ eqb (answer (of (times 437 short ++ times 17 set))) 454
     ∷ eqb (length (of (times 455 short))) (suc most_bytes) ∷ refused (of (times 455 short))
     ∷ []
-
-the_examples : failing 1 examples ≡ []
-unfolding failing examples read
-the_examples = refl
