@@ -28,16 +28,17 @@ save-requires c =
 
 pub returns : goal.returns
 returns c =
+    let slice-known = c.slice_known-1 in
     let is_whole = c.is_whole in
     let if1 = c.if-not-is_whole in
-    let size-of = c.size_in-size in
+    let size = c.size_in-size in
     let made = c.new in
     let clear = c.clear in let starting = c.starting in
     let a = c.args in
-    let y = size-of.result in
-    let same = size-of.ensures in
+    let y = size.result in
+    let same = size.ensures in
     let b = c.args.store.now in
     let l = eqb-true (length b) (store_length (size_in b)) (sym is_whole.ensures ∙ if1.false) in
     let m = made_good a.store.now a.n a.d a.own y same _ (sym made.ensures.0 ∙ c.in-Good.is) in
     made_fresh a.store.now a.n a.d a.own y same l m.0
-    (rw (c.save.ensures, starting.ensures, clear.ensures, l, m.1) (fresh_left a.store.now c.type_inv.store l _ m.0 same))
+    (rw (c.save.ensures, starting.ensures, clear.ensures, l, m.1) (fresh_left a.store.now slice-known.given l _ m.0 same))
