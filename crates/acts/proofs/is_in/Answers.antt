@@ -19,4 +19,4 @@ returns-in-InView c =
 pub returns-in_default : goal.returns-in_default
 returns-in_default c =
     let args = c.args in
-    not_in_view c.load-station.result args.store.now c.load-station.ensures args.view (λ p. let z = ap (tag_of the_type) p in ⊎_elim (λ w. omega arith) (λ w. omega arith) c.in_default.in_default-own.keys2)
+    not_in_view c.load-station.result args.store.now c.load-station.ensures args.view c.in_default.not-InView

@@ -1,10 +1,7 @@
 -- `moments::enters_at` meets its contract, by the loaded phase. Assumes nothing.
 use mathlib.Core.Path.{ap, ◌∙◌}
 use mathlib.Core.Bool.{◌&&◌}
-use mathlib.Core.Logic.{⊎_elim}
 use lib.Dec.{ltb}
-use denote.Enum.Declared.{tag_of}
-use Rattle.store.specs.contracts.Phase.{the_type}
 use Rattle.moments.proofs.Moments.{short_delay, enters_then, enters_never}
 use native.Mathlib.Omega.{arith}
 use Rattle.moments.proofs.enters_at.Goals as goal
@@ -22,4 +19,4 @@ returns-in-Waiting c =
 pub returns-in_default : goal.returns-in_default
 returns-in_default c =
     let args = c.args in let pre = c.requires in
-    enters_never pre.0 args.station pre.1 args.clock (λ q p. let z = ap (tag_of the_type) p in ⊎_elim (λ w. omega arith) (λ w. omega arith) c.in_default.in_default-own.keys2)
+    enters_never pre.0 args.station pre.1 args.clock c.in_default.not-Waiting

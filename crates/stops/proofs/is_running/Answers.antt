@@ -1,10 +1,5 @@
 -- `stops::is_running` meets its contract: by the phase of the header. Assumes nothing.
 use Rattle.stops.proofs.Running.{not_running, is_running}
-use Rattle.store.specs.contracts.Phase.{the_type}
-use denote.Enum.Declared.{tag_of}
-use native.Mathlib.Omega.{arith}
-use mathlib.Core.Logic.{⊎_elim}
-use mathlib.Core.Path.{ap}
 use Rattle.stops.proofs.is_running.Goals as goal
 
 pub returns-in-Stopped : goal.returns-in-Stopped
@@ -13,4 +8,4 @@ returns-in-Stopped c =
 
 pub returns-in_default : goal.returns-in_default
 returns-in_default c =
-    is_running c.args.station c.args.store.now c.requires.1 (λ w p. let z = ap (tag_of the_type) p in ⊎_elim (λ u. omega arith) (λ u. omega arith) c.in_default.in_default-own.keys2)
+    is_running c.args.station c.args.store.now c.requires.1 c.in_default.not-Stopped
