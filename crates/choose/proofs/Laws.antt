@@ -18,9 +18,7 @@ use Rattle.rules.specs.Words.{Certificate, below, message}
 use Rattle.laws.proofs.Bytes as rules
 use Rattle.laws.proofs.ReadBack.{write_read}
 use Rattle.laws.proofs.Tests.{by_bool, by_option, no_some}
-use types.Run.{OneOf, miss}
-use denote.Enum.Declared.{tag_of}
-use Rattle.wire.specs.contracts.Message.{the_type}
+use Rattle.fields.specs.declared.Name.{Name}
 use Rattle.wire.specs.declared.Message as messages
 use Rattle.wire.specs.declared.Message.TheVariants.{Stated, Vote, Blame, BlameSet, Status}
 use Rattle.wire.specs.Meaning.{message_of}
@@ -94,13 +92,13 @@ module _ (g : Settings) (s : List ℕ) where
     report_is a = rw (e, report, a)
 
 -- a message of another kind is no report
-pub other_kind : (m : messages.Message) → OneOf (0 ∷ 1 ∷ 2 ∷ 3 ∷ []) (tag_of the_type m) → reported (message_of m) ≡ none
+pub other_kind : (m : messages.Message) → ((h : ℕ) (b : Name) (c k : ℕ) → m ≡ Status h b c k → ⊥) → reported (message_of m) ≡ none
 unfolding reported message_of message
 other_kind (Stated x) k = by_bool x.is_new_view (λ q. rw (q, message, reported)) (λ q. rw (q, message, reported))
 other_kind (Vote v h b a) k = refl
 other_kind (Blame v a) k = refl
 other_kind (BlameSet v m) k = refl
-other_kind (Status h b c m) k = absurd (miss (0 ∷ 1 ∷ 2 ∷ 3 ∷ []) 4 tt k)
+other_kind (Status h b c m) k = absurd (k h b c m refl)
 
 -- ---- the group
 

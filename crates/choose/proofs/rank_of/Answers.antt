@@ -22,10 +22,10 @@ unfolding read_of reported message_of
 returns-in-Status c =
     let is = report_is (settings_of c.args.settings) c.args.message.now _ (sym c.read_message.ensures ∙ ap read_of c.in-Readable.is)
     (sym c.message_allowed.ensures ∙ c.if-not-message_allowed.false) in
-    record { certificate = _; is = is ∙ ap (λ m. reported (message_of m)) c.in-Status.is; view-is = refl; height-is = refl }
+    record { certificate = _; is = is ∙ ap (λ m. reported (message_of m)) c.in-Status.is; view_is = refl; height_is = refl }
 
 pub returns-in_default-said : goal.returns-in_default-said
 unfolding read_of
 returns-in_default-said c =
     report_is (settings_of c.args.settings) c.args.message.now _ (sym c.read_message.ensures ∙ ap read_of c.in-Readable.is)
-    (sym c.message_allowed.ensures ∙ c.if-not-message_allowed.false) ∙ other_kind c.in-Readable.said c.in_default-said.in_default-said-own.keys2
+    (sym c.message_allowed.ensures ∙ c.if-not-message_allowed.false) ∙ other_kind c.in-Readable.said c.in_default-said.not-Status

@@ -15,7 +15,7 @@ pub add-requires : goal.add-requires
 add-requires c =
     let pre = c.requires in let is-kept = c.is_kept in
     let if1 = c.if-is_kept in
-    (pre.0.0, sym c.is_full.ensures ∙ c.if-is_full.false, pre.0.1 (sym is-kept.ensures ∙ if1.true))
+    (pre.list_value.0, sym c.is_full.ensures ∙ c.if-is_full.false, pre.list_value.1 (sym is-kept.ensures ∙ if1.true))
 
 pub returns-then-is_kept : goal.returns-then-is_kept
 returns-then-is_kept c =
@@ -25,7 +25,7 @@ returns-then-is_kept c =
     let is-full = c.is_full in
     let if2 = c.if-is_full in let add = c.add in
     let copy = c.copy in
-    is_entered args.kind args.input.now args.number args.said.now args.list.now args.out.now is-kept.ensures if1.true is-full.ensures if2.false (ap (λ (n : ℕ). n + length args.said.now) c.refuse-then-is_kept.ensures) add.ensures copy.ensures pre.1.2
+    is_entered args.kind args.input.now args.number args.said.now args.list.now args.out.now is-kept.ensures if1.true is-full.ensures if2.false (ap (λ (n : ℕ). n + length args.said.now) c.refuse-then-is_kept.ensures) add.ensures copy.ensures pre.number_bound.2
 
 pub returns : goal.returns
 returns c =
