@@ -33,7 +33,6 @@ use Rattle.outgoing.proofs.Writing.{says_none, says_one, says_length, length_to_
 use Rattle.plain_statements.specs.declared.Held.{Held}
 use Rattle.plain_statements.specs.declared.Statements.{Statements}
 use Rattle.plain_statements.specs.Meaning.{held_of, statements}
-use Rattle.plain_tallies.specs.Meaning.{tallies}
 use Rattle.plain_tables.specs.declared.Engine.{Engine}
 use Rattle.plain_tables.specs.Meaning.{state, Gives}
 use Rattle.plain_acts.specs.declared.Work.{Work}

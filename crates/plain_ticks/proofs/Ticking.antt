@@ -26,7 +26,7 @@ use Rattle.kept.proofs.Calls.{tick_whole}
 use Rattle.plain_tables.specs.declared.Cause.{Cause}
 use Rattle.plain_tables.specs.declared.Phase.TheVariants.{Stopped}
 use Rattle.plain_tables.specs.declared.Engine.{Engine}
-use Rattle.plain_tables.specs.Meaning.{names, cause_of, state, Sized, Gives}
+use Rattle.plain_tables.specs.Meaning.{names, cause_of, state, Sized}
 use Rattle.plain_tables.proofs.Laws.{gives_phase}
 use Rattle.plain_chains.specs.declared.Maybe.{Maybe}
 use Rattle.plain_chains.specs.Meaning as chains

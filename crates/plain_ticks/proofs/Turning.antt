@@ -1,5 +1,5 @@
 -- What each rule of a tick leaves to the next: a whole station, and room in the out buffer. Assumes nothing.
-use Prim.Native.Nat.{ℕ, suc, ◌+◌, ◌-◌, ◌≤◌}
+use Prim.Native.Nat.{ℕ, suc, ◌+◌, ◌≤◌}
 use mathlib.Core.Path.{◌≡◌, refl, sym, subst}
 use mathlib.Core.Bool.{true, ◌&&◌}
 use mathlib.Core.List.{List}
@@ -21,7 +21,6 @@ use Rattle.kept.proofs.Tallies.{block_self, join_there}
 use Rattle.kept.proofs.Ticks.{logging_keeps, complain_keeps, lead_keeps}
 use Rattle.kept.proofs.Room.{complain_bytes, lead_bytes}
 use Rattle.outgoing.proofs.Writing.{says_length}
-use Rattle.plain_tallies.specs.Meaning.{tallies}
 use Rattle.plain_tallies.proofs.Laws.{join_long, certificate_long}
 use Rattle.plain_tables.specs.declared.Names.{Names}
 use Rattle.plain_tables.specs.declared.Engine.{Engine}

@@ -30,7 +30,6 @@ use Rattle.kept.proofs.Calls.{step_whole}
 use Rattle.plain_words.proofs.Tables.{counted}
 use Rattle.plain_statements.specs.Meaning as statement_room
 use Rattle.plain_statements.specs.Meaning.{held_of, blank, statements}
-use Rattle.plain_tallies.specs.Meaning.{tallies}
 use Rattle.plain_tallies.proofs.Laws.{tally_count}
 use Rattle.plain_tables.specs.declared.Cause.{Cause}
 use Rattle.plain_tables.specs.declared.Cause.TheVariants.{Full}

@@ -32,7 +32,7 @@ returns-then-same c =
     record {
       keyed = keyed;
       mixes = found.mixes more ∙ ap (λ (k : ℕ). stir_words b (stir a.salt k) a.after.at 4) (sym keys) ∙ sym (words_alike b bytes at a.after.at (stir a.salt key) 4 names);
-      has = λ e. found.has more _ (record { key-is = sym keys ∙ keyed.key_is; name-is = sym names ∙ keyed.name_is; small = keyed.small });
+      has = λ e. found.has more _ (record { key_is = sym keys ∙ keyed.key_is; name_is = sym names ∙ keyed.name_is; small = keyed.small });
     }
 
 pub returns : goal.returns

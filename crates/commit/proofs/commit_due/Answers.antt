@@ -9,34 +9,6 @@ use Rattle.glance.specs.Votes.{is_ripe}
 use Rattle.commit.proofs.Course.{Turn, ripe_propose, course_start, course_end, course_not, course_told, course_high, course_settled, turn_broken, turn_whole, turn_grown, turn_differs}
 use Rattle.commit.proofs.commit_due.Goals as goal
 
--- statement i - 1 is due
-due : (c : goal.Else-not-is_due invariant-loop decreases-loop)
-    → let a = c.args in
-    is_ripe a.view a.wait a.clock (statement_at a.store.now (c.loop-i.i - 1)) ≡ true
-due c =
-    sym c.is_due.ensures ∙ c.if-not-is_due.false
-
--- its chain was walked
-turn : (c : goal.After-slice_known-in-loop-i-1 invariant-loop decreases-loop)
-    → let a = c.args in
-    let l = c.loop-i in
-    let walk = c.walk-walked in
-    Turn a.store.now (is_ripe a.view a.wait a.clock) a.count l.i l.len l.gained walk.new.chain walk.result.left c.height_at-own.result
-turn c =
-    let begun = c.requires.0 in
-    let course = c.loop-i.invariant in
-    record {
-      up = course.up;
-      log = course.log;
-      long = course.long;
-      pos = omega (arith, c.if-i-settled.false);
-      due = due c;
-      tall = c.height_at-own.ensures;
-      high = omega (arith, c.if-count-own.false, begun.all, form_statements _ begun.form);
-      walked = c.walk-walked.ensures.from;
-      whole = omega (arith, c.walk-walked.auto.chain, course.chained.long);
-    }
-
 pub loop-i-init : goal.loop-i-init
 loop-i-init c =
     let pre = c.requires in
@@ -72,7 +44,7 @@ loop-i-smaller-then-is_told c =
 pub loop-i-preserved-then-is_told : goal.loop-i-preserved-then-is_told
 loop-i-preserved-then-is_told c =
     let pre = c.requires in let loop = c.loop-i in
-    course_told loop.invariant (omega arith) (due c) pre.0.tells c.is_told.result c.is_told.ensures c.if-is_told.true
+    course_told loop.invariant (omega arith) (sym c.is_due.ensures ∙ c.if-not-is_due.false) pre.0.tells c.is_told.result c.is_told.ensures c.if-is_told.true
 
 pub height_at-own-requires : goal.height_at-own-requires
 height_at-own-requires c =
@@ -87,7 +59,7 @@ pub loop-i-preserved-then-count-own : goal.loop-i-preserved-then-count-own
 loop-i-preserved-then-count-own c =
     let pre = c.requires in
     let loop = c.loop-i in
-    course_high loop.invariant (omega arith) (due c) pre.0.all (omega (arith, c.height_at-own.ensures))
+    course_high loop.invariant (omega arith) (sym c.is_due.ensures ∙ c.if-not-is_due.false) pre.0.all (omega (arith, c.height_at-own.ensures))
 
 pub is_settled-requires : goal.is_settled-requires
 is_settled-requires c =
@@ -101,7 +73,7 @@ loop-i-smaller-then-is_settled c =
 pub loop-i-preserved-then-is_settled : goal.loop-i-preserved-then-is_settled
 loop-i-preserved-then-is_settled c =
     let loop = c.loop-i in
-    course_settled loop.invariant (omega arith) (due c) _ c.is_settled.result c.is_settled.ensures c.if-is_settled.true
+    course_settled loop.invariant (omega arith) (sym c.is_due.ensures ∙ c.if-not-is_due.false) _ c.is_settled.result c.is_settled.ensures c.if-is_settled.true
 
 pub walk-walked-requires : goal.walk-walked-requires
 walk-walked-requires c =
@@ -117,7 +89,7 @@ walk-walked-requires c =
       begun.all,
       below,
       course.chained.long,
-      begun.heights _ below (ripe_propose _ _ _ _ (due c)),
+      begun.heights _ below (ripe_propose _ _ _ _ (sym c.is_due.ensures ∙ c.if-not-is_due.false)),
       omega (arith, tall, if4.false, begun.all, form_statements _ begun.form),
     )
 
@@ -127,13 +99,43 @@ loop-i-smaller-then-left-ne0 c =
 
 pub loop-i-preserved-then-left-ne0 : goal.loop-i-preserved-then-left-ne0
 loop-i-preserved-then-left-ne0 c =
-    turn_broken (turn c) c.if-left-ne0.true
+    let a = c.args in
+    let l = c.loop-i in
+    let begun = c.requires.0 in
+    let course = l.invariant in
+    let turn : Turn a.store.now (is_ripe a.view a.wait a.clock) a.count l.i l.len l.gained c.walk-walked.new.chain c.walk-walked.result.left c.height_at-own.result = record {
+      up = course.up;
+      log = course.log;
+      long = course.long;
+      pos = omega (arith, c.if-i-settled.false);
+      due = sym c.is_due.ensures ∙ c.if-not-is_due.false;
+      tall = c.height_at-own.ensures;
+      high = omega (arith, c.if-count-own.false, begun.all, form_statements _ begun.form);
+      walked = c.walk-walked.ensures.from;
+      whole = omega (arith, c.walk-walked.auto.chain, course.chained.long);
+    } in
+    turn_broken turn c.if-left-ne0.true
 
 pub join-requires : goal.join-requires
 join-requires c =
+    let a = c.args in
+    let l = c.loop-i in
+    let begun = c.requires.0 in
+    let course = l.invariant in
+    let turn : Turn a.store.now (is_ripe a.view a.wait a.clock) a.count l.i l.len l.gained c.walk-walked.new.chain c.walk-walked.result.left c.height_at-own.result = record {
+      up = course.up;
+      log = course.log;
+      long = course.long;
+      pos = omega (arith, c.if-i-settled.false);
+      due = sym c.is_due.ensures ∙ c.if-not-is_due.false;
+      tall = c.height_at-own.ensures;
+      high = omega (arith, c.if-count-own.false, begun.all, form_statements _ begun.form);
+      walked = c.walk-walked.ensures.from;
+      whole = omega (arith, c.walk-walked.auto.chain, course.chained.long);
+    } in
     let pre = c.requires in
     let walk = c.walk-walked in
-    (turn_whole (turn c) c.if-left-ne0.false pre.0.form pre.1, walk.ensures.lowest)
+    (turn_whole turn c.if-left-ne0.false pre.0.form pre.1, walk.ensures.lowest)
 
 pub loop-i-smaller : goal.loop-i-smaller
 loop-i-smaller c =
@@ -141,10 +143,25 @@ loop-i-smaller c =
 
 pub loop-i-preserved : goal.loop-i-preserved
 loop-i-preserved c =
+    let a = c.args in
+    let l = c.loop-i in
+    let begun = c.requires.0 in
+    let course = l.invariant in
+    let turn : Turn a.store.now (is_ripe a.view a.wait a.clock) a.count l.i l.len l.gained c.walk-walked.new.chain c.walk-walked.result.left c.height_at-own.result = record {
+      up = course.up;
+      log = course.log;
+      long = course.long;
+      pos = omega (arith, c.if-i-settled.false);
+      due = sym c.is_due.ensures ∙ c.if-not-is_due.false;
+      tall = c.height_at-own.ensures;
+      high = omega (arith, c.if-count-own.false, begun.all, form_statements _ begun.form);
+      walked = c.walk-walked.ensures.from;
+      whole = omega (arith, c.walk-walked.auto.chain, course.chained.long);
+    } in
     let loop = c.loop-i in
     let if6 = c.if-left-ne0 in
     let join = c.join in
-    turn_grown (turn c) if6.false _ join.result join.ensures (omega (arith, join.auto.gained, loop.invariant.long)) _ c.in-Grown.is
+    turn_grown turn if6.false _ join.result join.ensures (omega (arith, join.auto.gained, loop.invariant.long)) _ c.in-Grown.is
 
 pub shape_of-gained-then-i-settled : goal.shape_of-gained-then-i-settled
 shape_of-gained-then-i-settled c =
@@ -175,7 +192,22 @@ shape_of-chain-in_default c =
 
 pub returns-in_default : goal.returns-in_default
 returns-in_default c =
+    let a = c.args in
+    let l = c.loop-i in
+    let begun = c.requires.0 in
+    let course = l.invariant in
+    let turn : Turn a.store.now (is_ripe a.view a.wait a.clock) a.count l.i l.len l.gained c.walk-walked.new.chain c.walk-walked.result.left c.height_at-own.result = record {
+      up = course.up;
+      log = course.log;
+      long = course.long;
+      pos = omega (arith, c.if-i-settled.false);
+      due = sym c.is_due.ensures ∙ c.if-not-is_due.false;
+      tall = c.height_at-own.ensures;
+      high = omega (arith, c.if-count-own.false, begun.all, form_statements _ begun.form);
+      walked = c.walk-walked.ensures.from;
+      whole = omega (arith, c.walk-walked.auto.chain, course.chained.long);
+    } in
     let pre = c.requires in
     let if6 = c.if-left-ne0 in
     let join = c.join in
-    turn_differs (turn c) if6.false _ join.result join.ensures pre.0.all c.in_default.is
+    turn_differs turn if6.false _ join.result join.ensures pre.0.all c.in_default.is

@@ -10,6 +10,7 @@ use Rattle.store.specs.contracts.Phase.{the_type}
 use Rattle.rules.specs.Words.{in_view}
 use denote.Enum.Declared.{tag_of}
 use types.Run.{OneOf, miss}
+use borrow.Enum.Refused.{opened}
 use native.Mathlib.Omega.{arith}
 use mathlib.Core.List.{[], ◌∷◌}
 use mathlib.Core.Path.{◌≡◌, refl, sym, ap, ◌∙◌}
@@ -26,7 +27,7 @@ pub returns-in_default : goal.returns-in_default
 returns-in_default c =
     let header = c.requires.2 in
     gained_none _ _ _ (loaded_logged _ _ header) (form_log _ c.requires.0).1
-    (tick_out _ (λ e. outside c.args.station.phase c.in_default.in_default-own.keys2 (loaded_phase _ _ header ∙ e)))
+    (tick_out _ (λ e. outside c.args.station.phase (opened c.in_default.in_default-own.keys2) (loaded_phase _ _ header ∙ e)))
 
 pub overflow_mul-wait : goal.overflow_mul-wait
 overflow_mul-wait c =

@@ -31,12 +31,12 @@ returns c =
     let slice-known = c.slice_known-1 in
     let is_whole = c.is_whole in
     let if1 = c.if-not-is_whole in
-    let size_in = c.size_in-size in
+    let size = c.size_in-size in
     let made = c.new in
     let clear = c.clear in let starting = c.starting in
     let a = c.args in
-    let y = size_in.result in
-    let same = size_in.ensures in
+    let y = size.result in
+    let same = size.ensures in
     let b = c.args.store.now in
     let l = eqb-true (length b) (store_length (size_in b)) (sym is_whole.ensures ∙ if1.false) in
     let m = made_good a.store.now a.n a.d a.own y same _ (sym made.ensures.0 ∙ c.in-Good.is) in

@@ -6,4 +6,4 @@ use Rattle.glance.proofs.is_told.Goals as goal
 
 pub returns : goal.returns
 returns c =
-    let args = c.args in tells_read args.told.now args.i (ap (λ (h : ℕ). h - 1) c.height_at-height.ensures) c.IsPlace-in.ensures
+    let args = c.args in tells_read args.told.now args.i (ap (λ (h : ℕ). h - 1) c.height_at-height.ensures) c.place_in.ensures

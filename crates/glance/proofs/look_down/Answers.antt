@@ -4,6 +4,8 @@ use Rattle.glance.proofs.Viewing.{of_view_lem, of_other}
 use Rattle.glance.proofs.Voting.{vote_other, vote_new_view, vote_own, vote_propose}
 use Rattle.glance.proofs.Telling.{told_propose}
 use Rattle.glance.specs.Looks.{Tells}
+use Rattle.store.specs.Decode.{statement_at}
+use Prim.Native.Nat.{◌-◌}
 use Rattle.store.proofs.Forms.{form_long, form_statements}
 use native.Mathlib.Omega.{arith}
 use mathlib.Core.Path.{sym, ◌∙◌, subst}
@@ -51,7 +53,8 @@ loop-i-smaller-then-voted_at-eq0 c =
 
 pub loop-i-preserved-then-voted_at-eq0 : goal.loop-i-preserved-then-voted_at-eq0
 loop-i-preserved-then-voted_at-eq0 c =
-    let told = subst (Tells _ _ _) c.if-is_told.true c.is_told.ensures in
+    let i = c.loop-i.i - 1 in
+    let told = subst (Tells c.args.told.now ((statement_at c.args.store.now i).height - 1) i) c.if-is_told.true c.is_told.ensures in
     let propose = told_propose c.requires.0.tells _ _ told in
     looking_not c.loop-i.invariant (omega arith) (sym c.if-voted_at-eq0.true ∙ c.voted_at.ensures ∙ vote_propose _ _ _ (of_view_lem c.is_of_view.ensures (ap not c.if-not-is_of_view.false)) propose)
 
@@ -65,7 +68,8 @@ loop-i-smaller-then-is_told c =
 
 pub loop-i-preserved-then-is_told : goal.loop-i-preserved-then-is_told
 loop-i-preserved-then-is_told c =
-    let told = subst (Tells _ _ _) c.if-is_told.true c.is_told.ensures in
+    let i = c.loop-i.i - 1 in
+    let told = subst (Tells c.args.told.now ((statement_at c.args.store.now i).height - 1) i) c.if-is_told.true c.is_told.ensures in
     let propose = told_propose c.requires.0.tells _ _ told in
     looking_told c.loop-i.invariant (omega arith) _ (c.voted_at.ensures ∙ vote_propose _ _ _ (of_view_lem c.is_of_view.ensures (ap not c.if-not-is_of_view.false)) propose) c.if-voted_at-eq0.false told
 

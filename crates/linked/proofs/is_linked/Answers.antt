@@ -17,7 +17,7 @@ returns-then-count-eq0 c =
 
 pub hang_all-requires : goal.hang_all-requires
 hang_all-requires c =
-    (c.requires.1, record { heads-are = refl; nexts-are = refl })
+    (c.requires.1, record { heads_are = refl; nexts_are = refl })
 
 pub loop-k-init : goal.loop-k-init
 loop-k-init c =

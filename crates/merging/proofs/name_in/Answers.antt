@@ -6,4 +6,4 @@ use Rattle.merging.proofs.name_in.Goals as goal
 
 pub returns : goal.returns
 returns c =
-    name_of_lem _ _ _ c.statement_at-x.ensures ∙ name_at_lem _ c.args.table.now c.args.k _ c.IsPlace-in.ensures
+    name_of_lem _ _ _ c.statement_at-x.ensures ∙ name_at_lem _ c.args.table.now c.args.k _ c.place_in.ensures

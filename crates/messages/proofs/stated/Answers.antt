@@ -11,7 +11,7 @@ use Rattle.messages.proofs.stated.Goals as goal
 
 pub returns-then-not-fits : goal.returns-then-not-fits
 returns-then-not-fits c =
-    let planned = c.planned-plan in let fits2 = c.fits2 in
+    let planned = c.planned-plan in let fits2 = c.fits in
     let if1 = c.if-not-fits in
     let s = state_of c.args.store.now in
     let x = statement_of c.args.x none in
@@ -22,13 +22,13 @@ pub statement-requires : goal.statement-requires
 statement-requires c =
     let s = state_of c.args.store.now in
     let x = statement_of c.args.x none in
-    let room = c.fits2.ensures ∙ plan_room x s (formed_parts c.requires.0) c.planned-plan.result c.planned-plan.ensures in
+    let room = c.fits.ensures ∙ plan_room x s (formed_parts c.requires.0) c.planned-plan.result c.planned-plan.ensures in
     (c.requires.0, c.requires.1, sym room ∙ c.if-not-fits.false, c.planned-plan.ensures, c.requires.2)
 
 pub returns : goal.returns
 returns c =
     let planned = c.planned-plan in
-    let fits2 = c.fits2 in let if1 = c.if-not-fits in
+    let fits2 = c.fits in let if1 = c.if-not-fits in
     let statement = c.statement in
     let s = state_of c.args.store.now in
     let x = statement_of c.args.x none in

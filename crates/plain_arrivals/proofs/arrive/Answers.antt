@@ -31,8 +31,8 @@ returns-then-blame_full c =
 pub both-next-requires : goal.both-next-requires
 both-next-requires c =
     let current = c.current-current in let pair = c.pair-two in
-    let t = c.two-1.given in
-    let l = two_linked c.args.e c.requires.0 current.result current.ensures.is t.0.0 t.0.1.0 (ap two_of (sym t.1) ∙ pair.ensures) in
+    let t = c.in-Both in
+    let l = two_linked c.args.e c.requires.0 current.result current.ensures.is t.x t.y (ap two_of (sym t.is) ∙ pair.ensures) in
     (l.0, l.1, omega (arith, c.requires.1))
 
 pub voting_all-requires : goal.voting_all-requires
@@ -48,8 +48,8 @@ returns-in-Both c =
     let if1 = c.if-blame_full in
     let current = c.current-current in
     let pair = c.pair-two in let both = c.both-next in
-    let t = c.two-1.given in
-    arrives_two c.args.e _ c.args.at (sym blame-full.ensures ∙ if1.false) current.result (current_is c.args.e c.requires.0 current.result current.ensures.is) (held_of t.0.0) (held_of t.0.1.0) (ap two_of (sym t.1) ∙ pair.ensures) both.ensures c.quit-engine-in-Both.ensures
+    let t = c.in-Both in
+    arrives_two c.args.e _ c.args.at (sym blame-full.ensures ∙ if1.false) current.result (current_is c.args.e c.requires.0 current.result current.ensures.is) (held_of t.x) (held_of t.y) (ap two_of (sym t.is) ∙ pair.ensures) both.ensures c.quit-engine-in-Both.ensures
 
 pub returns-in-Neither : goal.returns-in-Neither
 returns-in-Neither c =

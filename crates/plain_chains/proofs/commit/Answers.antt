@@ -4,8 +4,7 @@ use Rattle.plain_tables.specs.Meaning.{names}
 use Rattle.plain_statements.specs.Meaning.{held_of, statements}
 use Rattle.plain_chains.specs.Meaning.{maybe_of}
 use Rattle.plain_chains.proofs.Joins.{gives_none, gives_some, commit_passed, commit_joins}
-use mathlib.Core.Path.{ap}
-use mathlib.Core.Bool.{not}
+use borrow.Author.Tests.{not-true, not-false}
 use Rattle.plain_chains.proofs.commit.Goals as goal
 
 pub returns-then-not-own : goal.returns-then-not-own
@@ -13,7 +12,7 @@ unfolding maybe_of
 returns-then-not-own c =
     record {
       within = c.requires.2;
-      is = sym (commit_passed (statements c.args.xs) (held_of c.args.x) (names c.args.log) (gives_none c.chain-own.ensures c.if-not-own.true));
+      is = sym (commit_passed (statements c.args.xs) (held_of c.args.x) (names c.args.log) (gives_none c.chain-own.ensures (not-true _ c.if-not-own.true)));
     }
 
 pub returns : goal.returns
@@ -22,5 +21,5 @@ returns c =
       within = c.merge.ensures.within;
       is =
           c.merge.ensures.is
-          ∙ sym (commit_joins (statements c.args.xs) (held_of c.args.x) _ (names c.args.log) (gives_some c.chain-own.ensures c.if-not-own.false));
+          ∙ sym (commit_joins (statements c.args.xs) (held_of c.args.x) _ (names c.args.log) (gives_some c.chain-own.ensures (not-false _ c.if-not-own.false)));
     }

@@ -5,8 +5,7 @@ use Rattle.plain_tables.specs.Meaning as tables
 use Rattle.plain_statements.specs.Meaning.{statements}
 use Rattle.plain_chains.specs.Meaning.{maybe_of}
 use Rattle.plain_chains.proofs.Joins.{gives_none, gives_some, commits_end, commits_differ, commits_go}
-use mathlib.Core.Path.{ap}
-use mathlib.Core.Bool.{not}
+use borrow.Author.Tests.{not-true, not-false}
 use Rattle.plain_chains.proofs.commits.Goals as goal
 
 pub loop-i-init : goal.loop-i-init
@@ -27,7 +26,7 @@ unfolding maybe_of
 returns-then-not-next c =
     let l = c.loop-i in
     let loop-test = c.loop-i-test in
-    record { within = l.invariant.1; is = sym (l.invariant.2 ∙ commits_differ (statements c.args.xs) c.args.due.items c.args.due.count _ l.i (tables.names l.names) (omega (arith, c.requires.2.long, c.requires.2.most)) loop-test.true (gives_none c.commit-next.ensures c.if-not-next.true)) }
+    record { within = l.invariant.1; is = sym (l.invariant.2 ∙ commits_differ (statements c.args.xs) c.args.due.items c.args.due.count _ l.i (tables.names l.names) (omega (arith, c.requires.2.long, c.requires.2.most)) loop-test.true (gives_none c.commit-next.ensures (not-true _ c.if-not-next.true))) }
 
 pub overflow_add-i : goal.overflow_add-i
 overflow_add-i c = omega arith
@@ -40,7 +39,7 @@ loop-i-preserved c =
     let l = c.loop-i in
     let loop-test = c.loop-i-test in
     let commit = c.commit-next in
-    (omega arith, commit.ensures.within, l.invariant.2 ∙ commits_go (statements c.args.xs) c.args.due.items c.args.due.count _ l.i (tables.names l.names) (omega (arith, c.requires.2.long, c.requires.2.most)) loop-test.true _ (gives_some commit.ensures c.if-not-next.false))
+    (omega arith, commit.ensures.within, l.invariant.2 ∙ commits_go (statements c.args.xs) c.args.due.items c.args.due.count _ l.i (tables.names l.names) (omega (arith, c.requires.2.long, c.requires.2.most)) loop-test.true _ (gives_some commit.ensures (not-false _ c.if-not-next.false)))
 
 pub returns : goal.returns
 unfolding maybe_of

@@ -1,6 +1,7 @@
 -- `plain_messages::handled` meets its contract. Assumes nothing.
-use Prim.Native.Nat.{◌<◌}
-use mathlib.Core.Path.{refl, sym, ap, ◌∙◌}
+use Prim.Native.Nat.{ℕ, ◌<◌}
+use mathlib.Core.Bool.{true}
+use mathlib.Core.Path.{◌≡◌, refl, sym, ap, ◌∙◌}
 use native.Mathlib.Omega.{arith}
 use mathlib.Core.Option.{none, some}
 use Rattle.rules.specs.Limits.{mask_bits}
@@ -10,9 +11,13 @@ use Rattle.rules.specs.Words as words
 use Rattle.laws.proofs.Allowed.{allowed_rights}
 use Rattle.fields.specs.Names.{name_of}
 use Rattle.wire.specs.Meaning.{message_of}
+use Rattle.fields.specs.declared.Name.{Name}
 use Rattle.wire.specs.declared.Message.{Message}
+use Rattle.wire.specs.declared.Message.TheVariants.{Vote, Blame}
 use Rattle.plain_words.specs.Meaning.{certificate_of}
 use Rattle.plain_tables.specs.Meaning.{state}
+use Rattle.plain_tables.specs.declared.Engine.{Engine}
+use Rattle.plain_messages.specs.Whole.{Whole}
 use Rattle.plain_messages.proofs.Laws.{few_tallies_lem, view_small, author_small, voter_certificate, told, stated_worked, tallied_worked, blamed_worked}
 use Rattle.plain_messages.proofs.handled.Goals as goal
 
@@ -23,22 +28,20 @@ statement-requires c =
     let k = c.requires.0 in
     (k, ap (λ (z : Message). allowed (state a.e).settings (message_of z)) (sym c.in-Stated.is) ∙ c.requires.1, c.requires.2)
 
--- whoever votes is a station, once the vote is taken apart
-voter-small : (m : goal.In-Vote-2) → m.in-Vote.author < mask_bits
+-- whoever votes is a station
+voter_small : (e : Engine) (m : Message) (view height : ℕ) (name : Name) (author : ℕ) → Whole e → allowed (state e).settings (message_of m) ≡ true → m ≡ Vote view height name author → author < mask_bits
 unfolding message_of
-voter-small m =
-    let start = m in
-    let e = start.args.e in
-    let got = m.message-in-Vote-1.given in
-    let said = vote got.0.0 got.0.1.0 (name_of got.0.1.1.0) got.0.1.1.1.0 in
-    let may = ap (λ (z : Message). allowed (state e).settings (message_of z)) (sym got.1) ∙ start.requires.1 in
-    author_small e start.requires.0 got.0.1.1.1.0 (allowed_rights (state e).settings said may).2
+voter_small e m view height name author whole may is =
+    author_small e whole author (allowed_rights (state e).settings (vote view height (name_of name) author) (ap (λ (z : Message). allowed (state e).settings (message_of z)) (sym is) ∙ may)).2
 
 pub overflow_cast-author : goal.overflow_cast-author
-overflow_cast-author c = record { fits = omega (arith, voter-small c) }
+overflow_cast-author c =
+    let small = voter_small c.args.e c.args.message c.in-Vote.view c.in-Vote.height c.in-Vote.name c.in-Vote.author c.requires.0 c.requires.1 c.in-Vote.is in
+    record { fits = omega arith }
 
 pub mask_of-mask-requires : goal.mask_of-mask-requires
-mask_of-mask-requires c = voter-small c
+mask_of-mask-requires c =
+    voter_small c.args.e c.args.message c.in-Vote.view c.in-Vote.height c.in-Vote.name c.in-Vote.author c.requires.0 c.requires.1 c.in-Vote.is
 
 pub tallied-engine-requires : goal.tallied-engine-requires
 tallied-engine-requires c =
@@ -47,20 +50,19 @@ tallied-engine-requires c =
     (k.sized, omega (arith, few_tallies_lem a.e k))
 
 -- and so is whoever blames
-blamer-small : (m : goal.In-Blame-2) → m.in-Blame.author < mask_bits
+blamer_small : (e : Engine) (m : Message) (view author : ℕ) → Whole e → allowed (state e).settings (message_of m) ≡ true → m ≡ Blame view author → author < mask_bits
 unfolding message_of
-blamer-small m =
-    let start = m in
-    let e = start.args.e in
-    let got = m.message-in-Blame-1.given in
-    let may = ap (λ (z : Message). allowed (state e).settings (message_of z)) (sym got.1) ∙ start.requires.1 in
-    author_small e start.requires.0 got.0.1.0 (allowed_rights (state e).settings (blame got.0.0 got.0.1.0) may).1
+blamer_small e m view author whole may is =
+    author_small e whole author (allowed_rights (state e).settings (blame view author) (ap (λ (z : Message). allowed (state e).settings (message_of z)) (sym is) ∙ may)).1
 
 pub overflow_cast-author-in-Blame : goal.overflow_cast-author-in-Blame
-overflow_cast-author-in-Blame c = record { fits = omega (arith, blamer-small c) }
+overflow_cast-author-in-Blame c =
+    let small = blamer_small c.args.e c.args.message c.in-Blame.view c.in-Blame.author c.requires.0 c.requires.1 c.in-Blame.is in
+    record { fits = omega arith }
 
 pub mask_of-requires : goal.mask_of-requires
-mask_of-requires c = blamer-small c
+mask_of-requires c =
+    blamer_small c.args.e c.args.message c.in-Blame.view c.in-Blame.author c.requires.0 c.requires.1 c.in-Blame.is
 
 pub blaming-requires : goal.blaming-requires
 unfolding message_of

@@ -2,13 +2,11 @@
 use lib.Dec.{ltb}
 use Rattle.rules.specs.Limits.{last_height}
 use mathlib.Core.Path.{◌≡◌, sym, ap, ◌∙◌}
-use mathlib.Core.Bool.{◌&&◌}
 use native.Mathlib.Omega.{arith}
 use mathlib.Core.Option.{none, some}
 use borrow.Author.Tests.{ltb-true}
 use Rattle.rules.specs.Sizes.{quorum}
 use Rattle.rules.specs.Messages as messages
-use Rattle.rules.specs.Inputs as inputs
 use Rattle.rules.specs.Words.{message}
 use Rattle.rules.specs.Words as words
 use Rattle.laws.proofs.Tests.{and_right}
@@ -31,29 +29,21 @@ overflow_add-result c =
     omega (arith, ltb-true h last_height (and_right c.quorum-certified.result (ltb h last_height) c.if-certified-x.true))
 
 -- the voters are those of the top's own block, and the tests are those of an extension
-held : (k : goal.After-quorum-certified) → let a = k.args in k.voters-mask.result ≡ words.voters (words.own_block (statement_of a.x none) 0) (state a.e).tallies
-unfolding statement_of state
-held k =
-    let a = k.args in
-    k.voters-mask.ensures ∙ ap (λ (t : words.Certificate). words.voters t (tallies a.e.tallies)) k.own_block.ensures
-
-extends : (k : goal.After-quorum-certified) → let a = k.args in
-    (k.quorum-certified.result && ltb a.x.height last_height) ≡ inputs.extendable (statement_of a.x none) (state a.e)
-unfolding statement_of state
-extends k =
-    let a = k.args in
-    extendable_is (statement_of a.x none) (name_of a.name) (state a.e) k.voters-mask.result (held k) k.quorum-certified.result (k.quorum-certified.ensures ∙ ap (quorum (settings_of a.e.settings)) k.wide.ensures.0)
-
 pub returns-then-certified-x : goal.returns-then-certified-x
 unfolding message_of message statement_of state
 returns-then-certified-x c =
     let a = c.args in
     let x = statement_of a.x none in
-    ap (λ (m : messages.Message). some m) (above_is x (name_of a.name) (state a.e) c.voters-mask.result (held c))
-    ∙ extension_made x (name_of a.name) (state a.e) (sym (extends c) ∙ c.if-certified-x.true)
+    let held : c.voters-mask.result ≡ words.voters (words.own_block x 0) (state a.e).tallies = c.voters-mask.ensures ∙ ap (λ (t : words.Certificate). words.voters t (tallies a.e.tallies)) c.own_block.ensures in
+    let extends = extendable_is x (name_of a.name) (state a.e) c.voters-mask.result held c.quorum-certified.result (c.quorum-certified.ensures ∙ ap (quorum (settings_of a.e.settings)) c.wide.ensures.0) in
+    ap (λ (m : messages.Message). some m) (above_is x (name_of a.name) (state a.e) c.voters-mask.result held)
+    ∙ extension_made x (name_of a.name) (state a.e) (sym extends ∙ c.if-certified-x.true)
 
 pub returns : goal.returns
 unfolding statement_of state
 returns c =
     let a = c.args in
-    extension_none (statement_of a.x none) (name_of a.name) (state a.e) (sym (extends c) ∙ c.if-certified-x.false)
+    let x = statement_of a.x none in
+    let held : c.voters-mask.result ≡ words.voters (words.own_block x 0) (state a.e).tallies = c.voters-mask.ensures ∙ ap (λ (t : words.Certificate). words.voters t (tallies a.e.tallies)) c.own_block.ensures in
+    let extends = extendable_is x (name_of a.name) (state a.e) c.voters-mask.result held c.quorum-certified.result (c.quorum-certified.ensures ∙ ap (quorum (settings_of a.e.settings)) c.wide.ensures.0) in
+    extension_none x (name_of a.name) (state a.e) (sym extends ∙ c.if-certified-x.false)

@@ -16,25 +16,23 @@ pub returns-then-not-message_allowed : goal.returns-then-not-message_allowed
 unfolding read_of state
 returns-then-not-message_allowed c =
     let a = c.args in let pre = c.requires in
-    let shared-slice-known = c.shared_slice_known-1 in
     let running = c.running in
     let if1 = c.if-not-running in
     let read-message = c.read_message-read in let k = pre.0 in
-    step_answered a.message.now a.e _ _ shared-slice-known.given k
+    step_answered a.message.now a.e _ _ c.type_inv.message k
     (turn_is c.refused-then-not-message_allowed.ensures (turn_as (step_barred a.message.now (state a.e) (sym running.ensures ∙ if1.false) (message_of c.in-Readable.m) (ap read_of (sym c.in-Readable.is) ∙ read-message.ensures) (sym c.message_allowed.ensures ∙ c.if-not-message_allowed.true)) (refused_turned 5 a.e _ k.sized)))
 
 pub returns-then-ahead : goal.returns-then-ahead
 unfolding read_of state
 returns-then-ahead c =
     let a = c.args in let pre = c.requires in
-    let shared-slice-known = c.shared_slice_known-1 in
     let running = c.running in
     let if1 = c.if-not-running in
     let read-message = c.read_message-read in
     let message-allowed = c.message_allowed in
     let if2 = c.if-not-message_allowed in
     let k = pre.0 in
-    step_answered a.message.now a.e _ _ shared-slice-known.given k
+    step_answered a.message.now a.e _ _ c.type_inv.message k
     (turn_is c.refused-then-ahead.ensures (turn_as (step_ahead a.message.now (state a.e) (sym running.ensures ∙ if1.false) (message_of c.in-Readable.m) (ap read_of (sym c.in-Readable.is) ∙ read-message.ensures) (sym message-allowed.ensures ∙ if2.false) (sym c.ahead.ensures ∙ c.if-ahead.true)) (refused_turned 11 a.e _ k.sized)))
 
 pub heard-requires : goal.heard-requires
@@ -48,10 +46,10 @@ pub returns-in-Unreadable : goal.returns-in-Unreadable
 unfolding read_of
 returns-in-Unreadable c =
     let a = c.args in let pre = c.requires in
-    let shared-slice-known = c.shared_slice_known-1 in let running = c.running in
+    let running = c.running in
     let if1 = c.if-not-running in let read-message = c.read_message-read in
     let k = pre.0 in
-    step_answered a.message.now a.e _ _ shared-slice-known.given k
+    step_answered a.message.now a.e _ _ c.type_inv.message k
     (turn_is c.refused-in-Unreadable.ensures (turn_as (step_unreadable a.message.now (state a.e) (sym running.ensures ∙ if1.false) (ap read_of (sym c.in-Unreadable.is) ∙ read-message.ensures)) (refused_turned 4 a.e _ k.sized)))
 
 pub returns-else-ahead : goal.returns-else-ahead
@@ -59,12 +57,11 @@ unfolding read_of state
 returns-else-ahead c =
     let a = c.args in
     let pre = c.requires in
-    let shared-slice-known = c.shared_slice_known-1 in
     let running = c.running in
     let if1 = c.if-not-running in
     let read-message = c.read_message-read in
     let message-allowed = c.message_allowed in let if2 = c.if-not-message_allowed in
     let ahead = c.ahead in let if3 = c.if-ahead in
     let k = pre.0 in
-    step_answered a.message.now a.e _ _ shared-slice-known.given k
+    step_answered a.message.now a.e _ _ c.type_inv.message k
     (turn_as (step_heard a.message.now (state a.e) (sym running.ensures ∙ if1.false) (message_of c.in-Readable.m) (ap read_of (sym c.in-Readable.is) ∙ read-message.ensures) (sym message-allowed.ensures ∙ if2.false) (sym ahead.ensures ∙ if3.false)) c.heard.ensures)

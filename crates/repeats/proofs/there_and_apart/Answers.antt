@@ -26,7 +26,7 @@ returns-then-stored-eq0 c =
 pub loop-i-init : goal.loop-i-init
 loop-i-init c = (
   omega arith,
-  chained_none _ _ _ _ (record { heads-are = refl; nexts-are = refl }),
+  chained_none _ _ _ _ (record { heads_are = refl; nexts_are = refl }),
   distinct_end (statement_at _) _ same_statement _ (omega arith),
   all_end (statement_at _) _ _ _ (omega arith),
   record { fits = omega (arith, c.requires.0.long); mixes = λ l. absurd (omega (arith, l)); has = λ l. absurd (omega (arith, l)) },

@@ -24,24 +24,6 @@ returns-then-not-vote_in_order c =
     let a = c.args in
     bad_vote a.store.now c.type_inv.store a.i a.station (rw (← c.voted_at.ensures) (sym c.vote_in_order.ensures ∙ c.if-not-vote_in_order.true))
 
--- the tests before the last one, at the place where the kind is known
-passed : (k : goal.After-kind_at)
-    → let a = k.args in
-    Passed a.store.now k.type_inv.store a.i a.station
-passed k =
-    let get = k.get-view in let view-allowed = k.view_allowed in
-    let if1 = k.if-not-view_allowed in let get2 = k.get-height in
-    let all-zero = k.all_zero-zero in let height-good = k.height_good in
-    let if2 = k.if-not-height_good in let get3 = k.get in let leads = k.leads in
-    let if3 = k.if-not-leads in let voted-at = k.voted_at in
-    let vote-in-order = k.vote_in_order in let if4 = k.if-not-vote_in_order in
-    record {
-      view-good = rw (← get.ensures.0) (sym view-allowed.ensures ∙ if1.false);
-      block-good = rw (← get2.ensures.0, ← all-zero.ensures) (sym height-good.ensures ∙ if2.false);
-      leader-good = rw (← get.ensures.0, ← get3.ensures.0) (sym leads.ensures ∙ if3.false);
-      vote-good = rw (← voted-at.ensures) (sym vote-in-order.ensures ∙ if4.false);
-    }
-
 pub new_view_said-requires : goal.new_view_said-requires
 new_view_said-requires c =
     let pre = c.requires in
@@ -50,7 +32,15 @@ new_view_said-requires c =
     (omega (arith, pre.0, pre.1), (get.ensures.0, get2.ensures.0, c.get-mask.ensures.0))
 
 pub returns-then-kind_at-eq1 : goal.returns-then-kind_at-eq1
-returns-then-kind_at-eq1 c = c.new_view_said.ensures ∙ as_new_view _ _ _ _ (passed c) (sym c.kind_at.ensures ∙ c.if-kind_at-eq1.true)
+returns-then-kind_at-eq1 c =
+    let a = c.args in
+    let passed : Passed a.store.now c.type_inv.store a.i a.station = record {
+      view_good = rw (← c.get-view.ensures.0) (sym c.view_allowed.ensures ∙ c.if-not-view_allowed.false);
+      block_good = rw (← c.get-height.ensures.0, ← c.all_zero-zero.ensures) (sym c.height_good.ensures ∙ c.if-not-height_good.false);
+      leader_good = rw (← c.get-view.ensures.0, ← c.get.ensures.0) (sym c.leads.ensures ∙ c.if-not-leads.false);
+      vote_good = rw (← c.voted_at.ensures) (sym c.vote_in_order.ensures ∙ c.if-not-vote_in_order.false);
+    } in
+    c.new_view_said.ensures ∙ as_new_view _ _ _ _ passed (sym c.kind_at.ensures ∙ c.if-kind_at-eq1.true)
 
 pub propose_said-requires : goal.propose_said-requires
 propose_said-requires c =
@@ -59,4 +49,12 @@ propose_said-requires c =
     (omega (arith, pre.0, pre.1), get2.ensures.0, c.get-mask.ensures.0)
 
 pub returns : goal.returns
-returns c = c.propose_said.ensures ∙ as_propose _ _ _ _ (passed c) (λ e. c.if-kind_at-eq1.false (c.kind_at.ensures ∙ e))
+returns c =
+    let a = c.args in
+    let passed : Passed a.store.now c.type_inv.store a.i a.station = record {
+      view_good = rw (← c.get-view.ensures.0) (sym c.view_allowed.ensures ∙ c.if-not-view_allowed.false);
+      block_good = rw (← c.get-height.ensures.0, ← c.all_zero-zero.ensures) (sym c.height_good.ensures ∙ c.if-not-height_good.false);
+      leader_good = rw (← c.get-view.ensures.0, ← c.get.ensures.0) (sym c.leads.ensures ∙ c.if-not-leads.false);
+      vote_good = rw (← c.voted_at.ensures) (sym c.vote_in_order.ensures ∙ c.if-not-vote_in_order.false);
+    } in
+    c.propose_said.ensures ∙ as_propose _ _ _ _ passed (λ e. c.if-kind_at-eq1.false (c.kind_at.ensures ∙ e))

@@ -60,7 +60,7 @@ blaming-requires c =
     let to-all = c.to_all-next in
     let k = pre.0 in
     let s = state_of args.store.now in
-    (k, view_of_loaded k load.result load.ensures, omega (arith, c.only.ensures, ap only (loaded_own k load.result load.ensures), only_lt s.settings-1 s.settings-1.own (sizes_of (formed_parts k).formed).own), omega (arith, to-all.ensures.ends, blame_bytes load.result.view load.result.settings.own, says_length to-all.ensures, pre.1))
+    (k, view_of_loaded k load.result load.ensures, omega (arith, c.only.ensures, ap only (loaded_own k load.result load.ensures), only_lt s.settings s.settings.own (sizes_of (formed_parts k).formed).own), omega (arith, to-all.ensures.ends, blame_bytes load.result.view load.result.settings.own, says_length to-all.ensures, pre.1))
 
 pub returns : goal.returns
 unfolding message_of
