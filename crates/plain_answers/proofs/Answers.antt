@@ -14,7 +14,7 @@ use Rattle.rules.specs.Messages.{outgoing}
 use Rattle.rules.specs.Words.{State}
 use Rattle.laws.proofs.Tests.{by_bool}
 use Rattle.laws.proofs.Bytes as bytes
-use Rattle.fields.specs.Places.{number, Bytes}
+use Rattle.fields.specs.Places.{Bytes}
 use Rattle.lent_list.specs.Lists.{Input, kind_of, bytes_of, input_of, has_length, has_form}
 use Rattle.settings.specs.Made.{size_from}
 use Rattle.slots.specs.Slots.{is_input, is_kept}

@@ -28,5 +28,5 @@ returns c =
     let pre = c.requires in let args = c.args in
     let leads-at = c.leads_at in let if1 = c.if-not-leads_at in
     let own-new-view = c.own_new_view-x in
-    c.fits2.ensures ∙ plan_room (statement_of own-new-view.result none) (state_of c.args.store.now) (formed_parts c.requires.0) c.planned.result c.planned.ensures
+    c.fits.ensures ∙ plan_room (statement_of own-new-view.result none) (state_of c.args.store.now) (formed_parts c.requires.0) c.planned.result c.planned.ensures
     ∙ fits_next _ own-new-view.result (sym (leads-at.ensures ∙ loaded_next pre.0 args.station pre.1) ∙ if1.false) own-new-view.ensures.0

@@ -31,12 +31,12 @@ slice_bounds-enter-end c =
 
 pub enter-requires : goal.enter-requires
 enter-requires c =
-    let shared-slice-known = c.shared_slice_known-1 in
     let barred = c.barred-number in
     let if1 = c.if-number-ne0 in
     let fold = c.fold-folded in
     let if2 = c.if-folded in let turn_by = c.turn_by-t in
     let a = c.args in
+    let m =
     may_enter
     a.list.now
     a.out.now
@@ -49,8 +49,9 @@ enter-requires c =
     (let n : length turn_by.new.out ≡ least_out_small = turn_by.auto.out ∙ length-replicate {A = ℕ} least_out_small 0 in n)
     (sym c.requires.kind)
     (sym c.requires.bytes)
-    (plain_bytes a.input.now shared-slice-known.given)
-    (handed a.kind a.input.now c.requires.named)
+    (plain_bytes a.input.now c.type_inv.input)
+    (handed a.kind a.input.now c.requires.named) in
+    record { list_value = m.0; number_bound = m.1 }
 
 pub returns-then-folded : goal.returns-then-folded
 returns-then-folded c =

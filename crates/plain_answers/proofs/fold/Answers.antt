@@ -6,8 +6,6 @@ use lib.ListN.{length-replicate}
 use Rattle.rules.specs.Limits.{least_out_small}
 use Rattle.lent_list.proofs.Lengths.{lengths, slots_counted}
 use Rattle.plain_answers.proofs.Folding.{good_head, fresh_is_whole, fold_starts, fold_ends, fold_skips, fold_next, fold_stops, held_input, name_long}
-use mathlib.Core.Path.{ap}
-use mathlib.Core.Bool.{not}
 use Rattle.plain_answers.proofs.fold.Goals as goal
 
 pub settings_in-requires : goal.settings_in-requires

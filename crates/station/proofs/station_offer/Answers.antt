@@ -17,32 +17,34 @@ refuse-requires-then-number-ne0 c =
 pub returns-then-number-ne0 : goal.returns-then-number-ne0
 returns-then-number-ne0 c =
     let a = c.args in
-    let if1 = c.if-name-ne32 in
-    barred_offer a.name.now a.store.now a.out.now if1.false c.type_inv.store c.barred-number.ensures c.if-number-ne0.true c.refuse-then-number-ne0.ensures
+    let slice-known = c.slice_known-1 in let if1 = c.if-name-ne32 in
+    barred_offer a.name.now a.store.now a.out.now if1.false slice-known.given c.barred-number.ensures c.if-number-ne0.true c.refuse-then-number-ne0.ensures
 
 pub offered-requires : goal.offered-requires
 offered-requires c =
     let a = c.args in
-    let if1 = c.if-name-ne32 in
+    let slice-known = c.slice_known-1 in let if1 = c.if-name-ne32 in
     let barred = c.barred-number in
-    offer_formed a.name.now a.store.now a.out.now if1.false c.type_inv.store barred.ensures c.if-number-ne0.false
+    offer_formed a.name.now a.store.now a.out.now if1.false slice-known.given barred.ensures c.if-number-ne0.false
 
 pub returns-in_default : goal.returns-in_default
 returns-in_default c =
     let a = c.args in
+    let slice-known = c.slice_known-1 in
     let if1 = c.if-name-ne32 in
     let barred = c.barred-number in let if2 = c.if-number-ne0 in
     let get-name = c.get_name in let offered = c.offered in
-    refused_offer a.name.now a.store.now a.out.now if1.false c.type_inv.store barred.ensures if2.false get-name.ensures.0 offered.result offered.ensures c.in_default.is c.refuse-in_default.ensures
+    refused_offer a.name.now a.store.now a.out.now if1.false slice-known.given barred.ensures if2.false get-name.ensures.0 offered.result offered.ensures c.in_default.is c.refuse-in_default.ensures
 
 pub stated-requires : goal.stated-requires
 stated-requires c =
     let a = c.args in
+    let slice-known = c.slice_known-1 in
     let if1 = c.if-name-ne32 in
     let barred = c.barred-number in
     let if2 = c.if-number-ne0 in let get-name = c.get_name in
     let offered = c.offered in let l = if1.false in
-    let k = c.type_inv.store in
+    let k = slice-known.given in
     let e = barred.ensures in
     let z = if2.false in
     let n = get-name.ensures in
@@ -51,10 +53,11 @@ stated-requires c =
 pub returns : goal.returns
 returns c =
     let a = c.args in
+    let slice-known = c.slice_known-1 in
     let if1 = c.if-name-ne32 in
     let barred = c.barred-number in
     let if2 = c.if-number-ne0 in
     let get-name = c.get_name in
     let offered = c.offered in
     let stated = c.stated in
-    taken_offer a.name.now a.store.now a.out.now if1.false c.type_inv.store barred.ensures if2.false get-name.ensures.0 offered.result offered.ensures c.in-Taken.is stated.ensures
+    taken_offer a.name.now a.store.now a.out.now if1.false slice-known.given barred.ensures if2.false get-name.ensures.0 offered.result offered.ensures c.in-Taken.is stated.ensures

@@ -19,50 +19,57 @@ returns-then-number-ne0 c =
 pub returns-in_default : goal.returns-in_default
 returns-in_default c =
     let a = c.args in
+    let slice-known = c.slice_known-1 in
     let barred = c.barred-number in let if1 = c.if-number-ne0 in
     let read-message = c.read_message in
-    unreadable_step a.message.now a.store.now a.out.now c.type_inv.store barred.ensures if1.false read-message.ensures c.in_default.is c.refuse-in_default.ensures
+    unreadable_step a.message.now a.store.now a.out.now slice-known.given barred.ensures if1.false read-message.ensures c.in_default.is c.refuse-in_default.ensures
 
 pub load-station-requires : goal.load-station-requires
 load-station-requires c =
     let a = c.args in
+    let slice-known = c.slice_known-1 in
     let barred = c.barred-number in let if1 = c.if-number-ne0 in
-    step_long a.message.now a.store.now a.out.now c.type_inv.store barred.ensures if1.false
+    step_long a.message.now a.store.now a.out.now slice-known.given barred.ensures if1.false
 
 pub returns-then-not-message_allowed : goal.returns-then-not-message_allowed
 returns-then-not-message_allowed c =
     let a = c.args in
+    let slice-known = c.slice_known-1 in
     let barred = c.barred-number in
     let if1 = c.if-number-ne0 in
     let read-message = c.read_message in let load = c.load-station in
-    forbidden_step a.message.now a.store.now a.out.now c.type_inv.store barred.ensures if1.false read-message.ensures c.in-Readable.is load.result load.ensures c.message_allowed.ensures (ap not c.if-not-message_allowed.true) c.refuse-then-not-message_allowed.ensures
+    forbidden_step a.message.now a.store.now a.out.now slice-known.given barred.ensures if1.false read-message.ensures c.in-Readable.is load.result load.ensures c.message_allowed.ensures (ap not c.if-not-message_allowed.true) c.refuse-then-not-message_allowed.ensures
 
 pub returns-then-is_ahead : goal.returns-then-is_ahead
 returns-then-is_ahead c =
     let a = c.args in
+    let slice-known = c.slice_known-1 in
     let barred = c.barred-number in
     let if1 = c.if-number-ne0 in
     let read-message = c.read_message in
     let load = c.load-station in
     let message-allowed = c.message_allowed in let if2 = c.if-not-message_allowed in
-    ahead_step a.message.now a.store.now a.out.now c.type_inv.store barred.ensures if1.false read-message.ensures c.in-Readable.is load.result load.ensures message-allowed.ensures (ap not if2.false) c.is_ahead.ensures c.if-is_ahead.true c.refuse-then-is_ahead.ensures
+    ahead_step a.message.now a.store.now a.out.now slice-known.given barred.ensures if1.false read-message.ensures c.in-Readable.is load.result load.ensures message-allowed.ensures (ap not if2.false) c.is_ahead.ensures c.if-is_ahead.true c.refuse-then-is_ahead.ensures
 
 pub handled-requires : goal.handled-requires
 handled-requires c =
     let a = c.args in
+    let slice-known = c.slice_known-1 in
+    let shared-slice-known = c.shared_slice_known-1 in
     let barred = c.barred-number in
     let if1 = c.if-number-ne0 in
     let read-message = c.read_message in
     let load = c.load-station in
     let message-allowed = c.message_allowed in let if2 = c.if-not-message_allowed in
-    let k = c.type_inv.store in
+    let k = slice-known.given in
     let e = barred.ensures in
     let z = if1.false in
-    (step_formed a.message.now a.store.now a.out.now k e z, read_may a.message.now a.store.now a.out.now k e z read-message.ensures c.in-Readable.is load.result load.ensures message-allowed.ensures (ap not if2.false) c.type_inv.message, step_out a.message.now a.store.now a.out.now k e z)
+    (step_formed a.message.now a.store.now a.out.now k e z, read_may a.message.now a.store.now a.out.now k e z read-message.ensures c.in-Readable.is load.result load.ensures message-allowed.ensures (ap not if2.false) shared-slice-known.given, step_out a.message.now a.store.now a.out.now k e z)
 
 pub returns : goal.returns
 returns c =
     let a = c.args in
+    let slice-known = c.slice_known-1 in
     let barred = c.barred-number in
     let if1 = c.if-number-ne0 in
     let read-message = c.read_message in
@@ -71,4 +78,4 @@ returns c =
     let if2 = c.if-not-message_allowed in
     let is-ahead = c.is_ahead in let if3 = c.if-is_ahead in
     let handled = c.handled in
-    handled_step a.message.now a.store.now a.out.now c.type_inv.store barred.ensures if1.false read-message.ensures c.in-Readable.is load.result load.ensures message-allowed.ensures (ap not if2.false) is-ahead.ensures if3.false handled.ensures
+    handled_step a.message.now a.store.now a.out.now slice-known.given barred.ensures if1.false read-message.ensures c.in-Readable.is load.result load.ensures message-allowed.ensures (ap not if2.false) is-ahead.ensures if3.false handled.ensures

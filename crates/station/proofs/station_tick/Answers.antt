@@ -23,6 +23,7 @@ ticked-requires c =
 pub returns : goal.returns
 returns c =
     let args = c.args in
+    let slice-known = c.slice_known-1 in
     let checked = c.checked-number in
     let if1 = c.if-number-ne0 in let ticked = c.ticked in
-    tick_gives args.store.now args.out.now checked.ensures.is c.type_inv.store if1.false ticked.ensures
+    tick_gives args.store.now args.out.now checked.ensures.is slice-known.given if1.false ticked.ensures
