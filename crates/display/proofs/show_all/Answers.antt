@@ -1,16 +1,12 @@
 -- Answers to the goals of `display::show_all`. Assumes nothing.
 use Prim.Native.Nat.{ℕ}
-use mathlib.Core.Path.{◌≡◌, ap, ◌∙◌}
-use mathlib.Core.List.{[], ◌∷◌}
+use mathlib.Core.Path.{◌≡◌, refl, ap, ◌∙◌}
 use native.Mathlib.Omega.{arith}
-use denote.Enum.Declared.{tag_of}
-use types.Run.{OneOf, miss}
 use Rattle.rules.specs.Words.{in_view}
 use Rattle.store.specs.Meaning.{course_of}
 use Rattle.store.specs.Layout.{size_in}
 use Rattle.store.specs.declared.Phase.{Phase}
 use Rattle.store.specs.declared.Phase.TheVariants.{InView, Waiting, Stopped}
-use Rattle.store.specs.contracts.Phase.{the_type}
 use Rattle.store.proofs.Forms.{form_long, form_statements}
 use Rattle.store.proofs.Loaded.{loaded_phase, loaded_statements}
 use Rattle.outgoing.proofs.Writing.{says_length}
@@ -19,8 +15,8 @@ use Rattle.display.proofs.Bytes.{display_fits, says_nothing, far_none, far_more,
 use Rattle.display.proofs.show_all.Goals as goal
 
 -- any other phase is no view
-outside : (p : Phase) → OneOf (1 ∷ 2 ∷ []) (tag_of the_type p) → course_of p ≡ in_view → ⊥
-outside InView k e = miss (1 ∷ 2 ∷ []) 0 tt k
+outside : (p : Phase) → (p ≡ InView → ⊥) → course_of p ≡ in_view → ⊥
+outside InView k e = k refl
 outside (Waiting q) k e = let z : ◌≡◌ {A = ℕ} 0 1 = cc in omega arith
 outside (Stopped w) k e = let z : ◌≡◌ {A = ℕ} 0 1 = cc in omega arith
 
@@ -31,7 +27,7 @@ load-station-requires c =
 pub returns-in_default : goal.returns-in_default
 returns-in_default c =
     let load = c.load-station in
-    says_nothing _ _ _ (not_in_shows_none _ (λ e. outside load.result.phase c.in_default.in_default-own.keys2 (loaded_phase _ _ load.ensures ∙ e)))
+    says_nothing _ _ _ (not_in_shows_none _ (λ e. outside load.result.phase c.in_default.not-InView (loaded_phase _ _ load.ensures ∙ e)))
 
 pub loop-i-init : goal.loop-i-init
 loop-i-init c =
