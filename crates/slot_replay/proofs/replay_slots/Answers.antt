@@ -74,37 +74,23 @@ pub slice_bounds-hand-end : goal.slice_bounds-hand-end
 slice_bounds-hand-end c =
     omega (arith, whole_within c.judge_at.ensures.within c.in-Whole.is)
 
--- the slot was judged, and its input lies in it
-slot : (c : goal.After-is_taken invariant-loop decreases-loop)
-    → let s = slot_at c.args.journal.now c.loop-place.place in
-    slot_of s c.judge_at.result ≡ judged s
-slot c = c.judge_at.ensures.is
-
-input : (c : goal.After-is_taken invariant-loop decreases-loop)
-    → let j = c.args.journal.now in
-    let p = c.loop-place.place in
-    let m = c.in-Whole.length in
-    take m (drop input_place (slot_at j p)) ≡ take ((p * 128 + 11 + m) - (p * 128 + 11)) (drop (p * slot_length + input_place) j)
-input c =
-    let j = c.args.journal.now in
-    let p = c.loop-place.place in
-    let judge-at = c.judge_at in let m = c.in-Whole.length in
-    input_part j p m ((p * 128 + 11 + m) - (p * 128 + 11)) (whole_within judge-at.ensures.within c.in-Whole.is) (omega arith)
-
 pub loop-place-preserved : goal.loop-place-preserved
 loop-place-preserved c =
     let a = c.args in
     let l = c.loop-place in
     let loop-test = c.loop-place-test in
     let if1 = c.if-sequence-records in let hand = c.hand-answer in
-    let j = a.journal.now in (
+    let j = a.journal.now in
+    let p = c.loop-place.place in
+    let m = c.in-Whole.length in
+    let input : take m (drop input_place (slot_at j p)) ≡ take ((p * 128 + 11 + m) - (p * 128 + 11)) (drop (p * slot_length + input_place) j) = input_part j p m ((p * 128 + 11 + m) - (p * 128 + 11)) (whole_within c.judge_at.ensures.within c.in-Whole.is) (omega arith) in (
       omega arith,
       omega arith,
       omega arith,
       omega (arith, hand.auto.store, l.invariant.3),
       omega (arith, hand.auto.out, l.invariant.4),
       l.invariant.5,
-      at_taken j _ l.records l.place (length j / 128) l.torn l.store l.out l.report l.invariant.6 loop-test.true _ (slot c) c.in-Whole.is hand.ensures if1.false (input c) c.is_taken.ensures c.if-is_taken.true,
+      at_taken j _ l.records l.place (length j / 128) l.torn l.store l.out l.report l.invariant.6 loop-test.true _ c.judge_at.ensures.is c.in-Whole.is hand.ensures if1.false input c.is_taken.ensures c.if-is_taken.true,
     )
 
 pub returns-in-Whole : goal.returns-in-Whole
@@ -114,8 +100,11 @@ returns-in-Whole c =
     let loop-test = c.loop-place-test in
     let if1 = c.if-sequence-records in
     let hand = c.hand-answer in let j = a.journal.now in
+    let p = c.loop-place.place in
+    let m = c.in-Whole.length in
+    let input : take m (drop input_place (slot_at j p)) ≡ take ((p * 128 + 11 + m) - (p * 128 + 11)) (drop (p * slot_length + input_place) j) = input_part j p m ((p * 128 + 11 + m) - (p * 128 + 11)) (whole_within c.judge_at.ensures.within c.in-Whole.is) (omega arith) in
     record {
-      is = at_untaken j _ l.records l.place (length j / 128) l.torn l.store l.out l.report l.invariant.6 loop-test.true _ (slot c) c.in-Whole.is hand.ensures if1.false (input c) c.is_taken.ensures c.if-is_taken.false;
+      is = at_untaken j _ l.records l.place (length j / 128) l.torn l.store l.out l.report l.invariant.6 loop-test.true _ c.judge_at.ensures.is c.in-Whole.is hand.ensures if1.false input c.is_taken.ensures c.if-is_taken.false;
       bounded = record { records = l.invariant.1; torn = l.invariant.2; place = omega (arith, slot_count_lem j, l.invariant.0) };
     }
 
