@@ -14,7 +14,7 @@ refuse-requires c =
 pub returns-then-number-ne0 : goal.returns-then-number-ne0
 returns-then-number-ne0 c =
     let a = c.args in
-    barred_step a.message.now a.store.now a.out.now c.type_inv.store c.barred-number.ensures c.if-number-ne0.true c.refuse.ensures
+    barred_step a.message.now a.store.now a.out.now c.slice_known-1.given c.barred-number.ensures c.if-number-ne0.true c.refuse.ensures
 
 pub returns-in_default : goal.returns-in_default
 returns-in_default c =

@@ -17,7 +17,7 @@ ticked-requires c =
     let a = c.args in
     let checks = c.checked-number.ensures in
     let formed = c.if-number-ne0.false in
-    let may = tick_may a.store.now a.out.now checks.is c.type_inv.store formed in
+    let may = tick_may a.store.now a.out.now checks.is c.slice_known-1.given formed in
     (may.0, may.1, checks.told formed)
 
 pub returns : goal.returns
