@@ -8,37 +8,33 @@ use Rattle.replay.proofs.journal_replay.Goals as goal
 pub well_formed-requires : goal.well_formed-requires
 well_formed-requires c =
     let args = c.args in
-    let p = lengths_parts args.journal.now args.store.now args.out.now args.report.now c.has_lengths.ensures c.if-has_lengths.taken in p.0
+    let p = lengths_parts args.journal.now args.store.now args.out.now args.report.now c.has_lengths.ensures c.if-has_lengths.true in p.0
 
 pub replay_slots-end-requires : goal.replay_slots-end-requires
 replay_slots-end-requires c =
     let args = c.args in
-    let has-lengths = c.has_lengths in let if1 = c.if-has_lengths in
-    let p = lengths_parts args.journal.now args.store.now args.out.now args.report.now has-lengths.ensures if1.taken in (p.1, p.2)
+    let has-lengths = c.has_lengths in
+    let p = lengths_parts args.journal.now args.store.now args.out.now args.report.now has-lengths.ensures c.if-has_lengths.true in (p.1, p.2)
 
 pub write_head-requires : goal.write_head-requires
 write_head-requires c =
     let args = c.args in
     let has-lengths = c.has_lengths in
-    let if1 = c.if-has_lengths in
     let replay-slots = c.replay_slots-end in
-    let p = lengths_parts args.journal.now args.store.now args.out.now args.report.now has-lengths.ensures if1.taken in omega (arith, replay-slots.kept.1.1.1.0, p.2)
+    let p = lengths_parts args.journal.now args.store.now args.out.now args.report.now has-lengths.ensures c.if-has_lengths.true in omega (arith, replay-slots.auto.report, p.2)
 
 pub overflow_add-result : goal.overflow_add-result
 overflow_add-result c =
     let args = c.args in
     let has-lengths = c.has_lengths in
-    let if1 = c.if-has_lengths in
     let replay-slots = c.replay_slots-end in
-    let p = lengths_parts args.journal.now args.store.now args.out.now args.report.now has-lengths.ensures if1.taken in omega (arith, c.refuse.ensures, replay-slots.ensures.bounded.place, p.1)
+    let p = lengths_parts args.journal.now args.store.now args.out.now args.report.now has-lengths.ensures c.if-has_lengths.true in omega (arith, c.refuse.ensures, replay-slots.ensures.bounded.place, p.1)
 
 pub returns-then-end : goal.returns-then-end
 returns-then-end c =
     let args = c.args in
     let has-lengths = c.has_lengths in
-    let if1 = c.if-has_lengths in
-    let well-formed = c.well_formed in
-    let if2 = c.if-well_formed in
+    let well-formed = c.well_formed-then-has_lengths in
     let replay-slots = c.replay_slots-end in
     let write-head = c.write_head in
     ends_stopped
@@ -47,32 +43,30 @@ returns-then-end c =
     args.out.now
     args.report.now
     has-lengths.ensures
-    if1.taken
+    c.if-has_lengths.true
     well-formed.ensures
-    if2.taken
+    c.if-well_formed.true
     replay-slots.ensures
     write-head.ensures
-    c.if-end.taken
+    c.if-end.true
     (ap (λ (x : ℕ). x + c.replay_slots-end.result.place) c.refuse.ensures)
 
 pub returns-then-well_formed : goal.returns-then-well_formed
 returns-then-well_formed c =
     let args = c.args in
     let has-lengths = c.has_lengths in
-    let if1 = c.if-has_lengths in
-    let well-formed = c.well_formed in
-    let if2 = c.if-well_formed in
+    let well-formed = c.well_formed-then-has_lengths in
     let replay-slots = c.replay_slots-end in
     let write-head = c.write_head in
-    ends_well args.journal.now args.store.now args.out.now args.report.now has-lengths.ensures if1.taken well-formed.ensures if2.taken replay-slots.ensures write-head.ensures c.if-end.left refl
+    ends_well args.journal.now args.store.now args.out.now args.report.now has-lengths.ensures c.if-has_lengths.true well-formed.ensures c.if-well_formed.true replay-slots.ensures write-head.ensures c.if-end.false refl
 
 pub returns-then-has_lengths : goal.returns-then-has_lengths
 returns-then-has_lengths c =
     let args = c.args in
-    let has-lengths = c.has_lengths in let if1 = c.if-has_lengths in
-    no_form args.journal.now args.store.now args.out.now args.report.now has-lengths.ensures if1.taken c.well_formed.ensures c.if-well_formed.left c.refuse-then-has_lengths.ensures
+    let has-lengths = c.has_lengths in
+    no_form args.journal.now args.store.now args.out.now args.report.now has-lengths.ensures c.if-has_lengths.true c.well_formed-then-has_lengths.ensures c.if-well_formed.false c.refuse-then-has_lengths.ensures
 
 pub returns : goal.returns
 returns c =
     let args = c.args in
-    no_lengths args.journal.now args.store.now args.out.now args.report.now c.has_lengths.ensures c.if-has_lengths.left c.refuse-2.ensures
+    no_lengths args.journal.now args.store.now args.out.now args.report.now c.has_lengths.ensures c.if-has_lengths.false c.refuse-2.ensures
