@@ -60,6 +60,21 @@ pub record Turn (b : List ℕ) (p : Statement → Bool) (count i len : ℕ) (gai
   pub walked : WalkedFrom b table (i - 1) left
   pub whole : length table ≡ most_statements_large
 
+-- what was walked makes a turn of the course
+pub turn_of : {b : List ℕ} {p : Statement → Bool} {count i len height left end own : ℕ} {gained chain table : List ℕ} → Course b p count i len gained chain height left → 0 < i → p (statement_at b (i - 1)) ≡ true → own ≡ (statement_at b (i - 1)).height → own ≤ most_statements_large → WalkedFrom b table (i - 1) end → length table ≡ length chain → Turn b p count i len gained table end own
+turn_of c pos due tall high walked kept =
+    record {
+      up = c.up;
+      log = c.log;
+      long = c.long;
+      pos = pos;
+      due = due;
+      tall = tall;
+      high = high;
+      walked = walked;
+      whole = kept ∙ c.chained.long;
+    }
+
 -- a propose that is due is no new-view
 pub ripe_propose : (view wait now : ℕ) (x : Statement) → is_ripe view wait now x ≡ true → x.is_new_view ≡ false
 unfolding is_ripe

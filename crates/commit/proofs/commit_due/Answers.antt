@@ -1,12 +1,9 @@
 -- Answers to the goals of `commit::commit_due`. Assumes nothing.
 use Prim.Native.Nat.{◌-◌, ◌<◌}
-use mathlib.Core.Path.{◌≡◌, sym, ◌∙◌}
-use mathlib.Core.Bool.{true}
+use mathlib.Core.Path.{sym, ◌∙◌}
 use native.Mathlib.Omega.{arith}
-use Rattle.store.specs.Decode.{statement_at}
 use Rattle.store.proofs.Forms.{form_long, form_statements}
-use Rattle.glance.specs.Votes.{is_ripe}
-use Rattle.commit.proofs.Course.{Turn, ripe_propose, course_start, course_end, course_not, course_told, course_high, course_settled, turn_broken, turn_whole, turn_grown, turn_differs}
+use Rattle.commit.proofs.Course.{turn_of, ripe_propose, course_start, course_end, course_not, course_told, course_high, course_settled, turn_broken, turn_whole, turn_grown, turn_differs}
 use Rattle.commit.proofs.commit_due.Goals as goal
 
 pub loop-i-init : goal.loop-i-init
@@ -99,40 +96,14 @@ loop-i-smaller-then-left-ne0 c =
 
 pub loop-i-preserved-then-left-ne0 : goal.loop-i-preserved-then-left-ne0
 loop-i-preserved-then-left-ne0 c =
-    let a = c.args in
-    let l = c.loop-i in
     let begun = c.requires.0 in
-    let course = l.invariant in
-    let turn : Turn a.store.now (is_ripe a.view a.wait a.clock) a.count l.i l.len l.gained c.walk-walked.new.chain c.walk-walked.result.left c.height_at-own.result = record {
-      up = course.up;
-      log = course.log;
-      long = course.long;
-      pos = omega (arith, c.if-i-settled.false);
-      due = sym c.is_due.ensures ∙ c.if-not-is_due.false;
-      tall = c.height_at-own.ensures;
-      high = omega (arith, c.if-count-own.false, begun.all, form_statements _ begun.form);
-      walked = c.walk-walked.ensures.from;
-      whole = omega (arith, c.walk-walked.auto.chain, course.chained.long);
-    } in
+    let turn = turn_of c.loop-i.invariant (omega arith) (sym c.is_due.ensures ∙ c.if-not-is_due.false) c.height_at-own.ensures (omega (arith, c.if-count-own.false, begun.all, form_statements _ begun.form)) c.walk-walked.ensures.from c.walk-walked.auto.chain in
     turn_broken turn c.if-left-ne0.true
 
 pub join-requires : goal.join-requires
 join-requires c =
-    let a = c.args in
-    let l = c.loop-i in
     let begun = c.requires.0 in
-    let course = l.invariant in
-    let turn : Turn a.store.now (is_ripe a.view a.wait a.clock) a.count l.i l.len l.gained c.walk-walked.new.chain c.walk-walked.result.left c.height_at-own.result = record {
-      up = course.up;
-      log = course.log;
-      long = course.long;
-      pos = omega (arith, c.if-i-settled.false);
-      due = sym c.is_due.ensures ∙ c.if-not-is_due.false;
-      tall = c.height_at-own.ensures;
-      high = omega (arith, c.if-count-own.false, begun.all, form_statements _ begun.form);
-      walked = c.walk-walked.ensures.from;
-      whole = omega (arith, c.walk-walked.auto.chain, course.chained.long);
-    } in
+    let turn = turn_of c.loop-i.invariant (omega arith) (sym c.is_due.ensures ∙ c.if-not-is_due.false) c.height_at-own.ensures (omega (arith, c.if-count-own.false, begun.all, form_statements _ begun.form)) c.walk-walked.ensures.from c.walk-walked.auto.chain in
     let pre = c.requires in
     let walk = c.walk-walked in
     (turn_whole turn c.if-left-ne0.false pre.0.form pre.1, walk.ensures.lowest)
@@ -143,21 +114,8 @@ loop-i-smaller c =
 
 pub loop-i-preserved : goal.loop-i-preserved
 loop-i-preserved c =
-    let a = c.args in
-    let l = c.loop-i in
     let begun = c.requires.0 in
-    let course = l.invariant in
-    let turn : Turn a.store.now (is_ripe a.view a.wait a.clock) a.count l.i l.len l.gained c.walk-walked.new.chain c.walk-walked.result.left c.height_at-own.result = record {
-      up = course.up;
-      log = course.log;
-      long = course.long;
-      pos = omega (arith, c.if-i-settled.false);
-      due = sym c.is_due.ensures ∙ c.if-not-is_due.false;
-      tall = c.height_at-own.ensures;
-      high = omega (arith, c.if-count-own.false, begun.all, form_statements _ begun.form);
-      walked = c.walk-walked.ensures.from;
-      whole = omega (arith, c.walk-walked.auto.chain, course.chained.long);
-    } in
+    let turn = turn_of c.loop-i.invariant (omega arith) (sym c.is_due.ensures ∙ c.if-not-is_due.false) c.height_at-own.ensures (omega (arith, c.if-count-own.false, begun.all, form_statements _ begun.form)) c.walk-walked.ensures.from c.walk-walked.auto.chain in
     let loop = c.loop-i in
     let if6 = c.if-left-ne0 in
     let join = c.join in
@@ -192,21 +150,8 @@ shape_of-chain-in_default c =
 
 pub returns-in_default : goal.returns-in_default
 returns-in_default c =
-    let a = c.args in
-    let l = c.loop-i in
     let begun = c.requires.0 in
-    let course = l.invariant in
-    let turn : Turn a.store.now (is_ripe a.view a.wait a.clock) a.count l.i l.len l.gained c.walk-walked.new.chain c.walk-walked.result.left c.height_at-own.result = record {
-      up = course.up;
-      log = course.log;
-      long = course.long;
-      pos = omega (arith, c.if-i-settled.false);
-      due = sym c.is_due.ensures ∙ c.if-not-is_due.false;
-      tall = c.height_at-own.ensures;
-      high = omega (arith, c.if-count-own.false, begun.all, form_statements _ begun.form);
-      walked = c.walk-walked.ensures.from;
-      whole = omega (arith, c.walk-walked.auto.chain, course.chained.long);
-    } in
+    let turn = turn_of c.loop-i.invariant (omega arith) (sym c.is_due.ensures ∙ c.if-not-is_due.false) c.height_at-own.ensures (omega (arith, c.if-count-own.false, begun.all, form_statements _ begun.form)) c.walk-walked.ensures.from c.walk-walked.auto.chain in
     let pre = c.requires in
     let if6 = c.if-left-ne0 in
     let join = c.join in
