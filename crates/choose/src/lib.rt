@@ -3,7 +3,7 @@
 
 ghost use Rattle.std.specs.Prelude.{◌≡◌};
 ghost use Rattle.settings.specs.Made.{settings_of};
-ghost use Rattle.choose.specs.Choose.{report, taken as takenIn, taken_of, chosen};
+ghost use Rattle.choose.specs.Choose.{report, taken as taken_in, taken_of, chosen};
 ghost use Rattle.choose.specs.Meaning.{number_of, Ranks};
 
 use settings::{Made, Settings};
@@ -47,7 +47,7 @@ fn rank_of(settings: Settings, message: &[u8]) -> Report
 
 // Whose part is taken: the one with the higher rank, the first of two with equal rank, the only one, or neither.
 fn decide(settings: Settings, first: &[u8], second: &[u8]) -> Choice
-    ensures { number_of result ≡ takenIn (report (settings_of settings) first.now) (report (settings_of settings) second.now) }
+    ensures { number_of result ≡ taken_in (report (settings_of settings) first.now) (report (settings_of settings) second.now) }
 {
     match rank_of(settings, first) {
         Report::Certified { view, height } => match rank_of(settings, second) {
