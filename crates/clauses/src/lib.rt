@@ -66,10 +66,11 @@ pub fn leads(settings: Settings, view: u64, author: u64) -> bool
 pub fn link_below(link: Name, view: u64) -> bool
     ensures { result ≡ ltb (name_of link) view }
 {
-    link.less(Name {
+    let end = Name {
         first: 0,
         second: 0,
         third: 0,
         fourth: view,
-    })
+    };
+    link < end
 }

@@ -1,16 +1,24 @@
 -- The laws of a name's number, word by word. Assumes nothing.
 use Prim.Native.Nat.{ℕ, ◌+◌, ◌*◌, ◌^◌, ◌<◌}
-use mathlib.Core.Path.{◌≡◌, sym, ap, ap₂, ◌∙◌}
+use mathlib.Core.Path.{◌≡◌, refl, sym, ap, ap₂, ◌∙◌}
 use mathlib.Core.List.{List}
+use mathlib.Core.Bool.{Bool, true, false, ◌&&◌}
+use native.Mathlib.Omega.{arith}
 use lib.Dec.{eqb, ltb}
-use lib.Bits.{bit_or, bit_xor}
+use Rattle.std.specs.Prelude.{◌==◌}
+use borrow.Author.Tests.{eqb-true, eqb-false, eq-eqb, ne_eqb}
+use Rattle.std.specs.declared.cmp.Ordering.{Ordering}
+use Rattle.std.specs.declared.cmp.Ordering.TheVariants.{Less, Equal, Greater}
+use Rattle.std.specs.Ordering.{is_lt, nat_cmp, ordering_then, MatchOrdering}
+use Rattle.std.specs.Cmp.{ranks, nat_cmp_is}
+use lib.Bits.{bit_or}
 use mir.Val.{Fits}
 use mir.Syntax.{w64}
 use Rattle.fields.specs.declared.Name.{Name}
 use Rattle.fields.specs.Places.{number, put}
 use Rattle.fields.specs.Names.{name_of}
 use Rattle.fields.proofs.Laws.{number_split, put_both}
-use Rattle.fields.proofs.Differ.{Same, digit_high, digit_low, digit_lt, less_high, less_low, same_digit, same_step, zero_step, same_test}
+use Rattle.fields.proofs.Differ.{Same, digit_high, digit_low, digit_lt, zero_step, same_test}
 
 -- each field of a name is a word, as `.struct_known .given` says it
 abbrev pub Words : Name → Type 0
@@ -48,6 +56,27 @@ put_words s at n k =
     let b = more a n.third in
     sym (put_both s at 24 8 b n.fourth k.1.1.1.0.fits ∙ put_both s₁ at 16 8 a n.third k.1.1.0.fits ∙ put_both s₂ at 8 8 n.first n.second k.1.0.fits)
 
+-- one word more, on both sides: equality, and order
+module _ (n m x y : ℕ) (p : x < 2 ^ 64) (q : y < 2 ^ 64) where
+  eq_more : (eqb n m && eqb x y) ≡ eqb (more n x) (more m y)
+  eq_more = go (eqb n m) (eqb x y) refl refl
+    where
+      go : (a b : Bool) → eqb n m ≡ a → eqb x y ≡ b → (a && b) ≡ eqb (more n x) (more m y)
+      go true true e f = sym (eq-eqb _ _ (ap₂ more (eqb-true _ _ e) (eqb-true _ _ f)))
+      go true false e f = sym (ne_eqb _ _ (λ g. eqb-false _ _ f (digit_low (2 ^ 64) n m x y p q g)))
+      go false b e f = sym (ne_eqb _ _ (λ g. eqb-false _ _ e (digit_high (2 ^ 64) n m x y p q g)))
+
+  cmp_more : ordering_then (nat_cmp n m) (nat_cmp x y) ≡ nat_cmp (more n x) (more m y)
+  cmp_more = nat_cmp_is _ _ _ (go (nat_cmp n m) (nat_cmp x y) (ranks n m) (ranks x y))
+    where
+      go : (r s : Ordering) → MatchOrdering r (n < m) (n ≡ m) (m < n) → MatchOrdering s (x < y) (x ≡ y) (y < x)
+          → MatchOrdering (ordering_then r s) (more n x < more m y) (more n x ≡ more m y) (more m y < more n x)
+      go Less s h k = omega arith
+      go Equal Less h k = omega arith
+      go Equal Equal h k = omega arith
+      go Equal Greater h k = omega arith
+      go Greater s h k = omega arith
+
 module _ (n m : Name) (p : Words n) (q : Words m) where
   abbrev n₂ : ℕ
   n₂ = more n.first n.second
@@ -55,57 +84,30 @@ module _ (n m : Name) (p : Words n) (q : Words m) where
   abbrev m₂ : ℕ
   m₂ = more m.first m.second
 
-  abbrev n₃ : ℕ
-  n₃ = more n₂ n.third
-
-  abbrev m₃ : ℕ
-  m₃ = more m₂ m.third
-
-  high_second : n₂ ≡ m₂ → n.first ≡ m.first
-  high_second = digit_high (2 ^ 64) n.first m.first n.second m.second p.1.0.fits q.1.0.fits
-
-  high_third : n₃ ≡ m₃ → n₂ ≡ m₂
-  high_third = digit_high (2 ^ 64) n₂ m₂ n.third m.third p.1.1.0.fits q.1.1.0.fits
-
-  high_fourth : name_of n ≡ name_of m → n₃ ≡ m₃
-  unfolding name_of
-  high_fourth = digit_high (2 ^ 64) n₃ m₃ n.fourth m.fourth p.1.1.1.0.fits q.1.1.1.0.fits
-
-  -- an or of the words' differences tells names apart
-  pub same_name : eqb (bit_or (bit_or (bit_or (bit_xor n.first m.first) (bit_xor n.second m.second)) (bit_xor n.third m.third)) (bit_xor n.fourth m.fourth)) 0
-      ≡ eqb (name_of n) (name_of m)
+  -- names are the same where their words are
+  pub same_name : (eqb n.first m.first && eqb n.second m.second && eqb n.third m.third && eqb n.fourth m.fourth) ≡ eqb (name_of n) (name_of m)
   unfolding name_of
   same_name =
-      let first = same_digit n.first m.first in
-      let second = same_step (2 ^ 64) _ n.first m.first n.second m.second p.1.0.fits q.1.0.fits first in
-      let third = same_step (2 ^ 64) _ n₂ m₂ n.third m.third p.1.1.0.fits q.1.1.0.fits second in
-      same_test _ (name_of n) (name_of m) (same_step (2 ^ 64) _ n₃ m₃ n.fourth m.fourth p.1.1.1.0.fits q.1.1.1.0.fits third)
+      ap (λ (b : Bool). b && eqb n.third m.third && eqb n.fourth m.fourth) (eq_more n.first m.first n.second m.second p.1.0.fits q.1.0.fits)
+      ∙ ap (λ (b : Bool). b && eqb n.fourth m.fourth) (eq_more n₂ m₂ n.third m.third p.1.1.0.fits q.1.1.0.fits)
+      ∙ eq_more (more n₂ n.third) (more m₂ m.third) n.fourth m.fourth p.1.1.1.0.fits q.1.1.1.0.fits
 
   -- the first words that differ decide the order
-  from_third : (n₃ ≡ m₃ → ⊥) → ltb n₃ m₃ ≡ ltb (name_of n) (name_of m)
+  pub order_name : ordering_then (ordering_then (ordering_then (nat_cmp n.first m.first) (nat_cmp n.second m.second)) (nat_cmp n.third m.third)) (nat_cmp n.fourth m.fourth) ≡ nat_cmp (name_of n) (name_of m)
   unfolding name_of
-  from_third = less_high (2 ^ 64) n₃ m₃ n.fourth m.fourth p.1.1.1.0.fits q.1.1.1.0.fits
+  order_name =
+      ap (λ (r : Ordering). ordering_then (ordering_then r (nat_cmp n.third m.third)) (nat_cmp n.fourth m.fourth)) (cmp_more n.first m.first n.second m.second p.1.0.fits q.1.0.fits)
+      ∙ ap (λ (r : Ordering). ordering_then r (nat_cmp n.fourth m.fourth)) (cmp_more n₂ m₂ n.third m.third p.1.1.0.fits q.1.1.0.fits)
+      ∙ cmp_more (more n₂ n.third) (more m₂ m.third) n.fourth m.fourth p.1.1.1.0.fits q.1.1.1.0.fits
 
-  from_second : (n₂ ≡ m₂ → ⊥) → ltb n₂ m₂ ≡ ltb (name_of n) (name_of m)
-  from_second d = less_high (2 ^ 64) n₂ m₂ n.third m.third p.1.1.0.fits q.1.1.0.fits d ∙ from_third (λ e. d (high_third e))
-
-  pub less_first : (n.first ≡ m.first → ⊥) → ltb n.first m.first ≡ ltb (name_of n) (name_of m)
-  less_first d =
-      less_high (2 ^ 64) n.first m.first n.second m.second p.1.0.fits q.1.0.fits d ∙ from_second (λ e. d (high_second e))
-
-  pub less_second : n.first ≡ m.first → (n.second ≡ m.second → ⊥) → ltb n.second m.second ≡ ltb (name_of n) (name_of m)
-  less_second a d =
-      less_low (2 ^ 64) n.first m.first n.second m.second a
-      ∙ from_second (λ e. d (digit_low (2 ^ 64) n.first m.first n.second m.second p.1.0.fits q.1.0.fits e))
-
-  pub less_third : n.first ≡ m.first → n.second ≡ m.second → (n.third ≡ m.third → ⊥) → ltb n.third m.third ≡ ltb (name_of n) (name_of m)
-  less_third a b d =
-      less_low (2 ^ 64) n₂ m₂ n.third m.third (ap₂ more a b)
-      ∙ from_third (λ e. d (digit_low (2 ^ 64) n₂ m₂ n.third m.third p.1.1.0.fits q.1.1.0.fits e))
-
-  pub less_fourth : n.first ≡ m.first → n.second ≡ m.second → n.third ≡ m.third → ltb n.fourth m.fourth ≡ ltb (name_of n) (name_of m)
-  unfolding name_of
-  less_fourth a b c = less_low (2 ^ 64) n₃ m₃ n.fourth m.fourth (ap₂ more (ap₂ more a b) c)
+-- `<` of two numbers, as their order says it
+pub is_before : (x y : ℕ) → is_lt (nat_cmp x y) ≡ ltb x y
+is_before x y = go (ltb x y) (x == y) refl refl
+  where
+    go : (a b : Bool) → ltb x y ≡ a → (x == y) ≡ b → is_lt (nat_cmp x y) ≡ a
+    go true b e f = rw (e) refl
+    go false true e f = rw (e, f) refl
+    go false false e f = rw (e, f) refl
 
 -- an or of the words tells whether a name is zero
 pub zero_name : (n : Name) → Words n → eqb (bit_or (bit_or (bit_or n.first n.second) n.third) n.fourth) 0 ≡ eqb (name_of n) 0

@@ -2,9 +2,14 @@
 // A caller shows that the place lies in the slice; all else is exact.
 #![tactic(auto)]
 
-ghost use Rattle.std.specs.Prelude.{◌≡◌, ◌+◌, ◌^◌, ◌≤◌, ◌<◌, length, eqb, ltb};
+ghost use Rattle.std.specs.Prelude.{◌≡◌, ◌+◌, ◌^◌, ◌≤◌, ◌<◌, length, eqb, nat_eq};
+ghost use Rattle.std.proofs.Common.{rules};
+ghost use Rattle.std.specs.Cmp.Rules.{comparing};
+ghost use Rattle.std.specs.Ordering.{nat_cmp, on, as_partial_cmp};
 ghost use Rattle.fields.specs.Places.{number, put as written};
 ghost use Rattle.fields.specs.Names.{name_of};
+
+use std::cmp::Ordering;
 
 // A block's name, 32 bytes as four words, the first word the highest.
 #[derive(Clone, Copy)]
@@ -34,38 +39,57 @@ impl Name {
     {
         (self.first | self.second | self.third | self.fourth) == 0
     }
+}
 
-    // Whether two names are the same.
-    pub fn same(self, other: Name) -> bool
-        ensures { result ≡ eqb (name_of self) (name_of other) }
-    {
-        let high = (self.first ^ other.first) | (self.second ^ other.second);
-        let any = high | (self.third ^ other.third) | (self.fourth ^ other.fourth);
-        any == 0
-    }
+// Names are the same where their bytes are, read as one number.
+impl PartialEq for Name {
+    ghost eq = { on name_of nat_eq };
 
-    // Whether this name comes before the other in byte order.
-    pub fn less(self, other: Name) -> bool
-        ensures { result ≡ ltb (name_of self) (name_of other) }
-    {
-        if self.first != other.first {
-            return self.first < other.first;
-        }
-        if self.second != other.second {
-            return self.second < other.second;
-        }
-        if self.third != other.third {
-            return self.third < other.third;
-        }
-        self.fourth < other.fourth
+    ghost laws = { Prim.search (comparing, rules) };
+
+    fn eq(&self, other: &Name) -> bool {
+        (self.first == other.first)
+            & (self.second == other.second)
+            & (self.third == other.third)
+            & (self.fourth == other.fourth)
     }
 }
 
-// A byte as a word, with its bound.
-fn wide(x: u8) -> u64
-    ensures { (result ≡ x) × (result < 256) }
+impl Eq for Name {
+    ghost laws = { Prim.search (comparing, rules) };
+}
+
+// The order of two names, by the first words that differ.
+fn ordered(name: Name, other: Name) -> Ordering
+    ensures { result ≡ nat_cmp (name_of name) (name_of other) }
 {
-    x as u64
+    let words = (name.first, name.second, name.third, name.fourth);
+    words.cmp(&(other.first, other.second, other.third, other.fourth))
+}
+
+// Names are ordered by their bytes, read as one number.
+impl PartialOrd for Name {
+    ghost partial_cmp = { as_partial_cmp (on name_of nat_cmp) };
+
+    ghost laws = { Prim.search (comparing, rules) };
+
+    fn partial_cmp(&self, other: &Name) -> Option<Ordering> {
+        Some(self.cmp(other))
+    }
+}
+
+impl Ord for Name {
+    ghost cmp = { on name_of nat_cmp };
+
+    ghost total = { Prim.search (comparing, rules) };
+
+    ghost matches_partial_cmp = { Prim.search (comparing, rules) };
+
+    ghost matches_eq = { Prim.search (comparing, rules) };
+
+    fn cmp(&self, other: &Name) -> Ordering {
+        ordered(*self, *other)
+    }
 }
 
 // The number of the bytes of a place, byte by byte.
@@ -74,10 +98,8 @@ fn by_bytes(s: &[u8], at: usize, width: usize) -> u64
     ensures { (result ≡ number s.now at width) × (result < 256 ^ width) }
 {
     let mut value: u64 = 0;
-    let mut k: usize = 0;
-    while k < width {
-        value = value * 256 + wide(s[at + k]);
-        k += 1;
+    for k in 0..width {
+        value = value * 256 + u64::from(s[at + k]);
     }
     value
 }
@@ -100,12 +122,10 @@ pub fn put(s: &mut [u8], at: usize, width: usize, value: u64)
     requires { at + width ≤ length s.old }
     ensures { s.new ≡ written s.old at width value }
 {
-    let mut k = width;
     let mut left = value;
-    while 0 < k {
-        k -= 1;
+    for k in (0..width).rev() {
         s[at + k] = (left % 256) as u8;
-        left = left / 256;
+        left /= 256;
     }
 }
 
@@ -143,10 +163,8 @@ pub fn all_zero(s: &[u8], at: usize, width: usize) -> bool
     ensures { result ≡ eqb (number s.now at width) 0 }
 {
     let mut any: u8 = 0;
-    let mut k: usize = 0;
-    while k < width {
-        any = any | s[at + k];
-        k += 1;
+    for k in 0..width {
+        any |= s[at + k];
     }
     any == 0
 }
@@ -156,9 +174,7 @@ pub fn clear(s: &mut [u8], at: usize, width: usize)
     requires { at + width ≤ length s.old }
     ensures { s.new ≡ written s.old at width 0 }
 {
-    let mut k = width;
-    while 0 < k {
-        k -= 1;
+    for k in (0..width).rev() {
         s[at + k] = 0;
     }
 }
@@ -169,10 +185,8 @@ pub fn same(a: &[u8], i: usize, b: &[u8], j: usize, width: usize) -> bool
     ensures { result ≡ eqb (number a.now i width) (number b.now j width) }
 {
     let mut any: u8 = 0;
-    let mut k: usize = 0;
-    while k < width {
-        any = any | (a[i + k] ^ b[j + k]);
-        k += 1;
+    for k in 0..width {
+        any |= a[i + k] ^ b[j + k];
     }
     any == 0
 }

@@ -5,17 +5,18 @@ use mathlib.Core.Option.{none}
 use borrow.Author.Tests.{ne_eqb}
 use Rattle.rules.specs.Limits.{small, large, least_delay}
 use Rattle.rules.specs.Sizes.{good_settings}
+use Rattle.settings.specs.declared.Settings.{Settings}
 use Rattle.laws.proofs.Tests.{by_bool}
 use Rattle.settings.specs.Made.{made_of, made}
 use Rattle.settings.specs.declared.Size.TheVariants.{Small, Large}
-use Rattle.settings.specs.declared.Made.{Made}
+use Rattle.std.specs.Prelude.{Option}
 use Rattle.groups.specs.Groups.{size_of_kind, stations, group}
 
-pub group_small : (n : ℕ) {r : Made} → r ≡ made n least_delay 0 Small → made_of r ≡ group 0 n
+pub group_small : (n : ℕ) {r : Option Settings} → r ≡ made n least_delay 0 Small → made_of r ≡ group 0 n
 unfolding group size_of_kind made
 group_small n e = rw e (by_bool (good_settings (stations n small)) (λ q. rw (q, group)) (λ q. rw (q, group)))
 
-pub group_large : (n : ℕ) {r : Made} → r ≡ made n least_delay 0 Large → made_of r ≡ group 4 n
+pub group_large : (n : ℕ) {r : Option Settings} → r ≡ made n least_delay 0 Large → made_of r ≡ group 4 n
 unfolding group size_of_kind made
 group_large n e = rw e (by_bool (good_settings (stations n large)) (λ q. rw (q, group)) (λ q. rw (q, group)))
 

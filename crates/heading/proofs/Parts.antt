@@ -1,8 +1,7 @@
 -- The parts of the definition that look at the header, as the code tests them. Assumes nothing.
 use Prim.Native.Nat.{ℕ}
 use mathlib.Core.Path.{◌≡◌, sym, ap, ◌∙◌}
-use mathlib.Core.Bool.{true, false, ◌&&◌, and-true}
-use native.Mathlib.Omega.{arith}
+use mathlib.Core.Bool.{true, ◌&&◌, and-true}
 use lib.Dec.{leb, ltb}
 use borrow.Author.Tests.{lt-ltb}
 use Rattle.rules.specs.Limits.{last_clock}
@@ -15,8 +14,8 @@ use Rattle.fields.specs.Names.{name_of}
 use Rattle.fields.proofs.Names.{Words, name_lt}
 use Rattle.settings.specs.Made.{settings_of, made}
 use Rattle.settings.specs.declared.Settings.{Settings}
-use Rattle.settings.specs.declared.Made.{Made}
-use Rattle.settings.specs.declared.Made.TheVariants.{Good, Bad}
+use Rattle.std.specs.Option.{is_some}
+use Rattle.std.specs.Prelude.{Option, Some, None}
 use Rattle.store.specs.Decode.{state_from}
 use Rattle.store.specs.Meaning.{course_of, header_of}
 use Rattle.store.specs.declared.Phase.{Phase}
@@ -31,14 +30,13 @@ words_name n w = lt-ltb _ _ (name_lt n w.0.fits w.1.0.fits w.1.1.0.fits w.1.1.1.
 
 -- ---- settings
 
-module _ (g : Settings) (m : Made) (e : m ≡ made g.n g.delay g.own g.size) where
-  pub made_good : (h : Settings) → m ≡ Good h → true ≡ good_settings (settings_of g)
+module _ (g : Settings) (m : Option Settings) (e : m ≡ made g.n g.delay g.own g.size) where
+  pub made_some : is_some m ≡ good_settings (settings_of g)
   unfolding made
-  made_good h q = by_bool (good_settings (settings_of g)) sym (λ p. let z : Bad ≡ Good h = sym (e ∙ rw p) ∙ q in let y : ◌≡◌ {A = ℕ} 0 1 = cc in absurd (omega arith))
-
-  pub made_bad : m ≡ Bad → false ≡ good_settings (settings_of g)
-  unfolding made
-  made_bad q = by_bool (good_settings (settings_of g)) (λ p. let z : Good (record { n = g.n; delay = g.delay; own = g.own; size = g.size }) ≡ Bad = sym (e ∙ rw p) ∙ q in let y : ◌≡◌ {A = ℕ} 0 1 = cc in absurd (omega arith)) sym
+  made_some =
+      by_bool (good_settings (settings_of g))
+      (λ p. let z : m ≡ Some (record { n = g.n; delay = g.delay; own = g.own; size = g.size }) = e ∙ rw p in ap is_some z ∙ sym p)
+      (λ p. let z : m ≡ None = e ∙ rw p in ap is_some z ∙ sym p)
 
 -- ---- clocks
 

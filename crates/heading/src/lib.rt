@@ -9,7 +9,7 @@ ghost use Rattle.settings.specs.Made.{settings_of};
 ghost use Rattle.store.specs.Meaning.{course_of};
 ghost use Rattle.heading.specs.Alone.{alone, phase_in_order};
 
-use settings::{Made, Settings};
+use settings::Settings;
 use store::{Phase, Station};
 
 // Whether the settings are in range.
@@ -17,11 +17,7 @@ fn settings_good(settings: Settings) -> bool
     ensures { result ≡ good_settings (settings_of settings) }
 {
     let size = settings.size;
-    let made = Settings::new(settings.n, settings.delay, settings.own, size);
-    match made {
-        Made::Good(_) => true,
-        Made::Bad => false,
-    }
+    Settings::new(settings.n, settings.delay, settings.own, size).is_some()
 }
 
 // Whether a waiting station quit from its entry to its clock.
@@ -41,7 +37,7 @@ fn clocks_in_order(station: Station) -> bool
 {
     let phase = station.phase;
     let waited = phase_in_order(phase, station.entry, station.clock);
-    (station.entry <= station.clock) & (station.clock as u64 <= Settings::LAST_CLOCK) & waited
+    (station.entry <= station.clock) & (u64::from(station.clock) <= Settings::LAST_CLOCK) & waited
 }
 
 // Whether the lock is a certificate of an earlier view.
@@ -51,13 +47,9 @@ fn lock_good(station: Station) -> bool
     let settings = station.settings;
     let lock = station.lock;
     let name = lock.name;
-    let block = clauses::block_allowed(lock.height as u64, name);
-    let certified = clauses::certificate_allowed(
-        settings,
-        lock.height as u64,
-        lock.view as u64,
-        lock.mask,
-    );
+    let height = u64::from(lock.height);
+    let block = clauses::block_allowed(height, name);
+    let certified = clauses::certificate_allowed(settings, height, u64::from(lock.view), lock.mask);
     (lock.view < station.view) & block & certified
 }
 
@@ -67,7 +59,7 @@ pub fn header_good(station: Station) -> bool
 {
     let settings = station.settings;
     settings_good(settings)
-        & clauses::view_allowed(settings, station.view as u64)
+        & clauses::view_allowed(settings, u64::from(station.view))
         & clocks_in_order(station)
         & lock_good(station)
 }

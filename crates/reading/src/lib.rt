@@ -10,10 +10,10 @@ ghost use Rattle.reader.specs.Places.{place_of};
 
 use fields::Name;
 use reader::Cursor;
-use wire::{Message, Read, Statement};
+use wire::{Message, Statement};
 
 // A new-view; its link is the certificate view.
-fn new_view(s: &[u8]) -> Read
+fn new_view(s: &[u8]) -> Option<Message>
     requires { 69 ≤ length s.now }
     ensures { read_of result ≡ made s.now 1 }
 {
@@ -24,7 +24,7 @@ fn new_view(s: &[u8]) -> Read
         fourth: fields::get(s, 56, 4),
     };
     let name = fields::get_name(s, 21);
-    Read::Readable(Message::Stated(Statement {
+    Some(Message::Stated(Statement {
         is_new_view: true,
         view: fields::get(s, 7, 4) as u32,
         height: fields::get(s, 14, 4) as u32,
@@ -36,13 +36,13 @@ fn new_view(s: &[u8]) -> Read
 }
 
 // A propose; its link is the parent.
-fn propose(s: &[u8]) -> Read
+fn propose(s: &[u8]) -> Option<Message>
     requires { 97 ≤ length s.now }
     ensures { read_of result ≡ made s.now 2 }
 {
     let name = fields::get_name(s, 21);
     let link = fields::get_name(s, 56);
-    Read::Readable(Message::Stated(Statement {
+    Some(Message::Stated(Statement {
         is_new_view: false,
         view: fields::get(s, 7, 4) as u32,
         height: fields::get(s, 14, 4) as u32,
@@ -54,12 +54,12 @@ fn propose(s: &[u8]) -> Read
 }
 
 // A vote.
-fn vote(s: &[u8]) -> Read
+fn vote(s: &[u8]) -> Option<Message>
     requires { 57 ≤ length s.now }
     ensures { read_of result ≡ made s.now 3 }
 {
     let name = fields::get_name(s, 21);
-    Read::Readable(Message::Vote {
+    Some(Message::Vote {
         view: fields::get(s, 7, 4) as u32,
         height: fields::get(s, 14, 4) as u32,
         name,
@@ -68,34 +68,34 @@ fn vote(s: &[u8]) -> Read
 }
 
 // A blame.
-fn blame(s: &[u8]) -> Read
+fn blame(s: &[u8]) -> Option<Message>
     requires { 15 ≤ length s.now }
     ensures { read_of result ≡ made s.now 4 }
 {
-    Read::Readable(Message::Blame {
+    Some(Message::Blame {
         view: fields::get(s, 7, 4) as u32,
         author: s[14],
     })
 }
 
 // A blame set.
-fn blame_set(s: &[u8]) -> Read
+fn blame_set(s: &[u8]) -> Option<Message>
     requires { 16 ≤ length s.now }
     ensures { read_of result ≡ made s.now 5 }
 {
-    Read::Readable(Message::BlameSet {
+    Some(Message::BlameSet {
         view: fields::get(s, 7, 4) as u32,
         mask: fields::get(s, 14, 2) as u16,
     })
 }
 
 // A status.
-fn status(s: &[u8]) -> Read
+fn status(s: &[u8]) -> Option<Message>
     requires { 58 ≤ length s.now }
     ensures { read_of result ≡ made s.now 6 }
 {
     let name = fields::get_name(s, 14);
-    Read::Readable(Message::Status {
+    Some(Message::Status {
         height: fields::get(s, 7, 4) as u32,
         name,
         cert: fields::get(s, 49, 4) as u32,
@@ -104,12 +104,12 @@ fn status(s: &[u8]) -> Read
 }
 
 // What is read where a reader has walked a message: at its end, the message of its kind; elsewhere, and of another kind, nothing.
-fn message_at(s: &[u8], cursor: Cursor) -> Read
+fn message_at(s: &[u8], cursor: Cursor) -> Option<Message>
     requires { place_of cursor ≡ walked s.now 8 }
     ensures { read_of result ≡ ended s.now (place_of cursor) }
 {
     if cursor.at != s.len() {
-        return Read::Unreadable;
+        return None;
     }
     let kind = cursor.kind;
     match kind {
@@ -119,12 +119,12 @@ fn message_at(s: &[u8], cursor: Cursor) -> Read
         4 => blame(s),
         5 => blame_set(s),
         6 => status(s),
-        _ => Read::Unreadable,
+        _ => None,
     }
 }
 
 // Reads a message: any bytes, any length.
-pub fn read_message(message: &[u8]) -> Read
+pub fn read_message(message: &[u8]) -> Option<Message>
     ensures { read_of result ≡ read message.now }
 {
     let cursor = reader::walk(message);

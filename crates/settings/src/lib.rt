@@ -21,12 +21,6 @@ pub struct Settings {
     pub size: Size,
 }
 
-#[derive(Clone, Copy)]
-pub enum Made {
-    Good(Settings),
-    Bad,
-}
-
 impl Settings {
     pub const LEAST_STATIONS: u64 = 3;
 
@@ -61,28 +55,28 @@ impl Settings {
     pub const LEAST_OUT_LARGE: usize = 131_072;
 
     // The settings, or that they are bad.
-    pub fn new(n: u64, delay: u64, own: u64, size: Size) -> Made
+    pub fn new(n: u64, delay: u64, own: u64, size: Size) -> Option<Settings>
         ensures { (result ≡ made n delay own size) × (answer_of result ≡ answered n delay own size) }
     {
         if n % 2 != 1 {
-            return Made::Bad;
+            return None;
         }
         if n < Settings::LEAST_STATIONS {
-            return Made::Bad;
+            return None;
         }
         if Settings::MOST_STATIONS < n {
-            return Made::Bad;
+            return None;
         }
         if delay < Settings::LEAST_DELAY {
-            return Made::Bad;
+            return None;
         }
         if Settings::MOST_DELAY < delay {
-            return Made::Bad;
+            return None;
         }
         if n <= own {
-            return Made::Bad;
+            return None;
         }
-        Made::Good(Settings {
+        Some(Settings {
             n,
             delay,
             own,

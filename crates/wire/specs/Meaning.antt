@@ -1,5 +1,5 @@
 -- What the code's statements, messages and answers mean in the words of the rules. Assumes nothing.
-use Rattle.std.specs.Prelude.{ℕ, ◌^◌, ◌<◌, ◌≡◌, true}
+use Rattle.std.specs.Prelude.{ℕ, ◌^◌, ◌<◌, ◌≡◌, true, Option as Maybe, Some, None}
 use Rattle.std.proofs.Math.Option.{Option, none, some}
 use Rattle.fields.specs.Names.{name_of}
 use Rattle.rules.specs.Messages as messages
@@ -9,8 +9,6 @@ use Rattle.rules.specs.Words.{message}
 use Rattle.wire.specs.declared.Statement.{Statement}
 use Rattle.wire.specs.declared.Message.{Message}
 use Rattle.wire.specs.declared.Message.TheVariants.{Stated, Vote, Blame, BlameSet, Status}
-use Rattle.wire.specs.declared.Read.{Read}
-use Rattle.wire.specs.declared.Read.TheVariants.{Readable, Unreadable}
 
 -- a statement, with the clock of its vote, if any
 unfoldable pub statement_of : Statement → Option ℕ → words.Statement
@@ -53,11 +51,11 @@ pub record Answer : Type 0 where
   pub number : ℕ
   pub message : Option messages.Message
 
-abbrev pub answer_of : Read → Answer
-answer_of (Readable m) = record { number = 0; message = some (message_of m) }
-answer_of Unreadable = record { number = 4; message = none }
+abbrev pub answer_of : Maybe Message → Answer
+answer_of (Some m) = record { number = 0; message = some (message_of m) }
+answer_of None = record { number = 4; message = none }
 
 -- the message of the answer, if any
-unfoldable pub read_of : Read → Option messages.Message
+unfoldable pub read_of : Maybe Message → Option messages.Message
 unfolding message_of
 read_of r = (answer_of r).message

@@ -40,10 +40,3 @@ pub enum Message {
         mask: u16,
     },
 }
-
-// What reading answers.
-#[derive(Clone, Copy)]
-pub enum Read {
-    Readable(Message),
-    Unreadable,
-}

@@ -39,8 +39,8 @@ impl Certificate {
 pub fn same(x: Statement, y: Statement) -> bool
     ensures { result ≡ same_statement (statement_of x none) (statement_of y none) }
 {
-    let name = x.name.same(y.name);
-    let link = x.link.same(y.link);
+    let name = x.name == y.name;
+    let link = x.link == y.link;
     (x.is_new_view == y.is_new_view)
         & (x.view == y.view)
         & (x.height == y.height)
@@ -57,10 +57,10 @@ fn against(x: Statement, y: Statement) -> bool
         return y.is_new_view | (y.height <= x.height);
     }
     if x.height == y.height {
-        return !y.is_new_view & !x.name.same(y.name);
+        return !y.is_new_view & (x.name != y.name);
     }
     let above = (x.height as u64) == (y.height as u64) + 1;
-    above & !x.link.same(y.name)
+    above & (x.link != y.name)
 }
 
 // Whether two statements conflict.
@@ -132,7 +132,7 @@ pub fn higher(a: Certificate, b: Certificate) -> bool
     if a.height != b.height {
         return b.height < a.height;
     }
-    a.name.less(b.name)
+    a.name < b.name
 }
 
 // Whether a statement is a new-view whose certificate ranks below the lock.

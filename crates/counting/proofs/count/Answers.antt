@@ -4,4 +4,4 @@ use Rattle.counting.proofs.Lows.{count_low}
 use Rattle.counting.proofs.count.Goals as goal
 
 pub returns : goal.returns
-returns c = c.widened.ensures ∙ count_low c.args.mask
+returns c = c.from.ensures ∙ count_low c.args.mask

@@ -4,4 +4,4 @@ use Rattle.heading.proofs.clocks_in_order.Goals as goal
 
 pub returns : goal.returns
 returns c =
-    rw c.phase_in_order-waited.ensures (clocks_are c.args.station)
+    rw (c.phase_in_order-waited.ensures, c.from.ensures) (clocks_are c.args.station)

@@ -6,4 +6,4 @@ use Rattle.heading.proofs.header_good.Goals as goal
 pub returns : goal.returns
 unfolding state_from header_of
 returns c =
-    rw (c.settings_good.ensures, c.view_allowed.ensures, c.clocks_in_order.ensures, c.lock_good.ensures)
+    rw (c.settings_good.ensures, c.view_allowed.ensures, c.from.ensures, c.clocks_in_order.ensures, c.lock_good.ensures)

@@ -6,4 +6,4 @@ pub returns : goal.returns
 returns c =
     let args = c.args in
     let struct_known = c.struct_known-1 in let block-allowed = c.block_allowed-block in
-    rw (block-allowed.ensures, c.certificate_allowed-certified.ensures) (lock_is args.station struct_known.given.1.1.0)
+    rw (block-allowed.ensures, c.certificate_allowed-certified.ensures, c.from-height.ensures, c.from.ensures) (lock_is args.station struct_known.given.1.1.0)

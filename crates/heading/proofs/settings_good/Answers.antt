@@ -1,11 +1,7 @@
 -- `heading::settings_good` meets its contract. Assumes nothing.
-use Rattle.heading.proofs.Parts.{made_good, made_bad}
+use mathlib.Core.Path.{◌∙◌}
+use Rattle.heading.proofs.Parts.{made_some}
 use Rattle.heading.proofs.settings_good.Goals as goal
 
-pub returns-in-Good : goal.returns-in-Good
-returns-in-Good c =
-    made_good c.args.settings _ c.new-made.ensures.0 _ c.in-Good.is
-
-pub returns-in-Bad : goal.returns-in-Bad
-returns-in-Bad c =
-    made_bad c.args.settings _ c.new-made.ensures.0 c.in-Bad.is
+pub returns : goal.returns
+returns c = c.is_some.ensures ∙ made_some c.args.settings _ c.new.ensures.0

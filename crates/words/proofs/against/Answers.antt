@@ -14,10 +14,10 @@ pub returns-then-x-y : goal.returns-then-x-y
 unfolding statement_of
 returns-then-x-y c =
     let a = c.args in
-    rw c.same.ensures (against_level (statement_of a.x none) (statement_of a.y none) c.if-x.false c.if-x-y.true)
+    rw c.ne.ensures (against_level (statement_of a.x none) (statement_of a.y none) c.if-x.false c.if-x-y.true)
 
 pub returns : goal.returns
 unfolding statement_of
 returns c =
     let a = c.args in
-    rw c.same-2.ensures (against_above (statement_of a.x none) (statement_of a.y none) c.if-x.false c.if-x-y.false)
+    rw c.ne-2.ensures (against_above (statement_of a.x none) (statement_of a.y none) c.if-x.false c.if-x-y.false)

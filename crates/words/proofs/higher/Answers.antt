@@ -1,5 +1,6 @@
 -- `words::higher` meets its contract. Assumes nothing.
 use mathlib.Core.Path.{◌∙◌}
+use Rattle.fields.proofs.Names.{is_before}
 use Rattle.words.specs.Meaning.{block_of}
 use Rattle.words.proofs.Ranks.{higher_view, higher_height, higher_name}
 use Rattle.words.proofs.higher.Goals as goal
@@ -20,4 +21,4 @@ pub returns : goal.returns
 unfolding block_of
 returns c =
     let a = c.args in
-    c.less.ensures ∙ higher_name (block_of a.a) (block_of a.b) c.if-a-b.false c.if-a-b-2.false
+    c.lt.ensures ∙ is_before _ _ ∙ higher_name (block_of a.a) (block_of a.b) c.if-a-b.false c.if-a-b-2.false

@@ -5,4 +5,4 @@ use Rattle.words.proofs.same.Goals as goal
 pub returns : goal.returns
 returns c =
     let a = c.args in
-    rw (c.same-name.ensures, c.same-link.ensures) (same_is a.x a.y)
+    rw (c.eq-name.ensures, c.eq-link.ensures) (same_is a.x a.y)
