@@ -23,8 +23,7 @@ use Rattle.store.specs.Decode.{rows, statement_at, statements, tallies, state_fr
 use Rattle.store.specs.Searches.{pick, first_from, block_at}
 use Rattle.joining.specs.Changes.{joining}
 use Rattle.records.specs.Changes.{noting}
-use Rattle.store.specs.declared.Found.{Found}
-use Rattle.store.specs.declared.Found.TheVariants.{At}
+use Rattle.std.specs.Prelude.{Option as Maybe, Some}
 use Rattle.store.proofs.Rows.{rows_all}
 use Rattle.records.proofs.Places.{alter_found}
 use Rattle.kept.specs.Said.{Sendable}
@@ -50,16 +49,16 @@ module _ {A : Type 0} (f : ℕ → A) where
 
   -- the first that is the same as one of them stands at its place
   first_at : (same : A → A → Bool) → ((x y z : A) → same x y ≡ true → same x z ≡ same y z) → (x : A) (k n j : ℕ) → distinct same (rows f k n) ≡ true → j < n
-      → same x (f (k + j)) ≡ true → first_from (same x) k (rows f k n) ≡ At (k + j)
+      → same x (f (k + j)) ≡ true → first_from (same x) k (rows f k n) ≡ Some (k + j)
   unfolding rows first_from distinct
   first_at same cong x k zero j d l e = absurd (omega arith)
-  first_at same cong x k (suc n) zero d l e = rw (ap (λ (i : ℕ). same x (f i)) (sym (add-zero k)) ∙ e) (ap At (sym (add-zero k)))
+  first_at same cong x k (suc n) zero d l e = rw (ap (λ (i : ℕ). same x (f i)) (sym (add-zero k)) ∙ e) (ap Some (sym (add-zero k)))
   first_at same cong x k (suc n) (suc j) d l e =
       let t = and_2 (not (any (same (f k)) (rows f (suc k) n))) (distinct same (rows f (suc k) n)) d in
       let z : same x (f (suc k + j)) ≡ true = ap (λ (i : ℕ). same x (f i)) (omega arith) ∙ e in
       by_bool (same x (f k))
       (λ q. no_bool (sym (any_at (same (f k)) (suc k) n j (omega arith) (sym (cong x (f k) (f (suc k + j)) q) ∙ z)) ∙ not-true _ t.0))
-      (λ q. rw q (first_at same cong x (suc k) n j t.1 (omega arith) z ∙ ap At (omega arith)))
+      (λ q. rw q (first_at same cong x (suc k) n j t.1 (omega arith) z ∙ ap Some (omega arith)))
 
 -- ---- what may be sent
 
@@ -71,7 +70,7 @@ sendable_linked g x m = (sendable_certifies g x m).view
 own_place : (x : Statement) (m i : ℕ) (us : List Tally) → first_from (of_block (own_block x 0)) i us ≡ first_from (of_block (own_block x m)) i us
 unfolding first_from same_block own_block
 own_place x m i [] = refl
-own_place x m i (u ∷ us) = ap (pick (of_block (own_block x 0) u) (At i)) (own_place x m (suc i) us)
+own_place x m i (u ∷ us) = ap (pick (of_block (own_block x 0) u) (Some i)) (own_place x m (suc i) us)
 
 -- ---- the statement at a place
 
@@ -91,12 +90,12 @@ module _ {b : List ℕ} (k : Formed b) {i : ℕ} {x : code.Statement} (t : Stand
   place_same : same_statement X (statement_at b i) ≡ true
   place_same = ap (same_statement X) (sym t.is) ∙ same_unvoted x x none (statement_at b i).voted ∙ same_self X
 
-  place_first : first_from (same_statement X) 0 (state_of b).statements ≡ At i
+  place_first : first_from (same_statement X) 0 (state_of b).statements ≡ Some i
   unfolding state_of state_from statements
   place_first =
       first_at (statement_at b) same_statement (λ w y z e. same_cong w y e z) X 0 (count_of statement_table b) i (formed_parts k).formed.tables.statements_differ t.within
       (ap (λ (j : ℕ). same_statement X (statement_at b j)) (zero-add i) ∙ place_same)
-      ∙ ap At (zero-add i)
+      ∙ ap Some (zero-add i)
 
   place_good : statement_good (state_of b) (statement_at b i) ≡ true
   unfolding state_of state_from statements
@@ -152,7 +151,7 @@ module _ {b : List ℕ} (k : Formed b) {i : ℕ} {x : code.Statement} (t : Stand
   place_clock c l = omega (arith, ap (λ (z : State). z.clock) l.is, (clocks_of (formed_parts k).formed).last)
 
   -- and its tally is where it was found
-  pub place_found : {b₁ : List ℕ} (c m : ℕ) (u : Certificate) (r : Found) → u ≡ own_block X m → r ≡ block_at (own_block X 0) (tallies b) → Left b₁ (noting i c (state_of b)) → r ≡ block_at u (tallies b₁)
+  pub place_found : {b₁ : List ℕ} (c m : ℕ) (u : Certificate) (r : Maybe ℕ) → u ≡ own_block X m → r ≡ block_at (own_block X 0) (tallies b) → Left b₁ (noting i c (state_of b)) → r ≡ block_at u (tallies b₁)
   unfolding noting with_tables state_of state_from
   place_found {b₁} c m u r e d l =
       let q : tallies b₁ ≡ tallies b = ap (λ (z : State). z.tallies) l.is in

@@ -19,8 +19,7 @@ use Rattle.store.specs.Layout.{statement_table, size_in, count_of}
 use Rattle.store.specs.Decode.{statement_at, statements, tallies, state_from, state_of, Left}
 use Rattle.store.specs.Searches.{first_from}
 use Rattle.joining.specs.Changes.{certifying}
-use Rattle.store.specs.declared.Found.{Found}
-use Rattle.store.specs.declared.Found.TheVariants.{At, Nothing}
+use Rattle.std.specs.Prelude.{Option, Some, None}
 use Rattle.store.proofs.Rows.{rows_at}
 use Rattle.search.specs.Finds.{found_in, Inside, Finds}
 use Rattle.search.proofs.Searches.{found_first}
@@ -45,7 +44,7 @@ module _ (x : code.Statement) where
 
 -- ---- what was found
 
-module _ (b : List ℕ) (x : Statement) (r : Found) where
+module _ (b : List ℕ) (x : Statement) (r : Option ℕ) where
   abbrev n : ℕ
   n = count_of statement_table b
 
@@ -54,13 +53,13 @@ module _ (b : List ℕ) (x : Statement) (r : Found) where
     unfolding state_of state_from statements
     found = rw e (found_first (statement_at b) (conflict x) 0 n)
 
-    pub conflict_within : (i : ℕ) → r ≡ At i → i < n
-    conflict_within i q = let h : Inside (0 + n) (At i) = rw q at found.inside in omega arith
+    pub conflict_within : (i : ℕ) → r ≡ Some i → i < n
+    conflict_within i q = let h : Inside (0 + n) (Some i) = rw q at found.inside in omega arith
 
-    pub conflict_at : (i : ℕ) → r ≡ At i → first (conflict x) (state_of b).statements ≡ some (statement_at b i)
+    pub conflict_at : (i : ℕ) → r ≡ Some i → first (conflict x) (state_of b).statements ≡ some (statement_at b i)
     conflict_at i q = sym found.is ∙ ap (found_in (statement_at b)) q
 
-    pub conflict_none : r ≡ Nothing → first (conflict x) (state_of b).statements ≡ none
+    pub conflict_none : r ≡ None → first (conflict x) (state_of b).statements ≡ none
     conflict_none q = sym found.is ∙ ap (found_in (statement_at b)) q
 
 -- ---- where it stands

@@ -15,7 +15,7 @@ ghost use Rattle.plans.specs.Plans.{planned};
 ghost use Rattle.acts.specs.Answers.{answered, Stands};
 
 use plans::Plan;
-use store::{Found, Station};
+use store::Station;
 use wire::Statement;
 
 // What a statement that was just stored makes the station do: nothing outside its view, else quit on a conflict, or vote.
@@ -25,7 +25,7 @@ fn answer(
     at: usize,
     place: usize,
     x: Statement,
-    tally: Found,
+    tally: Option<usize>,
 ) -> usize
     requires { (Formed store.old) × (Stands store.old place x) × (tally ≡ block_at (own_block (statement_of x none) 0) (tallies store.old)) × (at + 200 ≤ length out.old) }
     ensures { Works (answered (statement_of x none) (state_of store.old)) out.old at store.new out.new result }
@@ -34,11 +34,11 @@ fn answer(
         return at;
     }
     match search::find_conflict(store, x) {
-        Found::At(i) => {
+        Some(i) => {
             let earlier = store::statement_at(store, i);
             acts::quit_with_pair(store, out, at, earlier, x)
         }
-        Found::Nothing => ballots::voting(store, out, at, place, x, tally),
+        None => ballots::voting(store, out, at, place, x, tally),
     }
 }
 
@@ -56,7 +56,7 @@ pub fn statement(store: &mut [u8], out: &mut [u8], at: usize, x: Statement, plan
             let station = Station::load(store);
             let place = station.statements;
             let opened = storing::store_new(store, x, certified, own);
-            answer(store, out, at, place, x, Found::At(opened))
+            answer(store, out, at, place, x, Some(opened))
         }
         Plan::Full => at,
     }

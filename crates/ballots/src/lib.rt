@@ -11,7 +11,7 @@ ghost use Rattle.store.specs.Searches.{block_at};
 ghost use Rattle.acts.specs.Works.{Formed, Works};
 ghost use Rattle.acts.specs.Answers.{Stands};
 
-use store::{Found, Station};
+use store::Station;
 use tallies::Voters;
 use wire::{Message, Statement};
 
@@ -23,7 +23,7 @@ pub fn voting(
     at: usize,
     place: usize,
     x: Statement,
-    tally: Found,
+    tally: Option<usize>,
 ) -> usize
     requires { (Formed store.old) × (Stands store.old place x) × (tally ≡ block_at (own_block (statement_of x none) 0) (tallies store.old)) × (at + 160 ≤ length out.old) }
     ensures { Works (inputs.voting (statement_of x none) (state_of store.old)) out.old at store.new out.new result }

@@ -13,7 +13,7 @@ ghost use Rattle.store.specs.Decode.{Form, tally_at, tallies, state_of};
 ghost use Rattle.certificates.specs.Chosen.{chosen};
 
 use settings::Settings;
-use store::{Found, Station};
+use store::Station;
 use words::Certificate;
 
 // The voters that a block's tally has.
@@ -21,14 +21,18 @@ pub fn voters(store: &[u8], block: Certificate) -> u16
     requires { Form store.now }
     ensures { result ≡ words.voters (block_of block) (tallies store.now) }
 {
-    let found = store::find_tally(store, block);
-    match found {
-        Found::At(i) => {
-            let t = store::tally_at(store, i);
-            t.mask
-        }
-        Found::Nothing => 0,
+    match store::find_tally(store, block) {
+        Some(i) => store::tally_at(store, i).block.mask,
+        None => 0,
     }
+}
+
+// Whether an author opened tally i.
+fn has_opened(store: &[u8], i: usize, author: u64) -> bool
+    requires { (length store.now ≡ store_length (size_in store.now)) × (i < most_tallies (size_in store.now)) }
+    ensures { result ≡ words.is_author author (tally_at store.now i).opener }
+{
+    store::opener_at(store, i).is_some_and(|opener| u64::from(opener) == author)
 }
 
 // How many tallies an author opened by votes.
@@ -38,10 +42,8 @@ pub fn opened_by(store: &[u8], author: u64) -> u16
 {
     let station = Station::load(store);
     let mut opened: u16 = 0;
-    let mut i = station.tallies;
-    while 0 < i {
-        i -= 1;
-        if store::opener_at(store, i) as u64 == author + 1 {
+    for i in (0..station.tallies).rev() {
+        if has_opened(store, i, author) {
             opened += 1;
         }
     }
@@ -59,7 +61,7 @@ fn better(settings: Settings, view: u32, block: Certificate, best: Certificate) 
     if !words::higher(block, best) {
         return best;
     }
-    if !settings.quorum(block.mask as u64) {
+    if !settings.quorum(u64::from(block.mask)) {
         return best;
     }
     block
@@ -71,7 +73,7 @@ fn ranks_below(store: &[u8], i: usize, best: Certificate) -> bool
     ensures { result ≡ words.below (words.certificate_of (tally_at store.now i)) (block_of best) }
 {
     let rank = fields::get(store, store::tally_place(store, i), 8);
-    rank < best.view as u64 * 4_294_967_296 + best.height as u64
+    rank < u64::from(best.view) * 4_294_967_296 + u64::from(best.height)
 }
 
 // The highest certificate of a view before one. Most tallies rank below the best so far, and no more is read of them.
@@ -82,14 +84,12 @@ pub fn highest(store: &[u8], view: u32) -> Certificate
     let station = Station::load(store);
     let settings = station.settings;
     let mut best = Certificate::genesis();
-    let mut i = station.tallies;
-    while 0 < i {
-        i -= 1;
+    for i in (0..station.tallies).rev() {
         if ranks_below(store, i, best) {
             continue;
         }
         let tally = store::tally_at(store, i);
-        best = better(settings, view, tally.certificate(), best);
+        best = better(settings, view, tally.block, best);
     }
     best
 }

@@ -15,7 +15,7 @@ use Rattle.rules.specs.Words.{State, fresh}
 use Rattle.settings.specs.Made.{made, pick, size_from}
 use Rattle.settings.specs.declared.Size as declared-size
 use Rattle.settings.specs.declared.Settings as declared
-use Rattle.settings.specs.declared.Made.TheVariants.{Good, Bad}
+use Rattle.std.specs.Prelude.{Some, None}
 use Rattle.laws.proofs.Tests.{by_bool, and_left, and_right}
 use Rattle.laws.proofs.Bytes.{pow_pos}
 use Rattle.fields.specs.Places.{number, put, Bytes}
@@ -132,16 +132,16 @@ module _ (b : List ℕ) (n d own : ℕ) (y : declared-size.Size) (same : size_fr
   abbrev given : declared.Settings
   given = record { n = n; delay = d; own = own; size = y }
 
-  made_is : (t : Bool) → good_settings asked ≡ t → made n d own y ≡ pick t (Good given) Bad
+  made_is : (t : Bool) → good_settings asked ≡ t → made n d own y ≡ pick t (Some given) None
   unfolding made
-  made_is t e = ap (λ (u : Bool). pick u (Good given) Bad) e
+  made_is t e = ap (λ (u : Bool). pick u (Some given) None) e
 
-  pub made_good : (g : declared.Settings) → made n d own y ≡ Good g → (good_settings asked ≡ true) × (g ≡ given)
+  pub made_good : (g : declared.Settings) → made n d own y ≡ Some g → (good_settings asked ≡ true) × (g ≡ given)
   made_good g e =
       by_bool (good_settings asked)
       (λ t. let m = made_is true t in let q : g ≡ given = cc in (t, q))
       (λ f. let m = made_is false f in let z : ◌≡◌ {A = ℕ} 0 1 = cc in absurd (omega arith))
 
-  pub made_bad : made n d own y ≡ Bad → good_settings asked ≡ false
+  pub made_bad : made n d own y ≡ None → good_settings asked ≡ false
   made_bad e =
       by_bool (good_settings asked) (λ t. let m = made_is true t in let z : ◌≡◌ {A = ℕ} 0 1 = cc in absurd (omega arith)) (λ f. f)

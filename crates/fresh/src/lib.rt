@@ -8,7 +8,8 @@ ghost use Rattle.store.specs.Decode.{header_values};
 ghost use Rattle.store.specs.Meaning.{header_of};
 ghost use Rattle.fresh.specs.Fresh.{answer, freshly};
 
-use settings::{Made, Settings};
+use answer::Refusal;
+use settings::Settings;
 use store::{Phase, Station};
 use words::Certificate;
 
@@ -35,11 +36,11 @@ pub fn fresh(store: &mut [u8], n: u64, d: u64, own: u64) -> u64
     ensures { answer result store.new ≡ freshly store.old n d own }
 {
     if !store::is_whole(store) {
-        return 1 << 32;
+        return Refusal::Lengths.answer();
     }
     let size = store::size_in(store);
-    let Made::Good(settings) = Settings::new(n, d, own, size) else {
-        return 10 << 32;
+    let Some(settings) = Settings::new(n, d, own, size) else {
+        return Refusal::BadSettings.answer();
     };
     let whole = store.len();
     fields::clear(store, 0, whole);

@@ -10,47 +10,46 @@ use Rattle.rules.specs.Words.{Certificate, Moment, Tally, opened, same_block, of
 use Rattle.laws.proofs.Tests.{eqb_self}
 use Rattle.store.specs.Searches.{pick, first_from}
 use Rattle.records.specs.Changes.{change_at}
-use Rattle.store.specs.declared.Found.{Found}
-use Rattle.store.specs.declared.Found.TheVariants.{At, Nothing}
+use Rattle.std.specs.Prelude.{Option, Some, None}
 
 module _ (k : Moment) (t : Certificate) where
-  abbrev Joins : ℕ → List Tally → Found → Type 0
-  Joins i us Nothing = join k t us ≡ us ++ opened k t ∷ []
-  Joins i us (At j) = (i ≤ j) × (join k t us ≡ change_at (λ u. grown k u t.mask) (j - i) us)
+  abbrev Joins : ℕ → List Tally → Option ℕ → Type 0
+  Joins i us None = join k t us ≡ us ++ opened k t ∷ []
+  Joins i us (Some j) = (i ≤ j) × (join k t us ≡ change_at (λ u. grown k u t.mask) (j - i) us)
 
   joins : (i : ℕ) (us : List Tally) → Joins i us (first_from (of_block t) i us)
   unfolding first_from join change_at
   joins i [] = refl
   joins i (u ∷ us) = go (of_block t u) (first_from (of_block t) (suc i) us) refl (joins (suc i) us)
     where
-      go : (b : Bool) (r : Found) → of_block t u ≡ b → Joins (suc i) us r → Joins i (u ∷ us) (pick b (At i) r)
+      go : (b : Bool) (r : Option ℕ) → of_block t u ≡ b → Joins (suc i) us r → Joins i (u ∷ us) (pick b (Some i) r)
       go true r e h = (omega arith, let z : i - i ≡ 0 = omega arith in rw (e, join, z))
-      go false Nothing e h = rw (e, join) (ap (u ∷◌) h)
-      go false (At j) e h = (omega (arith, h.0), let z : j - i ≡ suc (j - suc i) = omega (arith, h.0) in rw (e, join, z) (ap (u ∷◌) h.1))
+      go false None e h = rw (e, join) (ap (u ∷◌) h)
+      go false (Some j) e h = (omega (arith, h.0), let z : j - i ≡ suc (j - suc i) = omega (arith, h.0) in rw (e, join, z) (ap (u ∷◌) h.1))
 
-  pub join_found : (us : List Tally) (j : ℕ) → first_from (of_block t) 0 us ≡ At j → join k t us ≡ change_at (λ u. grown k u t.mask) j us
+  pub join_found : (us : List Tally) (j : ℕ) → first_from (of_block t) 0 us ≡ Some j → join k t us ≡ change_at (λ u. grown k u t.mask) j us
   join_found us j q = let z : j - 0 ≡ j = omega arith in (subst (Joins 0 us) q (joins 0 us)).1 ∙ ap (λ (n : ℕ). change_at (λ u. grown k u t.mask) n us) z
 
-  pub join_missing : (us : List Tally) → first_from (of_block t) 0 us ≡ Nothing → join k t us ≡ us ++ opened k t ∷ []
+  pub join_missing : (us : List Tally) → first_from (of_block t) 0 us ≡ None → join k t us ≡ us ++ opened k t ∷ []
   join_missing us q = subst (Joins 0 us) q (joins 0 us)
 
   -- where a block's tally stands once it is joined: where it was found, or behind the others
-  abbrev Stays : ℕ → List Tally → Found → Type 0
-  Stays i us Nothing = first_from (of_block t) i (join k t us) ≡ At (i + length us)
-  Stays i us (At j) = first_from (of_block t) i (join k t us) ≡ At j
+  abbrev Stays : ℕ → List Tally → Option ℕ → Type 0
+  Stays i us None = first_from (of_block t) i (join k t us) ≡ Some (i + length us)
+  Stays i us (Some j) = first_from (of_block t) i (join k t us) ≡ Some j
 
   stays : (i : ℕ) (us : List Tally) → Stays i us (first_from (of_block t) i us)
   unfolding first_from join same_block grown
-  stays i [] = rw (eqb_self t.view, eqb_self t.height, eqb_self t.name) (ap At (sym (add-zero i)))
+  stays i [] = rw (eqb_self t.view, eqb_self t.height, eqb_self t.name) (ap Some (sym (add-zero i)))
   stays i (u ∷ us) = go (of_block t u) (first_from (of_block t) (suc i) us) refl (stays (suc i) us)
     where
-      go : (b : Bool) (r : Found) → of_block t u ≡ b → Stays (suc i) us r → Stays i (u ∷ us) (pick b (At i) r)
+      go : (b : Bool) (r : Option ℕ) → of_block t u ≡ b → Stays (suc i) us r → Stays i (u ∷ us) (pick b (Some i) r)
       go true r e h = rw (e, join, e)
-      go false Nothing e h = rw (e, join, e) (h ∙ ap At (omega arith))
-      go false (At j) e h = rw (e, join, e) h
+      go false None e h = rw (e, join, e) (h ∙ ap Some (omega arith))
+      go false (Some j) e h = rw (e, join, e) h
 
-  pub joined_found : (us : List Tally) (j : ℕ) → first_from (of_block t) 0 us ≡ At j → first_from (of_block t) 0 (join k t us) ≡ At j
+  pub joined_found : (us : List Tally) (j : ℕ) → first_from (of_block t) 0 us ≡ Some j → first_from (of_block t) 0 (join k t us) ≡ Some j
   joined_found us j q = subst (Stays 0 us) q (stays 0 us)
 
-  pub joined_missing : (us : List Tally) → first_from (of_block t) 0 us ≡ Nothing → first_from (of_block t) 0 (join k t us) ≡ At (length us)
-  joined_missing us q = subst (Stays 0 us) q (stays 0 us) ∙ ap At (zero-add (length us))
+  pub joined_missing : (us : List Tally) → first_from (of_block t) 0 us ≡ None → first_from (of_block t) 0 (join k t us) ≡ Some (length us)
+  joined_missing us q = subst (Stays 0 us) q (stays 0 us) ∙ ap Some (zero-add (length us))

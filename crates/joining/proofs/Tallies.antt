@@ -4,27 +4,27 @@ use mathlib.Core.Path.{◌≡◌, refl, sym, ap, ◌∙◌}
 use mathlib.Core.List.{List}
 use native.Mathlib.Omega.{arith}
 use lib.ListN.{length, set}
-use Rattle.rules.specs.Limits.{Size, most_tallies}
+use Rattle.rules.specs.Limits.{Size, most_tallies, last_clock}
 use Rattle.rules.specs.Sizes.{joined}
 use Rattle.rules.specs.Words.{Tally, Moment, reached_at, grown}
 use Rattle.rules.specs.Inputs.{with_tables}
 use Rattle.laws.proofs.Bounds.{statements_most, tallies_most}
 use Rattle.fields.specs.Places.{put, Bytes}
 use Rattle.fields.specs.Records.{fields, puts, Fit}
-use Rattle.fields.proofs.Laws.{length_put, bytes_put}
+use Rattle.fields.proofs.Laws.{length_put, bytes_put, number_lt}
 use Rattle.store.specs.Layout.{header_format, tally_format, statement_table, tally_table, end_of, store_length, size_in, count_of, place_of}
-use Rattle.tallies.specs.Values.{vote_of}
-use Rattle.store.specs.Decode.{tally_from, tally_values, tally_for, tally_at, statements, blames, names, state_from, state_of, Form, Left}
+use Rattle.tallies.specs.Values.{told, vote_of, vote_number, reached_number}
+use Rattle.store.specs.Decode.{tally_from, tally_values, tally_for, tally_at, since_for, since_at, statements, blames, names, state_from, state_of, Form, Left}
 use Rattle.tallies.specs.Meaning.{tally_of}
 use Rattle.tallies.specs.declared.Tally as code
-use Rattle.joining.specs.Changes.{changing, growing, Voted, opening}
+use Rattle.joining.specs.Changes.{changing, growing, Fits, Voted, opening}
 use Rattle.store.proofs.Kept.{SameIn, part, put_low, field_put}
 use Rattle.store.proofs.Values.{tally_back}
 use Rattle.store.proofs.Tables.{Holds}
 use Rattle.store.proofs.Forms.{ordered_tally, local_tally, Parts, parts, sized, left}
 use Rattle.records.proofs.Writes.{Placed, put_record, add_record}
 use Rattle.fields.specs.Names.{name_of}
-use Rattle.tallies.proofs.Values.{vote_number_lem}
+use Rattle.tallies.proofs.Values.{number_vote, vote_number_lem, reached_fits}
 use Rattle.records.proofs.Changes.{Kept, statements_kept, blames_kept, log_kept, kinds_kept, header_kept}
 use Rattle.records.proofs.Places.{changed_twice}
 
@@ -55,10 +55,10 @@ unfolding tally_for
 clocked_row z b i k v e = simp e
 
 -- the code's tally fits its record, since its parts have the fields' widths
-pub tally_fits : (t : code.Tally) → t.view < 2 ^ 32 → t.height < 2 ^ 32 → name_of t.name < 256 ^ 32 → t.mask < 2 ^ 16 → t.opener < 2 ^ 8 → t.reached < 2 ^ 32
+pub tally_fits : (t : code.Tally) → t.block.view < 2 ^ 32 → t.block.height < 2 ^ 32 → name_of t.block.name < 256 ^ 32 → t.block.mask < 2 ^ 16 → Fits t
     → Fit tally_format (tally_values (tally_of t))
 unfolding tally_of
-tally_fits t v h n m o r = (v, (h, (n, (m, (rw (vote_number_lem t.opener) o, (rw (vote_number_lem t.reached) r, tt))))))
+tally_fits t v h n m f = (v, (h, (n, (m, (f.opener, (f.reached, tt))))))
 
 module _ (b : List ℕ) (k : Form b) where
   abbrev q : Parts b
@@ -110,21 +110,32 @@ module _ (b : List ℕ) (k : Form b) where
 
 -- ---- a joining, by the tally that grew
 
+-- the clock that it keeps fits its record
+pub clock_fits : (b : List ℕ) → Bytes b → (at : Moment) (j m : ℕ) (t u : code.Tally) → tally_of t ≡ tally_at b j → tally_of u ≡ grown at (tally_of t) m → at.clock ≤ last_clock
+    → reached_number (told u.reached) < 256 ^ 4
+unfolding tally_of grown tally_for since_for
+clock_fits b bytes at j m t u e f l =
+    let g : told u.reached ≡ reached_at at (told t.reached) (joined t.block.mask m) = ap (λ (w : Tally). w.reached) f in
+    let h : told t.reached ≡ vote_of (since_at b j) = ap (λ (w : Tally). w.reached) e in
+    let n : vote_number (told t.reached) < 256 ^ 4 = rw (h, vote_number_lem) (number_lt b bytes _ 4) in
+    rw g (reached_fits at _ (told t.reached) n l)
+
 pub grown_at : (b : List ℕ) (k : Form b) (at : Moment) (j m : ℕ) (t u : code.Tally) → j < count_of tally_table b → tally_of t ≡ tally_at b j
-    → tally_of u ≡ grown at (tally_of t) m → {b' : List ℕ} → Voted b j u.mask u.reached b' → Left b' (growing at j m (state_of b))
+    → tally_of u ≡ grown at (tally_of t) m → {b' : List ℕ} → Voted b j u.block.mask (reached_number (told u.reached)) b' → Left b' (growing at j m (state_of b))
 unfolding tally_of grown growing changing with_tables
 grown_at b k at j m t u l e f {b'} p =
     let z = size_in b in
     let place = place_of tally_table z j in
     let g : tally_of u ≡ grown at (tally_at b j) m = f ∙ ap (λ (w : Tally). grown at w m) e in
-    let mask : u.mask ≡ joined (tally_at b j).mask m = ap (λ (w : Tally). w.mask) g in
-    let since : vote_of u.reached ≡ reached_at at (tally_at b j).reached (joined (tally_at b j).mask m) = ap (λ (w : Tally). w.reached) g in
-    let b₁ = put b (place + 40) 2 u.mask in
-    let (row, one) = put_mask b k j m u.mask l mask p.mask_fits in
-    let size : size_in b₁ ≡ z = sized z b₁ (length_put b (place + 40) 2 u.mask ∙ (parts b k.form).long) in
-    let again : vote_of u.reached ≡ reached_at at (tally_for z b₁ j).reached (tally_for z b₁ j).mask = since ∙ ap (λ (w : Tally). reached_at at w.reached w.mask) (sym row) in
-    let count : count_of tally_table b₁ ≡ count_of tally_table b = (put_low b (place + 40) 2 u.mask).same 64 2 (omega arith) (omega arith) in
-    let two = put_since b₁ one.form j at u.reached (omega arith) (rw size again) p.reached_fits in
+    let mask : u.block.mask ≡ joined (tally_at b j).mask m = ap (λ (w : Tally). w.mask) g in
+    let r = reached_number (told u.reached) in
+    let since : vote_of r ≡ reached_at at (tally_at b j).reached (joined (tally_at b j).mask m) = number_vote (told u.reached) ∙ ap (λ (w : Tally). w.reached) g in
+    let b₁ = put b (place + 40) 2 u.block.mask in
+    let (row, one) = put_mask b k j m u.block.mask l mask p.mask_fits in
+    let size : size_in b₁ ≡ z = sized z b₁ (length_put b (place + 40) 2 u.block.mask ∙ (parts b k.form).long) in
+    let again : vote_of r ≡ reached_at at (tally_for z b₁ j).reached (tally_for z b₁ j).mask = since ∙ ap (λ (w : Tally). reached_at at w.reached w.mask) (sym row) in
+    let count : count_of tally_table b₁ ≡ count_of tally_table b = (put_low b (place + 40) 2 u.block.mask).same 64 2 (omega arith) (omega arith) in
+    let two = put_since b₁ one.form j at r (omega arith) (rw size again) p.reached_fits in
     let two' : Left b' (changing j (clocked at) (state_of b₁)) = rw p.is (rw size at two) in
     record {
       form = two'.form;

@@ -8,16 +8,17 @@ use native.Mathlib.Numerals.{sub-one}
 use lib.Dec.{eqb}
 use lib.ListN.{get_or}
 use borrow.Author.Tests.{eqb-true, eqb-false, eq-eqb, ne_eqb}
+use Rattle.std.specs.Int.{w64, swap_bytes}
 use Rattle.laws.proofs.Tests.{by_bool}
 use Rattle.fields.specs.Places.{Bytes, number}
 use Rattle.lookup.specs.Search.{turn}
 
--- one byte, as a loop downward counts
-pub turn_step : (k v r : ℕ) → 0 < k → turn k v r ≡ turn (k - 1) (v / 256) (r * 256 + v % 256)
+-- the library's turning about of a word
+pub turn_bytes : (v : ℕ) → v < 2 ^ 64 → swap_bytes w64 v ≡ turn 8 v 0
 unfolding turn
-turn_step zero v r h = absurd (omega arith)
-turn_step (suc k) v r h = rw sub-one
+turn_bytes v h = omega arith
 
+-- one byte, as a loop downward counts
 pub turn_number : (s : List ℕ) → Bytes s → (at k r : ℕ) → 0 < k → turn k (number s at k) r ≡ turn (k - 1) (number s at (k - 1)) (r * 256 + get_or s (at + (k - 1)) 0)
 unfolding turn number
 turn_number s b at zero r h = absurd (omega arith)

@@ -24,40 +24,16 @@ const FOURTH: usize = 32;
 // How many records are looked at in one turn.
 const TURN: usize = 16;
 
-// A byte as a word, with its bound.
-fn wide(x: u8) -> u64
-    ensures { (result ≡ x) × (result < 256) }
-{
-    x as u64
-}
-
 // The eight bytes of a place as one word, the first byte the lowest: on the processors at hand one load.
 fn word(s: &[u8], at: usize) -> u64
     requires { at + 8 ≤ length s.now }
     ensures { result ≡ turn 8 (number s.now at 8) 0 }
 {
     let mut value: u64 = 0;
-    let mut k: usize = 8;
-    while 0 < k {
-        k -= 1;
-        value = value * 256 + wide(s[at + k]);
+    for k in (0..8).rev() {
+        value = value * 256 + u64::from(s[at + k]);
     }
     value
-}
-
-// A number's eight bytes turned about.
-fn turned(value: u64) -> u64
-    ensures { result ≡ turn 8 value 0 }
-{
-    let mut about: u64 = 0;
-    let mut left = value;
-    let mut k: usize = 8;
-    while 0 < k {
-        k -= 1;
-        about = about * 256 + left % 256;
-        left = left / 256;
-    }
-    about
 }
 
 // Whether the eight bytes of a place are those of a number, which is turned about once and not at every place.
@@ -65,7 +41,7 @@ fn is_word(s: &[u8], at: usize, value: u64) -> bool
     requires { at + 8 ≤ length s.now }
     ensures { result ≡ eqb value (number s.now at 8) }
 {
-    turned(value) == word(s, at)
+    value.swap_bytes() == word(s, at)
 }
 
 // Whether the record at a place is of this block, word by word where it lies; the name's last word is looked at first.
@@ -96,17 +72,16 @@ fn ahead(s: &[u8], base: usize, size: usize, from: usize, mark: u64) -> usize
     requires { (40 ≤ size) × (base + size * (from + 16) ≤ length s.now) }
     ensures { result ≡ seek (has_mark s.now base size mark) from 16 }
 {
-    let mut k: usize = 0;
-    while k < TURN {
-        if is_word(s, base + size * (from + k) + MARK, mark) {
-            return from + k;
+    for i in from..from + TURN {
+        if is_word(s, base + size * i + MARK, mark) {
+            return i;
         }
-        k += 1;
     }
-    from + k
+    from + TURN
 }
 
-// The place of the first record with this mark, from one place up to another, sixteen at a turn while there are so many.
+// The place of the first record with this mark, from one place up to another, sixteen at a turn while there are so many:
+// the step is sixteen or one, which no `for` counts.
 fn marked(s: &[u8], base: usize, size: usize, from: usize, end: usize, mark: u64) -> usize
     requires { (40 ≤ size) × (base + size * end ≤ length s.now) }
     ensures { result ≡ seek (has_mark s.now base size mark) from (end - from) }
@@ -130,7 +105,7 @@ fn marked(s: &[u8], base: usize, size: usize, from: usize, end: usize, mark: u64
 }
 
 // The place of the first record of this block, from one place up to another; no place below that other, where there is none.
-// Only records with the block's mark are looked at whole.
+// Only records with the block's mark are looked at whole, and each turn begins behind the last of them, which no `for` counts.
 pub fn first(
     s: &[u8],
     base: usize,

@@ -28,8 +28,7 @@ use Rattle.words.specs.Meaning.{block_of}
 use Rattle.tallies.specs.Meaning.{with_voters}
 use Rattle.store.specs.Layout.{tally_table, count_of}
 use Rattle.store.specs.Decode.{tally_at, tallies, state_from, state_of, Form}
-use Rattle.store.specs.declared.Found.{Found}
-use Rattle.store.specs.declared.Found.TheVariants.{At, Nothing}
+use Rattle.std.specs.Prelude.{Option, Some, None}
 use Rattle.store.proofs.Searches.{found_any, missing_any}
 use Rattle.acts.specs.Works.{Formed}
 use Rattle.storing.specs.Records.{certified_at, used_by}
@@ -52,11 +51,11 @@ unfolding heard
 heard_free m s q = rw (q, heard)
 
 -- an author's vote for a block that is not of view 0, by the place of the block's tally
-module _ {b : List ℕ} (k : Form b) (t : Certificate) (d : t.view ≡ 0 → ⊥) (a : ℕ) (r : Found) (e : r ≡ certified_at t (tallies b)) where
-  used_by_lem : (p : Found) → r ≡ p → used_by p a (tallies b) ≡ used_up (vote_for t a) (state_of b)
+module _ {b : List ℕ} (k : Form b) (t : Certificate) (d : t.view ≡ 0 → ⊥) (a : ℕ) (r : Option ℕ) (e : r ≡ certified_at t (tallies b)) where
+  used_by_lem : (p : Option ℕ) → r ≡ p → used_by p a (tallies b) ≡ used_up (vote_for t a) (state_of b)
   unfolding used_by used_up same_block state_of state_from tallies
-  used_by_lem Nothing q = rw (missing_any (of_block t) (tally_at b) (count_of tally_table b) r (e ∙ certified_block t (tallies b) d) q)
-  used_by_lem (At j) q = rw (found_any (of_block t) (tally_at b) (count_of tally_table b) r (e ∙ certified_block t (tallies b) d) j q)
+  used_by_lem None q = rw (missing_any (of_block t) (tally_at b) (count_of tally_table b) r (e ∙ certified_block t (tallies b) d) q)
+  used_by_lem (Some j) q = rw (found_any (of_block t) (tally_at b) (count_of tally_table b) r (e ∙ certified_block t (tallies b) d) j q)
 
   pub vote_refused : {x : Bool} {n : ℕ} → x ≡ used_by r a (tallies b) → x ≡ true → n ≡ 12 * 2 ^ 32 → Mutely (heard (vote_for t a) (state_of b)) b n
   unfolding heard

@@ -19,7 +19,8 @@ ghost use Rattle.storing.specs.Records.{certified_at};
 ghost use Rattle.stops.specs.Answers.{Answers, Mutely};
 ghost use Rattle.messages.specs.Votes.{vote_for};
 
-use store::{Cause, Found};
+use answer::Refusal;
+use store::Cause;
 use tallies::Voters;
 use wire::{Message, Statement};
 use words::Certificate;
@@ -59,18 +60,18 @@ pub fn stated(store: &mut [u8], out: &mut [u8], x: Statement) -> u64
 {
     let plan = plans::planned(store, x);
     if !plans::fits(plan) {
-        return stops::stop(store, 6, Cause::Full);
+        return stops::stop(store, Refusal::Full, Cause::Full);
     }
     answers::statement(store, out, 0, x, plan) as u64
 }
 
 // A vote or a status: whoever joins the tally of a block, as it was found.
-fn counted(store: &mut [u8], block: Certificate, place: Found, voters: Voters) -> u64
+fn counted(store: &mut [u8], block: Certificate, place: Option<usize>, voters: Voters) -> u64
     requires { (Form store.old) × (place ≡ certified_at (block_of block) (tallies store.old)) × (Numbered voters) × ((state_of store.old).clock ≤ last_clock) }
     ensures { Mutely (if_room (state_of store.old) (inputs.tallied (author_of voters) (with_voters (voters_of voters) (block_of block)) (state_of store.old))) store.new result }
 {
     if !storing::tallied(store, block, place, voters) {
-        return stops::stop(store, 6, Cause::Full);
+        return stops::stop(store, Refusal::Full, Cause::Full);
     }
     0
 }
@@ -82,7 +83,7 @@ fn voted(store: &mut [u8], block: Certificate, author: u64) -> u64
 {
     let place = storing::find_certificate(store, block);
     if storing::used_up(store, place, author) {
-        return stops::refuse(12);
+        return Refusal::UsedUp.answer();
     }
     counted(store, block, place, Voters::One(author))
 }

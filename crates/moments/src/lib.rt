@@ -15,11 +15,7 @@ fn is_in_view(store: &[u8], station: Station) -> bool
     requires { (Form store.now) × (Loads station store.now) }
     ensures { result ≡ inputs.is_in station.view (state_of store.now) }
 {
-    let phase = station.phase;
-    match phase {
-        Phase::InView => true,
-        _ => false,
-    }
+    matches!(station.phase, Phase::InView)
 }
 
 // Whether the station's own blame is due at a clock, by how many proposes of its view it voted for.

@@ -21,8 +21,7 @@ use Rattle.wire.proofs.Statements.{propose_said_lem}
 use Rattle.store.specs.Layout.{statement_table, count_of}
 use Rattle.store.specs.Decode.{statement_at, statements, tallies, state_from, state_of}
 use Rattle.store.specs.Meaning.{Loads}
-use Rattle.store.specs.declared.Found.{Found}
-use Rattle.store.specs.declared.Found.TheVariants.{At, Nothing}
+use Rattle.std.specs.Prelude.{Option, Some, None}
 use Rattle.store.specs.declared.Station.{Station}
 use Rattle.store.proofs.Loaded.{loaded_settings, loaded_view}
 use Rattle.search.specs.Lookups.{opens}
@@ -69,10 +68,10 @@ module _ (s : Station) (b : List ℕ) (e : Loads s b) (n : Name) where
   unfolding extension
   extension_none p = rw (top_of p, extension)
 
-  pub top_none : {r : Found} → Finds (statement_at b) (count_of statement_table b) (top s.view (statements b)) r → r ≡ Nothing → none ≡ extension (name_of n) (state_of b)
+  pub top_none : {r : Option ℕ} → Finds (statement_at b) (count_of statement_table b) (top s.view (statements b)) r → r ≡ None → none ≡ extension (name_of n) (state_of b)
   top_none f q = extension_none (sym (ap (found_in (statement_at b)) q) ∙ f.is)
 
-  module _ {r : Found} {j : ℕ} (f : Finds (statement_at b) (count_of statement_table b) (top s.view (statements b)) r) (q : r ≡ At j) where
+  module _ {r : Option ℕ} {j : ℕ} (f : Finds (statement_at b) (count_of statement_table b) (top s.view (statements b)) r) (q : r ≡ Some j) where
     pub top_within : j < count_of statement_table b
     top_within = rw q at f.inside
 

@@ -5,20 +5,20 @@ use Rattle.rules.specs.Messages.{Message}
 use Rattle.rules.specs.Words.{message, State}
 use Rattle.rules.specs.Inputs.{leads, is_opened, is_used, top, extendable, above}
 use Rattle.wire.specs.Meaning.{statement_of}
-use Rattle.offers.specs.declared.Offer.{Offer}
-use Rattle.offers.specs.declared.Offer.TheVariants.{Taken, NotTaken}
+use Rattle.std.specs.Prelude.{Option as Maybe, Some, None}
+use Rattle.wire.specs.declared.Statement.{Statement}
 
 -- the number that the paper gives to each case, 0 where the offer is taken, and the propose that it makes: "9 offer not to be taken"
 pub record Answer : Type 0 where
   pub number : ℕ
   pub propose : Option Message
 
-abbrev pub answer_of : Offer → Answer
-answer_of (Taken x) = record { number = 0; propose = some (message (statement_of x none)) }
-answer_of NotTaken = record { number = 9; propose = none }
+abbrev pub answer_of : Maybe Statement → Answer
+answer_of (Some x) = record { number = 0; propose = some (message (statement_of x none)) }
+answer_of None = record { number = 9; propose = none }
 
 -- the propose of the answer, if any
-abbrev pub offer_of : Offer → Option Message
+abbrev pub offer_of : Maybe Statement → Option Message
 offer_of r = (answer_of r).propose
 
 -- the first test of rules' `offered`, and what follows it

@@ -10,15 +10,8 @@ ghost use Rattle.offers.specs.Offers.{offer_of, may_offer, extension};
 
 use fields::Name;
 use settings::Settings;
-use store::{Found, Station};
+use store::Station;
 use wire::Statement;
-
-// What an offer makes.
-#[derive(Clone, Copy)]
-pub enum Offer {
-    Taken(Statement),
-    NotTaken,
-}
 
 // Whether a station may offer a name: it leads its view, which is opened, and the name is neither zero nor used.
 fn may_offer(store: &[u8], name: Name) -> bool
@@ -31,26 +24,26 @@ fn may_offer(store: &[u8], name: Name) -> bool
 }
 
 // The propose of a name above the top of the view, if that one is certified and below the last height.
-fn extended(store: &[u8], name: Name) -> Offer
+fn extended(store: &[u8], name: Name) -> Option<Statement>
     requires { Formed store.now }
     ensures { offer_of result ≡ extension (name_of name) (state_of store.now) }
 {
     let station = Station::load(store);
     let settings = station.settings;
     let view = station.view;
-    let Found::At(i) = search::top(store, view) else {
-        return Offer::NotTaken;
+    let Some(i) = search::top(store, view) else {
+        return None;
     };
     let top = store::statement_at(store, i);
     let mask = certificates::voters(store, words::own_block(top, 0));
     if !settings.quorum(mask as u64) {
-        return Offer::NotTaken;
+        return None;
     }
     if Settings::LAST_HEIGHT <= top.height as u64 {
-        return Offer::NotTaken;
+        return None;
     }
     let link = top.name;
-    Offer::Taken(Statement {
+    Some(Statement {
         is_new_view: false,
         view,
         height: top.height + 1,
@@ -62,12 +55,12 @@ fn extended(store: &[u8], name: Name) -> Offer
 }
 
 // What the offer of a name makes, if it is to be taken.
-pub fn offered(store: &[u8], name: Name) -> Offer
+pub fn offered(store: &[u8], name: Name) -> Option<Statement>
     requires { Formed store.now }
     ensures { offer_of result ≡ inputs.offered (name_of name) (state_of store.now) }
 {
     if !may_offer(store, name) {
-        return Offer::NotTaken;
+        return None;
     }
     extended(store, name)
 }

@@ -15,9 +15,8 @@ use Rattle.rules.specs.Limits.{most_statements, most_tallies}
 use Rattle.laws.proofs.Tests.{by_bool}
 use Rattle.store.specs.Decode.{tallies, statement_at, statements, state_from, state_of}
 use Rattle.store.specs.Searches.{block_at, first_from}
-use Rattle.store.specs.declared.Found.{Found}
+use Rattle.std.specs.Prelude.{Option, Some, None}
 use Rattle.store.specs.Layout.{statement_table, tally_table, size_in, count_of}
-use Rattle.store.specs.declared.Found.TheVariants.{At, Nothing}
 use Rattle.store.proofs.Searches.{found_any, missing_any}
 use Rattle.kept.specs.Parts.{WellFormed}
 use Rattle.kept.specs.Said.{Sendable}
@@ -36,12 +35,12 @@ module _ (x : Statement) (s : State) where
   unfolding planned
   planned_repeat a = rw (a, planned)
 
-  pub planned_new : any (same_statement x) s.statements ≡ false → {f : Bool} {p q : Found} → f ≡ has_room (stored x s) → p ≡ certified_at (certificate x) s.tallies
+  pub planned_new : any (same_statement x) s.statements ≡ false → {f : Bool} {p q : Option ℕ} → f ≡ has_room (stored x s) → p ≡ certified_at (certificate x) s.tallies
       → q ≡ block_at (own_block x 0) s.tallies → new_plan f p q ≡ planned x s
   unfolding planned
   planned_new a f p q = rw (a, planned) (λ i. new_plan (f i) (p i) (q i))
 
-  newly_planned : {p q : Found} → Newly x s p q → New p q ≡ planned x s
+  newly_planned : {p q : Option ℕ} → Newly x s p q → New p q ≡ planned x s
   newly_planned k = planned_new k.is_new (sym k.room) k.certified k.own
 
   -- what a plan tells
@@ -53,7 +52,7 @@ module _ (x : Statement) (s : State) where
   full_planned : Tells Full → Full ≡ planned x s
   full_planned h = planned_new h.0 (sym h.1) refl refl
 
-  by_plan : {P : Type 0} → (Tells Repeat → P) → ((p q : Found) → Newly x s p q → P) → (Tells Full → P) → P
+  by_plan : {P : Type 0} → (Tells Repeat → P) → ((p q : Option ℕ) → Newly x s p q → P) → (Tells Full → P) → P
   by_plan f g h =
       by_bool (any (same_statement x) s.statements) f
       (λ a. by_bool (has_room (stored x s)) (λ r. g _ _ (record { is_new = a; room = r; certified = refl; own = refl })) (λ r. h (a, r)))
@@ -71,21 +70,21 @@ module _ (x : Statement) (s : State) where
 
 -- ---- what was found
 
-module _ (b : List ℕ) (x : Statement) (r : Found) (e : r ≡ first_from (same_statement x) 0 (statements b)) where
-  pub is_repeat : (j : ℕ) → r ≡ At j → any (same_statement x) (state_of b).statements ≡ true
+module _ (b : List ℕ) (x : Statement) (r : Option ℕ) (e : r ≡ first_from (same_statement x) 0 (statements b)) where
+  pub is_repeat : (j : ℕ) → r ≡ Some j → any (same_statement x) (state_of b).statements ≡ true
   unfolding state_of state_from statements
   is_repeat j q = found_any (same_statement x) (statement_at b) (count_of statement_table b) r e j q
 
-  pub is_new_lem : r ≡ Nothing → any (same_statement x) (state_of b).statements ≡ false
+  pub is_new_lem : r ≡ None → any (same_statement x) (state_of b).statements ≡ false
   unfolding state_of state_from statements
   is_new_lem q = missing_any (same_statement x) (statement_at b) (count_of statement_table b) r e q
 
 -- ---- a new one, with its certificate t and its own block u
 
 module _ (b : List ℕ) (x : Statement) (m : Sendable (state_of b).settings (message x)) (t u : Certificate) (et : t ≡ certificate x) (eu : u ≡ own_block x 0) where
-  module _ (q : Found) (eq : q ≡ block_at u (tallies b)) where
+  module _ (q : Option ℕ) (eq : q ≡ block_at u (tallies b)) where
     -- i statements and j tallies are there; its certificate needs k tallies more, its own block l
-    pub new_planned : any (same_statement x) (state_of b).statements ≡ false → (p : Found) → p ≡ certified_at t (tallies b) → (i j k l few many : ℕ) → few ≡ most_statements (size_in b) → many ≡ most_tallies (size_in b) → i ≡ count_of statement_table b
+    pub new_planned : any (same_statement x) (state_of b).statements ≡ false → (p : Option ℕ) → p ≡ certified_at t (tallies b) → (i j k l few many : ℕ) → few ≡ most_statements (size_in b) → many ≡ most_tallies (size_in b) → i ≡ count_of statement_table b
         → j ≡ count_of tally_table b → k ≡ needed t p → l ≡ needed u q → new_plan (ltb i few && leb (j + (k + l)) many) p q ≡ planned x (state_of b)
     unfolding state_of state_from
     new_planned new p ep i j k l few many ef em ei ej ek el =

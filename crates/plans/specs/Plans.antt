@@ -1,5 +1,5 @@
 -- What comes of a statement, by what was found before the act. Assumes nothing.
-use Rattle.std.specs.Prelude.{ℕ, Bool, true, false, eqb}
+use Rattle.std.specs.Prelude.{ℕ, Bool, true, false, eqb, Option as Maybe}
 use Rattle.std.proofs.Math.Option.{Option, none, some}
 use Rattle.rules.specs.Lists.{any}
 use Rattle.rules.specs.Words.{Statement, same_statement, own_block, certificate, same_block, State}
@@ -8,12 +8,11 @@ use Rattle.rules.specs.Refusals.{has_room}
 use Rattle.store.specs.Decode.{tallies}
 use Rattle.store.specs.Searches.{first_from, block_at}
 use Rattle.storing.specs.Records.{certified_at}
-use Rattle.store.specs.declared.Found.{Found}
 use Rattle.plans.specs.declared.Plan.{Plan}
 use Rattle.plans.specs.declared.Plan.TheVariants.{Repeat, New, Full}
 
 -- what comes of a new statement, by whether there is room
-abbrev pub new_plan : Bool → Found → Found → Plan
+abbrev pub new_plan : Bool → Maybe ℕ → Maybe ℕ → Plan
 new_plan true p q = New p q
 new_plan false p q = Full
 
@@ -30,7 +29,7 @@ planned x s =
 -- "6 no record free for what this input must add"
 pub record Answer : Type 0 where
   pub number : ℕ
-  pub places : Option (Found × Found)
+  pub places : Option (Maybe ℕ × Maybe ℕ)
 
 abbrev pub answer_of : Plan → Answer
 answer_of Repeat = record { number = 0; places = none }

@@ -10,7 +10,7 @@ ghost use Rattle.kept.specs.Said.{Sendable};
 ghost use Rattle.acts.specs.Works.{Formed};
 ghost use Rattle.plans.specs.Plans.{new_plan, planned, fits};
 
-use store::{Found, Station};
+use store::Station;
 use wire::Statement;
 
 // What comes of a statement: a repeat; a new one, with the places of the tallies of its certificate and of its own block;
@@ -18,12 +18,12 @@ use wire::Statement;
 #[derive(Clone, Copy)]
 pub enum Plan {
     Repeat,
-    New(Found, Found),
+    New(Option<usize>, Option<usize>),
     Full,
 }
 
 // What comes of a new statement, by whether there is room.
-fn new_plan(room: bool, certified: Found, own: Found) -> Plan
+fn new_plan(room: bool, certified: Option<usize>, own: Option<usize>) -> Plan
     ensures { result ≡ new_plan room certified own }
 {
     if room {
@@ -37,7 +37,7 @@ pub fn planned(store: &[u8], x: Statement) -> Plan
     requires { (Formed store.now) × (Sendable (state_of store.now).settings (said (statement_of x none))) }
     ensures { result ≡ planned (statement_of x none) (state_of store.now) }
 {
-    let Found::Nothing = store::find_statement(store, x) else {
+    let None = store::find_statement(store, x) else {
         return Plan::Repeat;
     };
     let certificate = words::certificate_of(x);
@@ -55,9 +55,5 @@ pub fn planned(store: &[u8], x: Statement) -> Plan
 pub fn fits(plan: Plan) -> bool
     ensures { result ≡ fits plan }
 {
-    match plan {
-        Plan::Repeat => true,
-        Plan::New(_, _) => true,
-        Plan::Full => false,
-    }
+    !matches!(plan, Plan::Full)
 }

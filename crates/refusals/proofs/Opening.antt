@@ -5,7 +5,7 @@ use mathlib.Core.Bool.{Bool, true, false, not, ◌&&◌, and-false}
 use mathlib.Core.List.{List}
 use native.Mathlib.Omega.{arith}
 use lib.ListN.{length}
-use lib.Dec.{leb, eqb, lit<}
+use lib.Dec.{leb, eqb}
 use borrow.Author.Tests.{eq-eqb, le-leb, lt-leb, eqb-true, leb-true, not-true, not-false}
 use Rattle.rules.specs.Limits.{least_out}
 use Rattle.rules.specs.Messages.{outgoing}
@@ -25,7 +25,41 @@ use Rattle.acts.specs.Works.{Formed}
 use Rattle.acts.proofs.Works.{state_size}
 use Rattle.stops.specs.Answers.{Answers}
 use Rattle.stops.proofs.Answers.{answers_is, refused_short, refused_answers}
-use Rattle.refusals.specs.Barred.{barred, unformed, Checks}
+use Rattle.refusals.specs.Barred.{barred, refusal_number, unformed, Checks}
+use Rattle.std.specs.Prelude.{Result, Ok, Err, ⊤}
+use Rattle.answer.specs.Numbers.{number_of}
+use Rattle.answer.specs.declared.Refusal.{Refusal}
+use Rattle.answer.specs.declared.Refusal.TheVariants.{Lengths, Malformed, Stopped, Unreadable, NotAllowed, Full, Split, Clock, NoOffer, BadSettings, Ahead, UsedUp, Journal, Envelope, Slip}
+
+-- a refusal has a number
+pub refusal_some : (e : Refusal) → number_of e ≡ 0 → ⊥
+refusal_some Lengths z = absurd (omega arith)
+refusal_some Malformed z = absurd (omega arith)
+refusal_some Stopped z = absurd (omega arith)
+refusal_some Unreadable z = absurd (omega arith)
+refusal_some NotAllowed z = absurd (omega arith)
+refusal_some Full z = absurd (omega arith)
+refusal_some Split z = absurd (omega arith)
+refusal_some Clock z = absurd (omega arith)
+refusal_some NoOffer z = absurd (omega arith)
+refusal_some BadSettings z = absurd (omega arith)
+refusal_some Ahead z = absurd (omega arith)
+refusal_some UsedUp z = absurd (omega arith)
+refusal_some Journal z = absurd (omega arith)
+refusal_some Envelope z = absurd (omega arith)
+refusal_some Slip z = absurd (omega arith)
+
+module _ {q : Result ⊤ Refusal} {e : Refusal} (i : q ≡ Err e) where
+  pub refusal_err : refusal_number q ≡ 0 → ⊥
+  refusal_err z = refusal_some e (ap refusal_number (sym i) ∙ z)
+
+  pub refusal_told : {r : ℕ} → r ≡ number_of e * 2 ^ 32 → r ≡ refusal_number q * 2 ^ 32
+  refusal_told t = t ∙ ap (λ (x : Result ⊤ Refusal). refusal_number x * 2 ^ 32) (sym i)
+
+-- else it is no number
+pub refusal_none : (q : Result ⊤ Refusal) → ((e : Refusal) → q ≡ Err e → ⊥) → refusal_number q ≡ 0
+refusal_none (Ok u) h = refl
+refusal_none (Err e) h = absurd (h e refl)
 
 -- ---- from an outcome as it stands in the buffers to what a call gives
 
@@ -67,10 +101,6 @@ module _ (b o : List ℕ) where
     pub unformed_not : whole ≡ true → 0 ≡ unformed b o
     unfolding unformed
     unformed_not g = rw (proper, unformed, g)
-
-  pub unformed_small : unformed b o < 2 ^ 32
-  unfolding unformed
-  unformed_small = by_bool fits (λ p. by_bool whole (λ g. rw (p, unformed, g) (lit< tt)) (λ g. rw (p, unformed, g) (lit< tt))) (λ p. rw (p, unformed) (lit< tt))
 
 -- where it refuses nothing is told
 pub checks_untold : {b o t : List ℕ} {r : ℕ} → 0 < r → r ≡ unformed b o → Checks b o r t
@@ -147,12 +177,6 @@ module _ (b o : List ℕ) where
   -- what the check says of the buffers decides, or the phase
   by_check : {P : Type 0} → (Lent b o → P) → ((unformed b o ≡ 0 → ⊥) → P) → P
   by_check f g = by_bool (eqb (unformed b o) 0) (λ z. f (lent b o (eqb-true (unformed b o) 0 z))) (λ z. g (λ q. no_bool (sym (eq-eqb (unformed b o) 0 q) ∙ z)))
-
-  pub barred_small : barred b o < 2 ^ 32
-  barred_small =
-      by_check
-      (λ k. by_bool (running (state_of b)) (λ r. omega (arith, barred_not b o k r)) (λ r. omega (arith, barred_stopped b o k r)))
-      (λ n. omega (arith, unformed_small b o, barred_unformed b o n))
 
   pub opened : barred b o ≡ 0 → Opened b o
   opened z =

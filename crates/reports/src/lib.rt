@@ -12,14 +12,13 @@ pub fn logging(store: &mut [u8], out: &mut [u8], at: usize, gained: &[u16], len:
     requires { Enough store.old gained.now len at (length out.old) }
     ensures { Works (inputs.logging (grown_log store.old gained.now len) (state_of store.old)) out.old at store.new out.new result }
 {
-    let mut k = store::get_count(store, store::LOG_COUNT);
+    let logged = store::get_count(store, store::LOG_COUNT);
     let mut next = at;
-    while k < len {
-        let x = store::statement_at(store, gained[k] as usize);
+    for k in logged..len {
+        let x = store::statement_at(store, usize::from(gained[k]));
         let name = x.name;
         records::append_name(store, name);
         next = effects::committed(out, next, (k + 1) as u32, name);
-        k += 1;
     }
     next
 }

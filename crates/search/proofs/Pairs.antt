@@ -14,8 +14,7 @@ use Rattle.laws.proofs.Tests.{by_bool}
 use Rattle.words.proofs.Statements.{other_view}
 use Rattle.store.specs.Decode.{rows}
 use Rattle.store.specs.Searches.{first_from}
-use Rattle.store.specs.declared.Found.{Found}
-use Rattle.store.specs.declared.Found.TheVariants.{At, Nothing}
+use Rattle.std.specs.Prelude.{Option as Maybe, Some, None}
 use Rattle.store.proofs.Rows.{rows_from, rows_end}
 use Rattle.search.specs.Lookups.{of_view, rival_in}
 use Rattle.search.specs.Finds.{found_in, Inside, Finds}
@@ -23,14 +22,14 @@ use Rattle.search.proofs.Searches.{found_first}
 
 -- ---- what was found, taken apart
 
-module _ {A : Type 0} {f : ℕ → A} {n : ℕ} {o : Option A} {r : Found} (k : Finds f n o r) where
-  pub finds_nothing : r ≡ Nothing → o ≡ none
+module _ {A : Type 0} {f : ℕ → A} {n : ℕ} {o : Option A} {r : Maybe ℕ} (k : Finds f n o r) where
+  pub finds_nothing : r ≡ None → o ≡ none
   finds_nothing e = sym k.is ∙ ap (found_in f) e
 
-  pub finds_at : (j : ℕ) → r ≡ At j → o ≡ some (f j)
+  pub finds_at : (j : ℕ) → r ≡ Some j → o ≡ some (f j)
   finds_at j e = sym k.is ∙ ap (found_in f) e
 
-  pub finds_inside : (j : ℕ) → r ≡ At j → j < n
+  pub finds_inside : (j : ℕ) → r ≡ Some j → j < n
   finds_inside j e = subst (Inside n) e k.inside
 
 -- ---- statements of a view
@@ -101,10 +100,10 @@ module _ (f : ℕ → Statement) (v n : ℕ) where
       ∙ ap (λ (r : Option Statement). paired (f i) r (pair (of_view v (rest i)))) e
 
   -- the rival of one statement
-  pub rival_other : (i : ℕ) → ((f i).view ≡ v → ⊥) → Finds f n (rival_in v (rest i) (f i)) Nothing
+  pub rival_other : (i : ℕ) → ((f i).view ≡ v → ⊥) → Finds f n (rival_in v (rest i) (f i)) None
   rival_other i d = record { is = sym (rival_none v (f i) (rest i) d); inside = tt }
 
-  pub rival_found : (i : ℕ) → i < n → (f i).view ≡ v → (p : Statement → Bool) → p ≡ conflict (f i) → (r : Found) → r ≡ first_from p (i + 1) (rest i)
+  pub rival_found : (i : ℕ) → i < n → (f i).view ≡ v → (p : Statement → Bool) → p ≡ conflict (f i) → (r : Maybe ℕ) → r ≡ first_from p (i + 1) (rest i)
       → Finds f n (rival_in v (rest i) (f i)) r
   rival_found i h e p q r k =
       let z : i + 1 + (n - (i + 1)) ≡ n = omega arith in

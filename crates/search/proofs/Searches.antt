@@ -8,24 +8,19 @@ use native.Mathlib.Omega.{arith}
 use Rattle.rules.specs.Lists.{first, any}
 use Rattle.laws.proofs.Tests.{by_bool}
 use Rattle.store.specs.Decode.{rows}
-use Rattle.store.specs.declared.Found.{Found}
-use Rattle.store.specs.declared.Found.TheVariants.{At, Nothing}
+use Rattle.std.specs.Prelude.{Option as Maybe, Some, None, is_some}
 use Rattle.store.proofs.Rows.{rows_whole}
 use Rattle.store.specs.Searches.{first_from}
 use Rattle.search.specs.Finds.{Finds}
 
--- whether a search found one
-abbrev pub is_at : Found → Bool
-is_at (At i) = true
-is_at Nothing = false
-
-found_any : {A : Type 0} (p : A → Bool) (i : ℕ) (xs : List A) → is_at (first_from p i xs) ≡ any p xs
+found_any : {A : Type 0} (p : A → Bool) (i : ℕ) (xs : List A) → is_some (first_from p i xs) ≡ any p xs
 unfolding any first_from
 found_any p i [] = refl
 found_any p i (x ∷ xs) = by_bool (p x) (λ q. rw (q, any)) (λ q. rw (q, any) (found_any p (suc i) xs))
 
-pub any_found : {A : Type 0} (f : ℕ → A) (p : A → Bool) (n : ℕ) {r : Found} → r ≡ first_from p 0 (rows f 0 (n - 0)) → is_at r ≡ any p (rows f 0 n)
-any_found f p n e = ap is_at (e ∙ ap (first_from p 0) (rows_whole f n 0 (omega arith))) ∙ found_any p 0 (rows f 0 n)
+-- whether a search found one
+pub any_found : {A : Type 0} (f : ℕ → A) (p : A → Bool) (n : ℕ) {r : Maybe ℕ} → r ≡ first_from p 0 (rows f 0 (n - 0)) → is_some r ≡ any p (rows f 0 n)
+any_found f p n e = ap is_some (e ∙ ap (first_from p 0) (rows_whole f n 0 (omega arith))) ∙ found_any p 0 (rows f 0 n)
 
 -- what was found is the first that matches
 module _ {A : Type 0} (f : ℕ → A) (p : A → Bool) where
@@ -37,5 +32,5 @@ module _ {A : Type 0} (f : ℕ → A) (p : A → Bool) where
       same : suc i + n ≡ i + suc n
       same = omega arith
 
-      more : {o : Option A} {r : Found} → Finds f (suc i + n) o r → Finds f (i + suc n) o r
+      more : {o : Option A} {r : Maybe ℕ} → Finds f (suc i + n) o r → Finds f (i + suc n) o r
       more {o} {r} k = subst (λ (m : ℕ). Finds f m o r) same k

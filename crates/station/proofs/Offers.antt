@@ -28,8 +28,7 @@ use Rattle.acts.proofs.Statements.{handled_stated}
 use Rattle.stops.specs.Answers.{Answers}
 use Rattle.refusals.specs.Barred.{barred}
 use Rattle.offers.specs.Offers.{offer_of}
-use Rattle.offers.specs.declared.Offer.{Offer}
-use Rattle.offers.specs.declared.Offer.TheVariants.{Taken, NotTaken}
+use Rattle.std.specs.Prelude.{Option as Maybe, Some, None}
 use Rattle.stops.proofs.Answers.{answers_is, refused_answers}
 use Rattle.refusals.proofs.Opening.{Opened, opened, lent_formed, lent_gives, barred_gives}
 
@@ -79,18 +78,18 @@ module _ (name b o : List ℕ) where
         offer_gives : {b' o' : List ℕ} {r : ℕ} → Answers (offer (be name) (state_of b)) o b' o' r → Gives (offer_called name b o) r b' o'
         offer_gives a = named (lent_gives b o opening.lent (offer (be name)) (offer_room (state_of b) (be name)) a)
 
-        module _ {y : ℕ} (w : y ≡ number name 0 32) (f : Offer) (p : offer_of f ≡ offered y (state_of b)) where
+        module _ {y : ℕ} (w : y ≡ number name 0 32) (f : Maybe code.Statement) (p : offer_of f ≡ offered y (state_of b)) where
           name_number : y ≡ be name
           name_number = w ∙ sym (be_number name ∙ ap (number name 0) l)
 
           offered_is : offer_of f ≡ offered (be name) (state_of b)
           offered_is = p ∙ ap (λ (k : ℕ). offered k (state_of b)) name_number
 
-          pub refused_offer : {r : ℕ} → f ≡ NotTaken → r ≡ 9 * 2 ^ 32 → Gives (offer_called name b o) r b o
+          pub refused_offer : {r : ℕ} → f ≡ None → r ≡ 9 * 2 ^ 32 → Gives (offer_called name b o) r b o
           refused_offer i t =
               offer_gives (answers_is (offer_refused (be name) (state_of b) opening.runs (sym (ap offer_of i) ∙ offered_is)) (refused_answers 9 offer_formed.form t o))
 
-          module _ {x : code.Statement} (i : f ≡ Taken x) where
+          module _ {x : code.Statement} (i : f ≡ Some x) where
             pub taken_sendable : y < 256 ^ 32 → Sendable (state_of b).settings (message (statement_of x none))
             taken_sendable k = offered_sendable (formed_parts offer_formed).formed y (message (statement_of x none)) k (sym p ∙ ap offer_of i)
 

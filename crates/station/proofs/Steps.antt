@@ -22,8 +22,7 @@ use Rattle.kept.proofs.Outs.{step_room}
 use Rattle.kept.proofs.Sendable.{read_sendable}
 use Rattle.wire.specs.Meaning.{message_of, read_of}
 use Rattle.wire.specs.declared.Message.{Message}
-use Rattle.wire.specs.declared.Read.{Read}
-use Rattle.wire.specs.declared.Read.TheVariants.{Readable, Unreadable}
+use Rattle.std.specs.Prelude.{Option, Some, None}
 use Rattle.store.specs.Layout.{size_in}
 use Rattle.store.specs.Decode.{state_of}
 use Rattle.store.specs.Meaning.{Loads}
@@ -91,13 +90,13 @@ module _ (bs b o : List ℕ) (h : Bytes b) {n : ℕ} (e : n ≡ barred b o) wher
     unfolding step_called
     step_gives a = lent_gives b o opening.lent (step bs) (step_room (state_of b) bs) a
 
-    module _ {q : Read} (p : read_of q ≡ read bs) where
-      pub unreadable_step : {r : ℕ} → q ≡ Unreadable → r ≡ 4 * 2 ^ 32 → Gives (step_called bs b o) r b o
+    module _ {q : Option Message} (p : read_of q ≡ read bs) where
+      pub unreadable_step : {r : ℕ} → q ≡ None → r ≡ 4 * 2 ^ 32 → Gives (step_called bs b o) r b o
       unfolding read_of
       unreadable_step i t =
           step_gives (answers_is (step_unreadable bs (state_of b) opening.runs (sym p ∙ ap read_of i)) (refused_answers 4 step_formed.form t o))
 
-      module _ {m : Message} (i : q ≡ Readable m) (s : Station) (l : Loads s b) {y : Bool} (a : y ≡ allowed (settings_of s.settings) (message_of m)) where
+      module _ {m : Message} (i : q ≡ Some m) (s : Station) (l : Loads s b) {y : Bool} (a : y ≡ allowed (settings_of s.settings) (message_of m)) where
         was_read : read bs ≡ some (message_of m)
         unfolding read_of
         was_read = sym p ∙ ap read_of i

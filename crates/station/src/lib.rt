@@ -5,10 +5,9 @@ ghost use Rattle.std.specs.Prelude.{◌≡◌};
 ghost use Rattle.fresh.specs.Fresh.{answer, freshly};
 ghost use Rattle.calls.specs.Calls.{step_called, offer_called, tick_called, Gives};
 
-use offers::Offer;
+use answer::Refusal;
 use settings::Settings;
 use store::Station;
-use wire::Read;
 
 // Makes a fresh store of whatever was in it.
 #[unsafe(no_mangle)]
@@ -23,19 +22,18 @@ pub extern "C" fn station_fresh(store: &mut [u8], n: u64, d: u64, own: u64) -> u
 pub extern "C" fn station_step(store: &mut [u8], message: &[u8], out: &mut [u8]) -> u64
     ensures { Gives (step_called message.now store.old out.old) result store.new out.new }
 {
-    let number = refusals::barred(store, out);
-    if number != 0 {
-        return stops::refuse(number);
+    if let Err(refusal) = refusals::barred(store, out) {
+        return refusal.answer();
     }
-    let Read::Readable(m) = reading::read_message(message) else {
-        return stops::refuse(4);
+    let Some(m) = reading::read_message(message) else {
+        return Refusal::Unreadable.answer();
     };
     let station = Station::load(store);
     if !allowed::message_allowed(station.settings, m) {
-        return stops::refuse(5);
+        return Refusal::NotAllowed.answer();
     }
     if messages::is_ahead(station.view, m) {
-        return stops::refuse(11);
+        return Refusal::Ahead.answer();
     }
     messages::handled(store, out, m)
 }
@@ -46,14 +44,13 @@ pub extern "C" fn station_offer(store: &mut [u8], name: &[u8], out: &mut [u8]) -
     ensures { Gives (offer_called name.now store.old out.old) result store.new out.new }
 {
     if name.len() != 32 {
-        return stops::refuse(1);
+        return Refusal::Lengths.answer();
     }
-    let number = refusals::barred(store, out);
-    if number != 0 {
-        return stops::refuse(number);
+    if let Err(refusal) = refusals::barred(store, out) {
+        return refusal.answer();
     }
-    let Offer::Taken(x) = offers::offered(store, fields::get_name(name, 0)) else {
-        return stops::refuse(9);
+    let Some(x) = offers::offered(store, fields::get_name(name, 0)) else {
+        return Refusal::NoOffer.answer();
     };
     messages::stated(store, out, x)
 }
@@ -64,9 +61,8 @@ pub extern "C" fn station_tick(store: &mut [u8], out: &mut [u8]) -> u64
     ensures { Gives (tick_called store.old out.old) result store.new out.new }
 {
     let mut told = [0u16; Settings::MOST_STATEMENTS_LARGE];
-    let number = refusals::checked(store, out, &mut told);
-    if number != 0 {
-        return stops::refuse(number);
+    if let Err(refusal) = refusals::checked(store, out, &mut told) {
+        return refusal.answer();
     }
     ticks::ticked(store, out, &told)
 }

@@ -19,18 +19,17 @@ use Rattle.rules.specs.Limits.{small}
 use Rattle.store.specs.Layout.{tally_size, tally_table, statement_table, size_in, place_of}
 use Rattle.store.specs.Decode.{rows, tally_at, tally_for, statement_at}
 use Rattle.store.specs.Searches.{pick, first_from}
-use Rattle.store.specs.declared.Found.{Found}
-use Rattle.store.specs.declared.Found.TheVariants.{At, Nothing}
+use Rattle.std.specs.Prelude.{Option, Some, None}
 use Rattle.store.proofs.Rows.{rows_from}
 
 -- ---- row by row
 
 module _ {A : Type 0} (f : ℕ → A) (p : A → Bool) (n : ℕ) where
-  pub find_none : (i : ℕ) → n ≤ i → first_from p i (rows f i (n - i)) ≡ Nothing
+  pub find_none : (i : ℕ) → n ≤ i → first_from p i (rows f i (n - i)) ≡ None
   unfolding rows first_from
   find_none i h = let e : n - i ≡ 0 = omega arith in rw e
 
-  pub find_here : (i : ℕ) → i < n → p (f i) ≡ true → first_from p i (rows f i (n - i)) ≡ At i
+  pub find_here : (i : ℕ) → i < n → p (f i) ≡ true → first_from p i (rows f i (n - i)) ≡ Some i
   unfolding first_from
   find_here i h t = rw (rows_from f i n h, t)
 
@@ -42,7 +41,7 @@ module _ {A : Type 0} (f : ℕ → A) (p : A → Bool) (n : ℕ) where
 
 module _ {A : Type 0} (f : ℕ → A) (p : A → Bool) (q : ℕ → Bool) (e : (i : ℕ) → q i ≡ p (f i)) where
   abbrev Placed : ℕ → ℕ → ℕ → Type 0
-  Placed i n j = (j < i + n → first_from p i (rows f i n) ≡ At j) × (i + n ≤ j → first_from p i (rows f i n) ≡ Nothing) × (i ≤ j)
+  Placed i n j = (j < i + n → first_from p i (rows f i n) ≡ Some j) × (i + n ≤ j → first_from p i (rows f i n) ≡ None) × (i ≤ j)
 
   placed : (i n : ℕ) → Placed i n (seek q i n)
   unfolding seek first_from rows
@@ -54,50 +53,50 @@ module _ {A : Type 0} (f : ℕ → A) (p : A → Bool) (q : ℕ → Bool) (e : (
       go false d h = ((λ l. rw (sym (e i) ∙ d) (h.0 (omega arith))), (λ l. rw (sym (e i) ∙ d) (h.1 (omega arith))), omega (arith, h.2))
 
   module _ (i end j : ℕ) (d : j ≡ seek q i (end - i)) where
-    pub placed_nowhere : end ≤ j → Nothing ≡ first_from p i (rows f i (end - i))
+    pub placed_nowhere : end ≤ j → None ≡ first_from p i (rows f i (end - i))
     placed_nowhere l = let h = placed i (end - i) in sym (h.1 (rw (← d) (omega (arith, h.2, d))))
 
-    pub placed_here : j < end → At j ≡ first_from p i (rows f i (end - i))
-    placed_here l = let h = placed i (end - i) in sym (h.0 (rw (← d) (omega arith)) ∙ ap At (sym d))
+    pub placed_here : j < end → Some j ≡ first_from p i (rows f i (end - i))
+    placed_here l = let h = placed i (end - i) in sym (h.0 (rw (← d) (omega arith)) ∙ ap Some (sym d))
 
 -- ---- what a find tells
 
 module _ {A : Type 0} (p : A → Bool) where
   -- of a search from place i on: what stands at its place, or that nothing matches
-  abbrev pub Tells : (ℕ → A) → ℕ → ℕ → Found → Type 0
-  Tells f i n Nothing = (any p (rows f i n) ≡ false) × (first p (rows f i n) ≡ none)
-  Tells f i n (At j) = (i ≤ j) × (j < i + n) × (p (f j) ≡ true) × (any p (rows f i n) ≡ true) × (first p (rows f i n) ≡ some (f j))
+  abbrev pub Tells : (ℕ → A) → ℕ → ℕ → Option ℕ → Type 0
+  Tells f i n None = (any p (rows f i n) ≡ false) × (first p (rows f i n) ≡ none)
+  Tells f i n (Some j) = (i ≤ j) × (j < i + n) × (p (f j) ≡ true) × (any p (rows f i n) ≡ true) × (first p (rows f i n) ≡ some (f j))
 
   pub tells : (f : ℕ → A) (i n : ℕ) → Tells f i n (first_from p i (rows f i n))
   unfolding first_from rows any first
   tells f i zero = (refl, refl)
   tells f i (suc n) = go (p (f i)) (first_from p (suc i) (rows f (suc i) n)) refl (tells f (suc i) n)
     where
-      go : (b : Bool) (r : Found) → p (f i) ≡ b → Tells f (suc i) n r → Tells f i (suc n) (pick b (At i) r)
+      go : (b : Bool) (r : Option ℕ) → p (f i) ≡ b → Tells f (suc i) n r → Tells f i (suc n) (pick b (Some i) r)
       go true r e h = (omega arith, omega arith, e, rw (e, any), rw (e, first))
-      go false Nothing e h = (rw (e, any) h.0, rw (e, first) h.1)
-      go false (At j) e h = (omega (arith, h.0), omega (arith, h.1), h.2, rw (e, any) h.3, rw (e, first) h.4)
+      go false None e h = (rw (e, any) h.0, rw (e, first) h.1)
+      go false (Some j) e h = (omega (arith, h.0), omega (arith, h.1), h.2, rw (e, any) h.3, rw (e, first) h.4)
 
-  module _ (f : ℕ → A) (n : ℕ) (r : Found) (e : r ≡ first_from p 0 (rows f 0 n)) where
+  module _ (f : ℕ → A) (n : ℕ) (r : Option ℕ) (e : r ≡ first_from p 0 (rows f 0 n)) where
     told : Tells f 0 n r
     told = subst (Tells f 0 n) (sym e) (tells f 0 n)
 
-    pub found_within : (j : ℕ) → r ≡ At j → j < n
+    pub found_within : (j : ℕ) → r ≡ Some j → j < n
     found_within j q = omega (arith, (subst (Tells f 0 n) q told).1)
 
-    pub found_matches : (j : ℕ) → r ≡ At j → p (f j) ≡ true
+    pub found_matches : (j : ℕ) → r ≡ Some j → p (f j) ≡ true
     found_matches j q = (subst (Tells f 0 n) q told).2
 
-    pub found_any : (j : ℕ) → r ≡ At j → any p (rows f 0 n) ≡ true
+    pub found_any : (j : ℕ) → r ≡ Some j → any p (rows f 0 n) ≡ true
     found_any j q = (subst (Tells f 0 n) q told).3
 
-    pub found_first : (j : ℕ) → r ≡ At j → first p (rows f 0 n) ≡ some (f j)
+    pub found_first : (j : ℕ) → r ≡ Some j → first p (rows f 0 n) ≡ some (f j)
     found_first j q = (subst (Tells f 0 n) q told).4
 
-    pub missing_any : r ≡ Nothing → any p (rows f 0 n) ≡ false
+    pub missing_any : r ≡ None → any p (rows f 0 n) ≡ false
     missing_any q = (subst (Tells f 0 n) q told).0
 
-    pub missing_first : r ≡ Nothing → first p (rows f 0 n) ≡ none
+    pub missing_first : r ≡ None → first p (rows f 0 n) ≡ none
     missing_first q = (subst (Tells f 0 n) q told).1
 
 -- ---- view and height as one number

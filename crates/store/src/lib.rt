@@ -14,6 +14,7 @@ ghost use Rattle.words.specs.Meaning.{block_of};
 ghost use Rattle.store.specs.Layout.{certificate_format, header_size, certificate_size, tally_size, tally_table, log_table, blame_base, store_length, size_in, place_of};
 ghost use Rattle.store.specs.Decode.{phase_of, certificate_from, statement_at, tally_at, opener_at, since_at, blame_at, name_at, kind_at, vote_at, rows, statements, tallies, Form};
 ghost use Rattle.store.specs.Meaning.{course_of, Loads};
+ghost use Rattle.tallies.specs.Values.{told, vote_of, opener_of, reached_from};
 ghost use Rattle.tallies.specs.Meaning.{tally_of};
 ghost use Rattle.store.specs.Searches.{first_from, block_at};
 
@@ -125,13 +126,6 @@ pub struct Station {
     pub statements: usize,
     pub tallies: usize,
     pub logged: usize,
-}
-
-// The place of the first record that matches.
-#[derive(Clone, Copy)]
-pub enum Found {
-    At(usize),
-    Nothing,
 }
 
 // The limits that a store is made for: its length says which.
@@ -303,31 +297,28 @@ pub fn tally_at(store: &[u8], i: usize) -> Tally
     let block = get_certificate(store, tally_place(store, i));
     let opener = opener_at(store, i);
     let reached = reached_at(store, i);
-    let name = block.name;
     Tally {
-        view: block.view,
-        height: block.height,
-        name,
-        mask: block.mask,
+        block,
         opener,
         reached,
     }
 }
 
-// Who opened tally i: 0 nobody, else one more than the author of the vote that did.
-pub fn opener_at(store: &[u8], i: usize) -> u8
+// The author of the vote that opened tally i, if one did: its number is one more.
+pub fn opener_at(store: &[u8], i: usize) -> Option<u8>
     requires { (length store.now ≡ store_length (size_in store.now)) × (i < most_tallies (size_in store.now)) }
-    ensures { result ≡ opener_at store.now i }
+    ensures { told result ≡ opener_of (opener_at store.now i) }
 {
-    fields::get(store, tally_place(store, i) + OPENER, 1) as u8
+    let number = fields::get(store, tally_place(store, i) + OPENER, 1) as u8;
+    number.checked_sub(1)
 }
 
-// When tally i first had a quorum: 0 not yet, else one more than the clock.
-pub fn reached_at(store: &[u8], i: usize) -> u32
+// The clock at which tally i first had a quorum, if it had one: its number is one more.
+pub fn reached_at(store: &[u8], i: usize) -> Option<u32>
     requires { (length store.now ≡ store_length (size_in store.now)) × (i < most_tallies (size_in store.now)) }
-    ensures { result ≡ since_at store.now i }
+    ensures { told result ≡ reached_from (since_at store.now i) }
 {
-    get_four(store, tally_place(store, i) + REACHED)
+    get_four(store, tally_place(store, i) + REACHED).checked_sub(1)
 }
 
 // The kind of statement i, as on the wire: 1 new-view, 2 propose.
@@ -370,12 +361,12 @@ pub fn height_at(store: &[u8], i: usize) -> u32
     get_four(store, STATEMENTS + STATEMENT_SIZE * i + HEIGHT)
 }
 
-// The number of the own vote for statement i: 0, or one more than its clock.
-pub fn voted_at(store: &[u8], i: usize) -> u32
+// The clock of the own vote for statement i, if there is one: its number is one more.
+pub fn voted_at(store: &[u8], i: usize) -> Option<u32>
     requires { (length store.now ≡ store_length (size_in store.now)) × (i < most_statements (size_in store.now)) }
-    ensures { result ≡ vote_at store.now i }
+    ensures { told result ≡ vote_of (vote_at store.now i) }
 {
-    get_four(store, STATEMENTS + STATEMENT_SIZE * i + VOTE)
+    get_four(store, STATEMENTS + STATEMENT_SIZE * i + VOTE).checked_sub(1)
 }
 
 // The blame mask of view i + 1.
@@ -402,7 +393,7 @@ fn key_of(view: u32, height: u32) -> u64
 }
 
 // The place of the first tally of this block, from one place up to another.
-pub fn seek_tally(store: &[u8], from: usize, end: usize, block: Certificate) -> Found
+pub fn seek_tally(store: &[u8], from: usize, end: usize, block: Certificate) -> Option<usize>
     requires { (length store.now ≡ store_length (size_in store.now)) × (end ≤ most_tallies (size_in store.now)) }
     ensures { result ≡ first_from (of_block (block_of block)) from (rows (tally_at store.now) from (end - from)) }
 {
@@ -410,13 +401,13 @@ pub fn seek_tally(store: &[u8], from: usize, end: usize, block: Certificate) -> 
     let key = key_of(block.view, block.height);
     let i = lookup::first(store, base, TALLY_SIZE, from, end, key, block.name);
     if end <= i {
-        return Found::Nothing;
+        return None;
     }
-    Found::At(i)
+    Some(i)
 }
 
 // The place of the first tally of this block.
-pub fn find_tally(store: &[u8], block: Certificate) -> Found
+pub fn find_tally(store: &[u8], block: Certificate) -> Option<usize>
     requires { Form store.now }
     ensures { result ≡ block_at (block_of block) (tallies store.now) }
 {
@@ -434,29 +425,30 @@ pub fn is_statement(store: &[u8], i: usize, statement: Statement) -> bool
         return false;
     }
     let other = statement_at(store, i);
-    let linked = statement.link.same(other.link);
+    let linked = statement.link == other.link;
     let written = (statement.author == other.author) & linked;
     (statement.is_new_view == other.is_new_view) & written
 }
 
 // The place of the first statement that is the same. Of one of another view or height no more than these is looked at.
-pub fn find_statement(store: &[u8], statement: Statement) -> Found
+pub fn find_statement(store: &[u8], statement: Statement) -> Option<usize>
     requires { Form store.now }
     ensures { result ≡ first_from (same_statement (statement_of statement none)) 0 (statements store.now) }
 {
     let count = get_count(store, STATEMENT_COUNT);
     let key = key_of(statement.view, statement.height);
     let mut i: usize = 0;
+    // No `for`: the form of a search is a loop that yields the place by break (docs/RULES.md).
     loop {
         if count <= i {
-            break Found::Nothing;
+            break None;
         }
         if fields::get(store, STATEMENTS + STATEMENT_SIZE * i, 8) != key {
             i += 1;
             continue;
         }
         if is_statement(store, i, statement) {
-            break Found::At(i);
+            break Some(i);
         }
         i += 1;
     }

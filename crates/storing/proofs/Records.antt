@@ -17,8 +17,7 @@ use Rattle.store.specs.Decode.{statement_at, tally_at, statements, tallies, stat
 use Rattle.store.specs.Searches.{block_at}
 use Rattle.tallies.specs.Meaning.{with_voters}
 use Rattle.joining.specs.Changes.{certifying}
-use Rattle.store.specs.declared.Found.{Found}
-use Rattle.store.specs.declared.Found.TheVariants.{At, Nothing}
+use Rattle.std.specs.Prelude.{Option, Some, None}
 use Rattle.joining.proofs.Joining.{certificate_joins}
 use Rattle.store.proofs.Rows.{rows_length}
 use Rattle.store.proofs.Forms.{form_statements}
@@ -38,7 +37,7 @@ count_tallies b = rows_length (tally_at b) 0 (count_of tally_table b)
 -- ---- a tally
 
 module _ (t : Certificate) where
-  pub certified_genesis : (us : List Tally) → t.view ≡ 0 → Nothing ≡ certified_at t us
+  pub certified_genesis : (us : List Tally) → t.view ≡ 0 → None ≡ certified_at t us
   unfolding certified_at
   certified_genesis us q = rw (eq-eqb t.view 0 q, certified_at)
 
@@ -46,31 +45,31 @@ module _ (t : Certificate) where
   unfolding certified_at
   certified_block us d = rw (ne_eqb t.view 0 d, certified_at)
 
-  pub needed_genesis : (r : Found) → t.view ≡ 0 → 0 ≡ needed t r
+  pub needed_genesis : (r : Option ℕ) → t.view ≡ 0 → 0 ≡ needed t r
   unfolding needed
   needed_genesis r q = rw (eq-eqb t.view 0 q, needed)
 
-  pub needed_none : (r : Found) → (t.view ≡ 0 → ⊥) → (j : ℕ) → r ≡ At j → 0 ≡ needed t r
+  pub needed_none : (r : Option ℕ) → (t.view ≡ 0 → ⊥) → (j : ℕ) → r ≡ Some j → 0 ≡ needed t r
   unfolding needed
   needed_none r d j e = sym (ap (needed t) e ∙ rw (ne_eqb t.view 0 d, needed))
 
-  pub needed_one : (r : Found) → (t.view ≡ 0 → ⊥) → r ≡ Nothing → 1 ≡ needed t r
+  pub needed_one : (r : Option ℕ) → (t.view ≡ 0 → ⊥) → r ≡ None → 1 ≡ needed t r
   unfolding needed
   needed_one r d e = sym (ap (needed t) e ∙ rw (ne_eqb t.view 0 d, needed))
 
-  pub needed_few : (r : Found) → needed t r ≤ 1
+  pub needed_few : (r : Option ℕ) → needed t r ≤ 1
   unfolding needed
-  needed_few Nothing = by_bool (eqb t.view 0) (λ q. rw (q, needed) (omega arith)) (λ q. rw (q, needed) (omega arith))
-  needed_few (At j) = by_bool (eqb t.view 0) (λ q. rw (q, needed) (omega arith)) (λ q. rw (q, needed) (omega arith))
+  needed_few None = by_bool (eqb t.view 0) (λ q. rw (q, needed) (omega arith)) (λ q. rw (q, needed) (omega arith))
+  needed_few (Some j) = by_bool (eqb t.view 0) (λ q. rw (q, needed) (omega arith)) (λ q. rw (q, needed) (omega arith))
 
   -- a block that is joined adds what it needs
-  module _ (k : Moment) (us : List Tally) (r : Found) where
+  module _ (k : Moment) (us : List Tally) (r : Option ℕ) where
     pub block_adds : (t.view ≡ 0 → ⊥) → r ≡ block_at t us → length us + needed t r ≡ length (join k t us)
     block_adds d e = go r refl
       where
-        go : (p : Found) → r ≡ p → length us + needed t r ≡ length (join k t us)
-        go Nothing q = omega (arith, needed_one r d q, subst (Adds k t us) (sym e ∙ q) (adds k t 0 us))
-        go (At j) q = omega (arith, needed_none r d j q, subst (Adds k t us) (sym e ∙ q) (adds k t 0 us))
+        go : (p : Option ℕ) → r ≡ p → length us + needed t r ≡ length (join k t us)
+        go None q = omega (arith, needed_one r d q, subst (Adds k t us) (sym e ∙ q) (adds k t 0 us))
+        go (Some j) q = omega (arith, needed_none r d j q, subst (Adds k t us) (sym e ∙ q) (adds k t 0 us))
 
     pub certificate_adds : r ≡ certified_at t us → length us + needed t r ≡ length (join_certificate k t us)
     unfolding join_certificate
@@ -85,11 +84,11 @@ certified_apart : (m : ℕ) (t : Certificate) (us : List Tally) → certified_at
 unfolding certified_at same_block
 certified_apart m t us = refl
 
-needed_apart : (m : ℕ) (t : Certificate) (r : Found) → needed (with_voters m t) r ≡ needed t r
+needed_apart : (m : ℕ) (t : Certificate) (r : Option ℕ) → needed (with_voters m t) r ≡ needed t r
 unfolding needed
 needed_apart m t r = refl
 
-module _ {b : List ℕ} (f : Form b) (o : Opener) (u : Certificate) (m : ℕ) (r : Found) (e : r ≡ certified_at u (tallies b)) (k : ℕ) (d : k ≡ count_of tally_table b + needed u r) where
+module _ {b : List ℕ} (f : Form b) (o : Opener) (u : Certificate) (m : ℕ) (r : Option ℕ) (e : r ≡ certified_at u (tallies b)) (k : ℕ) (d : k ≡ count_of tally_table b + needed u r) where
   abbrev t : Certificate
   t = with_voters m u
 

@@ -20,8 +20,7 @@ use Rattle.laws.proofs.Tests.{by_bool, no_bool, eqb_self}
 use Rattle.laws.proofs.Truths.{and_2, and_6}
 use Rattle.laws.proofs.Allowed.{allowed_rights}
 use Rattle.store.specs.Searches.{pick, first_from, block_at}
-use Rattle.store.specs.declared.Found.{Found}
-use Rattle.store.specs.declared.Found.TheVariants.{At, Nothing}
+use Rattle.std.specs.Prelude.{Option as Maybe, Some, None}
 use Rattle.kept.specs.Parts.{Formed}
 use Rattle.kept.specs.Said.{Sendable}
 use Rattle.kept.proofs.Lists.{all_mem, any_find, any_cong}
@@ -57,26 +56,26 @@ module _ (k : Moment) (t : Certificate) where
   there_length (u ∷ us) h = by_bool (of_block t u) (λ q. rw (q, join)) (λ q. rw (q, join) (ap suc (there_length us (rw (q, any) at h))))
 
   -- by its place: none is added where it is there, else one
-  abbrev pub Adds : List Tally → Found → Type 0
-  Adds us Nothing = length (join k t us) ≡ suc (length us)
-  Adds us (At j) = length (join k t us) ≡ length us
+  abbrev pub Adds : List Tally → Maybe ℕ → Type 0
+  Adds us None = length (join k t us) ≡ suc (length us)
+  Adds us (Some j) = length (join k t us) ≡ length us
 
   pub adds : (i : ℕ) (us : List Tally) → Adds us (first_from (of_block t) i us)
   unfolding first_from join
   adds i [] = refl
   adds i (u ∷ us) = go (of_block t u) (first_from (of_block t) (suc i) us) refl (adds (suc i) us)
     where
-      go : (b : Bool) (r : Found) → of_block t u ≡ b → Adds us r → Adds (u ∷ us) (pick b (At i) r)
+      go : (b : Bool) (r : Maybe ℕ) → of_block t u ≡ b → Adds us r → Adds (u ∷ us) (pick b (Some i) r)
       go true r e h = rw (e, join)
-      go false Nothing e h = rw (e, join) (ap suc h)
-      go false (At j) e h = rw (e, join) (ap suc h)
+      go false None e h = rw (e, join) (ap suc h)
+      go false (Some j) e h = rw (e, join) (ap suc h)
 
   pub join_grows : (us : List Tally) → length us ≤ length (join k t us)
   join_grows us = go (block_at t us) (adds 0 us)
     where
-      go : (r : Found) → Adds us r → length us ≤ length (join k t us)
-      go Nothing h = omega arith
-      go (At j) h = omega arith
+      go : (r : Maybe ℕ) → Adds us r → length us ≤ length (join k t us)
+      go None h = omega arith
+      go (Some j) h = omega arith
 
   -- other blocks stay where they are
   join_others : (x : Certificate) (i : ℕ) (us : List Tally) → same_block x t ≡ false → first_from (of_block x) i (join k t us) ≡ first_from (of_block x) i us

@@ -15,7 +15,7 @@ use Rattle.store.specs.Decode.{statements, tallies, state_from, state_of, Left}
 use Rattle.store.specs.Searches.{block_at}
 use Rattle.joining.specs.Changes.{joining, Joined, certifying}
 use Rattle.records.specs.Changes.{storing}
-use Rattle.store.specs.declared.Found.{Found}
+use Rattle.std.specs.Prelude.{Option}
 use Rattle.kept.specs.Said.{Sendable}
 use Rattle.laws.proofs.Allowed.{view_within}
 use Rattle.kept.proofs.Statements.{stated}
@@ -37,7 +37,7 @@ voter_block x m e = ap (with_voters m) e
 -- ---- a new one, with its certificate t and its own block u
 
 module _ (b : List ℕ) (x : Statement) (m : Sendable (state_of b).settings (message x)) (t u : Certificate) (et : t ≡ certificate x) (eu : u ≡ own_block x 0) where
-  module _ (q : Found) (eq : q ≡ block_at u (tallies b)) where
+  module _ (q : Option ℕ) (eq : q ≡ block_at u (tallies b)) where
     -- the certificate leaves its own block's tally where it is
     pub own_stays : q ≡ block_at u (join_certificate (moment none (state_of b)) t (tallies b))
     own_stays = eq ∙ sym (certificate_others (moment none (state_of b)) t (tallies b) u (rw (et, eu) (own_differs (state_of b).settings x m)))
@@ -48,7 +48,7 @@ module _ (b : List ℕ) (x : Statement) (m : Sendable (state_of b).settings (mes
 
   -- ---- it is stored
 
-  module _ {p q : Found} (k : Newly x (state_of b) p q) where
+  module _ {p q : Option ℕ} (k : Newly x (state_of b) p q) where
     few : (length (state_of b).statements < most_statements (size_in b)) × (length (join (moment none (state_of b)) u (join_certificate (moment none (state_of b)) t (state_of b).tallies)) ≤ most_tallies (size_in b))
     unfolding stored with_tables state_of state_from
     few =

@@ -6,7 +6,7 @@ use Rattle.rules.specs.Limits.{mask_bits}
 use Rattle.rules.specs.Sizes.{only}
 use Rattle.rules.specs.Words as words
 use Rattle.settings.specs.Made.{settings_of}
-use Rattle.tallies.specs.Values.{opener_of, reached_from}
+use Rattle.tallies.specs.Values.{told}
 use Rattle.tallies.specs.declared.Tally.{Tally}
 use Rattle.tallies.specs.declared.Moment.{Moment}
 use Rattle.tallies.specs.declared.Voters.{Voters}
@@ -15,11 +15,11 @@ use Rattle.tallies.specs.declared.Voters.TheVariants.{One, Mask}
 -- a record of the table
 unfoldable pub tally_of : Tally → words.Tally
 unfolding name_of
-tally_of t = record { view = t.view; height = t.height; name = name_of t.name; mask = t.mask; opener = opener_of t.opener; reached = reached_from t.reached }
+tally_of t = record { view = t.block.view; height = t.block.height; name = name_of t.block.name; mask = t.block.mask; opener = told t.opener; reached = told t.reached }
 
 -- what a joining is told
 unfoldable pub moment_of : Moment → words.Moment
-moment_of k = record { settings = settings_of k.settings; clock = k.clock; opener = opener_of k.opener }
+moment_of k = record { settings = settings_of k.settings; clock = k.clock; opener = told k.opener }
 
 -- who joins a tally, as a mask; one voter is a station that a mask has a bit for
 abbrev pub voters_of : Voters → ℕ

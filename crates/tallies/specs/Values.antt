@@ -1,7 +1,12 @@
--- The number that stands for what may be missing: 0 for nothing, else one more. Assumes nothing.
-use Rattle.std.specs.Prelude.{ℕ, zero, suc}
+-- What may be missing: the code's value, and the number that stands for it in a record, 0 for nothing, else one more. Assumes nothing.
+use Rattle.std.specs.Prelude.{ℕ, zero, suc, Option as Told, Some, None}
 use Rattle.std.proofs.Math.Option.{Option, none, some}
 use Rattle.rules.specs.Words.{Opener}
+
+-- the code's value, in the words of the rules
+abbrev pub told : Told ℕ → Option ℕ
+told None = none
+told (Some c) = some c
 
 -- 0 not voted for; else one more than the clock of the vote
 abbrev pub vote_of : ℕ → Option ℕ

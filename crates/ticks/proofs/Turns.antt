@@ -20,8 +20,7 @@ use Rattle.store.specs.declared.Station.{Station}
 use Rattle.store.proofs.Loaded.{loaded_clock}
 use Rattle.kept.proofs.Facts.{clocks_of}
 use Rattle.commit.specs.Outcome.{tick_log, Gained, Committed}
-use Rattle.merging.specs.declared.Merged.{Merged}
-use Rattle.merging.specs.declared.Merged.TheVariants.{Grown}
+use Rattle.std.specs.Prelude.{Option as Maybe, Some}
 use Rattle.acts.specs.Works.{Formed, Works}
 use Rattle.acts.proofs.Works.{formed_parts}
 use Rattle.reports.specs.Gains.{grown_log}
@@ -33,7 +32,7 @@ use Rattle.stops.proofs.Stops.{room_answers, full_answers}
 
 -- ---- what the commits answer
 
-pub gained_by : {b t : List ℕ} {r : Merged} {n : ℕ} → Committed b t r → r ≡ Grown n → Gained b t n
+pub gained_by : {b t : List ℕ} {r : Maybe ℕ} {n : ℕ} → Committed b t r → r ≡ Some n → Gained b t n
 gained_by {b} {t} g e = subst (Committed b t) e g
 
 -- ---- the rule

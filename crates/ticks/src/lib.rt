@@ -13,8 +13,8 @@ ghost use Rattle.stops.specs.Answers.{Answers};
 ghost use Rattle.moves.specs.Turns.{Calmly};
 ghost use Rattle.ticks.specs.Decided.{Running};
 
+use answer::Refusal;
 use glance::Glance;
-use merging::Merged;
 use settings::Settings;
 use store::{Cause, Station};
 
@@ -31,16 +31,15 @@ fn busy(
     ensures { Answers (tick (state_of store.old)) out.old store.new out.new result }
 {
     let mut gained = [0u16; Settings::MOST_STATEMENTS_LARGE];
-    let merged = commit::commits(store, station, told, glance.settled, &mut gained);
-    let Merged::Grown(len) = merged else {
-        return stops::stop(store, 7, Cause::Split);
+    let Some(len) = commit::commits(store, station, told, glance.settled, &mut gained) else {
+        return stops::stop(store, Refusal::Split, Cause::Split);
     };
     let clock = station.clock + 1;
     if calm {
         return moves::growing(store, out, clock, &gained, len) as u64;
     }
     if !moves::next_fits(store, station) {
-        return stops::stop(store, 6, Cause::Full);
+        return stops::stop(store, Refusal::Full, Cause::Full);
     }
     moves::turning(store, out, clock, &gained, len, glance.votes) as u64
 }
@@ -56,10 +55,10 @@ pub fn ticked(
 {
     let station = Station::load(store);
     if !stops::is_running(store, station) {
-        return stops::refuse(3);
+        return Refusal::Stopped.answer();
     }
     if station.clock as u64 == Settings::LAST_CLOCK {
-        return stops::stop(store, 8, Cause::Clock);
+        return stops::stop(store, Refusal::Clock, Cause::Clock);
     }
     let glance = glance::look(store, station, told);
     let calm = moves::is_calm(store, station, glance.votes);

@@ -23,8 +23,7 @@ use Rattle.store.proofs.Rows.{rows_length}
 use Rattle.search.specs.Finds.{pair_in, InsideBoth, FindsBoth}
 use Rattle.search.specs.Lookups.{of_view}
 use Rattle.orders.specs.Orders.{turn, standing, InOrder}
-use Rattle.search.specs.declared.Pair.{Pair}
-use Rattle.search.specs.declared.Pair.TheVariants.{At, Nothing}
+use Rattle.std.specs.Prelude.{Option as Maybe, Some, None}
 use Rattle.search.proofs.Statements.{current_is}
 use Rattle.kept.proofs.Lists.{keep_length, sorted_length}
 use Rattle.kept.proofs.Phases.{entering_formed}
@@ -95,15 +94,15 @@ module _ {b : List ℕ} (k : Formed b) (s : Station) (e : Loads s b) where
         → Works (arrive S) o at b' o' r
     arrives_full q w = works_is (ap (λ (v : ℕ). quit (to_all (blame_set v (blames_of v S)) ∷ []) S) view_is ∙ arrive_full S (sym full_is ∙ q)) w
 
-    module _ (not_full : full ≡ false) (p : Pair) (f : FindsBoth (statement_at b) n (pair (of_view s.view (statements b))) p) where
+    module _ (not_full : full ≡ false) (p : Maybe (ℕ × ℕ)) (f : FindsBoth (statement_at b) n (pair (of_view s.view (statements b))) p) where
       pair_is : pair_in (statement_at b) p ≡ pair (current S)
       unfolding state_of state_from
       pair_is = f.is ∙ ap (λ (v : ℕ). pair (of_view v (statements b))) view_is ∙ ap pair (sym (current_is S))
 
-      pub pair_inside : (i j : ℕ) → p ≡ At i j → (i < n) × (j < n)
+      pub pair_inside : (i j : ℕ) → p ≡ Some (i, j) → (i < n) × (j < n)
       pair_inside i j q = subst (InsideBoth n) q f.inside
 
-      pub arrives_pair : {b' o o' : List ℕ} {at r : ℕ} (i j : ℕ) → p ≡ At i j → (x y : code.Statement) → statement_of x (statement_at b i).voted ≡ statement_at b i
+      pub arrives_pair : {b' o o' : List ℕ} {at r : ℕ} (i j : ℕ) → p ≡ Some (i, j) → (x y : code.Statement) → statement_of x (statement_at b i).voted ≡ statement_at b i
           → statement_of y (statement_at b j).voted ≡ statement_at b j
           → Works (quit (to_all (message (statement_of x none)) ∷ to_all (message (statement_of y none)) ∷ []) S) o at b' o' r → Works (arrive S) o at b' o' r
       arrives_pair i j q x y ex ey w =
@@ -113,7 +112,7 @@ module _ {b : List ℕ} (k : Formed b) (s : Station) (e : Loads s b) where
           (ap₂ (λ (m m' : Message). quit (to_all m ∷ to_all m' ∷ []) S) (read_message k i x d.0 ex) (read_message k j y d.1 ey)
           ∙ arrive_pair S (sym full_is ∙ not_full) (statement_at b i) (statement_at b j) o) w
 
-      pub arrives_votes : {b' o o' : List ℕ} {at r : ℕ} (order : List ℕ) (m : ℕ) → p ≡ Nothing → InOrder b s.view order m
+      pub arrives_votes : {b' o o' : List ℕ} {at r : ℕ} (order : List ℕ) (m : ℕ) → p ≡ None → InOrder b s.view order m
           → Works (voting_all (rows (standing b order) 0 m) S) o at b' o' r → Works (arrive S) o at b' o' r
       unfolding state_of state_from
       arrives_votes order m q i w =

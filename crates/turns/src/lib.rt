@@ -16,7 +16,6 @@ ghost use Rattle.acts.specs.Works.{Formed, Works};
 ghost use Rattle.turns.specs.Ballots.{Listed};
 
 use fields::Name;
-use search::Pair;
 use settings::Settings;
 use store::Station;
 use wire::{Message, Statement};
@@ -109,14 +108,12 @@ fn vote_in_order(store: &mut [u8], out: &mut [u8], at: usize, order: &[u16], cou
     requires { Listed store.old order.now count at (length out.old) }
     ensures { Works (inputs.voting_all (rows (standing store.old order.now) 0 count) (state_of store.old)) out.old at store.new out.new result }
 {
-    let mut j: usize = 0;
     let mut next = at;
-    while j < count {
-        let place = order[j] as usize;
+    for j in 0..count {
+        let place = usize::from(order[j]);
         let x = store::statement_at(store, place);
         let tally = store::find_tally(store, words::own_block(x, 0));
         next = ballots::voting(store, out, next, place, x, tally);
-        j += 1;
     }
     next
 }
@@ -132,12 +129,12 @@ fn arrive(store: &mut [u8], out: &mut [u8], at: usize, order: &mut [u16]) -> usi
         return acts::quit_with_set(store, out, at, view);
     }
     match search::find_pair(store, view) {
-        Pair::At(i, j) => {
+        Some((i, j)) => {
             let earlier = store::statement_at(store, i);
             let later = store::statement_at(store, j);
             acts::quit_with_pair(store, out, at, earlier, later)
         }
-        Pair::Nothing => {
+        None => {
             let count = orders::in_order(store, view, order);
             vote_in_order(store, out, at, order, count)
         }

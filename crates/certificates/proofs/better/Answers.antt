@@ -21,7 +21,7 @@ pub returns-then-not-quorum : goal.returns-then-not-quorum
 unfolding block_of
 returns-then-not-quorum c =
     let a = c.args in
-    chosen_few (settings_of a.settings) a.view (block_of a.block) (block_of a.best) (sym c.quorum.ensures ∙ c.if-not-quorum.true)
+    chosen_few (settings_of a.settings) a.view (block_of a.block) (block_of a.best) (sym (simp c.from.ensures at c.quorum.ensures) ∙ c.if-not-quorum.true)
 
 pub returns : goal.returns
 unfolding block_of
@@ -29,4 +29,4 @@ returns c =
     let a = c.args in
     let if1 = c.if-view-block in
     let higher = c.higher in let if2 = c.if-not-higher in
-    chosen_here (settings_of a.settings) a.view (block_of a.block) (block_of a.best) if1.false (sym c.quorum.ensures ∙ c.if-not-quorum.false) (sym higher.ensures ∙ if2.false)
+    chosen_here (settings_of a.settings) a.view (block_of a.block) (block_of a.best) if1.false (sym (simp c.from.ensures at c.quorum.ensures) ∙ c.if-not-quorum.false) (sym higher.ensures ∙ if2.false)

@@ -5,6 +5,7 @@ use Rattle.store.proofs.Loaded.{loaded_settings, loaded_tallies}
 use Rattle.store.specs.Decode.{tally_at, tallies, state_of}
 use Rattle.store.specs.Layout.{tally_table, count_of}
 use Rattle.words.specs.Meaning.{block_of}
+use Rattle.tallies.specs.Meaning.{tally_of}
 use Rattle.settings.specs.Made.{settings_of}
 use Rattle.rules.specs.Words.{certificate_of}
 use native.Mathlib.Omega.{arith}
@@ -27,17 +28,9 @@ loop-i-init c =
     let e = loaded_tallies c.load-station.result b c.load-station.ensures in
     (omega (arith, e), c.genesis-best.ensures ∙ highest_none (state_of b).settings a.view (tally_at b) (count_of tally_table b) c.load-station.result.tallies (omega (arith, e)))
 
-pub overflow_sub-i : goal.overflow_sub-i
-overflow_sub-i c =
-    c.loop-i-test.true
-
 pub ranks_below-requires : goal.ranks_below-requires
 ranks_below-requires c =
     (long c.requires, omega (arith, few_tallies_lem c.requires, c.loop-i.invariant.0))
-
-pub loop-i-smaller-then-ranks_below : goal.loop-i-smaller-then-ranks_below
-loop-i-smaller-then-ranks_below c =
-    omega arith
 
 pub loop-i-preserved-then-ranks_below : goal.loop-i-preserved-then-ranks_below
 loop-i-preserved-then-ranks_below c =
@@ -52,27 +45,20 @@ pub tally_at-tally-requires : goal.tally_at-tally-requires
 tally_at-tally-requires c =
     (long c.requires, omega (arith, few_tallies_lem c.requires, c.loop-i.invariant.0))
 
-pub certificate-requires : goal.certificate-requires
-certificate-requires c =
-    tt
-
 pub better-best-requires : goal.better-best-requires
 better-best-requires c =
     tt
 
-pub loop-i-smaller : goal.loop-i-smaller
-loop-i-smaller c =
-    omega arith
-
 pub loop-i-preserved : goal.loop-i-preserved
+unfolding tally_of block_of
 loop-i-preserved c =
     let a = c.args in
     let loaded = c.load-station in
     let l = c.loop-i in
     let loop-test = c.loop-i-test in
     let b = a.store.now in
-    let tally = c.certificate.ensures ∙ ap certificate_of c.tally_at-tally.ensures in
-    (omega (arith, l.invariant.0), highest_step (state_of b).settings a.view (tally_at b) (count_of tally_table b) l.i loop-test.true l.invariant.0 (settings_of loaded.result.settings) (block_of c.certificate.result) (block_of l.best) (block_of c.better-best.result) (loaded_settings loaded.result b loaded.ensures) tally l.invariant.1 c.better-best.ensures)
+    let tally = ap certificate_of c.tally_at-tally.ensures in
+    (omega (arith, l.invariant.0), highest_step (state_of b).settings a.view (tally_at b) (count_of tally_table b) l.i loop-test.true l.invariant.0 (settings_of loaded.result.settings) (block_of c.tally_at-tally.result.block) (block_of l.best) (block_of c.better-best.result) (loaded_settings loaded.result b loaded.ensures) tally l.invariant.1 c.better-best.ensures)
 
 pub returns : goal.returns
 unfolding tallies

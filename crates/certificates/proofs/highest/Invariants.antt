@@ -10,7 +10,3 @@ use Rattle.certificates.proofs.highest.Given as goal
 abbrev pub invariant-loop-i : goal.invariant-loop-i
 invariant-loop-i l =
     (l.i ≤ count_of tally_table l.store) × (block_of l.best ≡ words.highest (state_of l.store).settings l.view (rows (tally_at l.store) l.i (count_of tally_table l.store - l.i)))
-
-abbrev pub decreases-loop-i : goal.decreases-loop-i
-decreases-loop-i l =
-    l.i

@@ -9,6 +9,3 @@ use Rattle.certificates.proofs.opened_by.Given as goal
 abbrev pub invariant-loop-i : goal.invariant-loop-i
 invariant-loop-i l =
     (l.i ≤ count_of tally_table l.store) × (l.opened ≡ opened_by l.author (rows (tally_at l.store) l.i (count_of tally_table l.store - l.i)))
-
-abbrev pub decreases-loop-i : goal.decreases-loop-i
-decreases-loop-i l = l.i

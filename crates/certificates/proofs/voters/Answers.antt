@@ -11,21 +11,21 @@ use Rattle.store.proofs.Counts.{long, few_tallies_lem}
 use Rattle.certificates.proofs.Masks.{mask_of, voters_first}
 use Rattle.certificates.proofs.voters.Goals as goal
 
-pub tally_at-t-requires : goal.tally_at-t-requires
+pub tally_at-requires : goal.tally_at-requires
 unfolding tallies
-tally_at-t-requires c =
-    let a = c.args in let pre = c.requires in let find-tally = c.find_tally-found in
-    (long pre, omega (arith, few_tallies_lem pre, found_within (of_block (block_of a.block)) (tally_at a.store.now) (count_of tally_table a.store.now) find-tally.result find-tally.ensures c.in-At.i c.in-At.is))
+tally_at-requires c =
+    let a = c.args in let pre = c.requires in let find-tally = c.find_tally in
+    (long pre, omega (arith, few_tallies_lem pre, found_within (of_block (block_of a.block)) (tally_at a.store.now) (count_of tally_table a.store.now) find-tally.result find-tally.ensures c.in-Some.i c.in-Some.is))
 
-pub returns-in-At : goal.returns-in-At
+pub returns-in-Some : goal.returns-in-Some
 unfolding tallies tally_of
-returns-in-At c =
+returns-in-Some c =
     let a = c.args in
-    let find-tally = c.find_tally-found in ap (λ (t : Tally). t.mask) c.tally_at-t.ensures ∙ sym (voters_first (block_of a.block) (tallies a.store.now) ∙ ap mask_of (found_first (of_block (block_of a.block)) (tally_at a.store.now) (count_of tally_table a.store.now) find-tally.result find-tally.ensures c.in-At.i c.in-At.is))
+    let find-tally = c.find_tally in ap (λ (t : Tally). t.mask) c.tally_at.ensures ∙ sym (voters_first (block_of a.block) (tallies a.store.now) ∙ ap mask_of (found_first (of_block (block_of a.block)) (tally_at a.store.now) (count_of tally_table a.store.now) find-tally.result find-tally.ensures c.in-Some.i c.in-Some.is))
 
-pub returns-in-Nothing : goal.returns-in-Nothing
+pub returns-in-None : goal.returns-in-None
 unfolding tallies
-returns-in-Nothing c =
+returns-in-None c =
     let a = c.args in
-    let find-tally = c.find_tally-found in
-    sym (voters_first (block_of a.block) (tallies a.store.now) ∙ ap mask_of (missing_first (of_block (block_of a.block)) (tally_at a.store.now) (count_of tally_table a.store.now) find-tally.result find-tally.ensures c.in-Nothing.is))
+    let find-tally = c.find_tally in
+    sym (voters_first (block_of a.block) (tallies a.store.now) ∙ ap mask_of (missing_first (of_block (block_of a.block)) (tally_at a.store.now) (count_of tally_table a.store.now) find-tally.result find-tally.ensures c.in-None.is))

@@ -10,7 +10,7 @@ tally_place-at-requires c =
 pub returns : goal.returns
 returns c =
     record {
-      is = rw (c.put-2.ensures, c.put.ensures, c.tally_place-at.ensures.0);
+      is = rw (c.put-2.ensures, c.put.ensures, c.tally_place-at.ensures.0, c.reached_number.ensures, c.from.ensures);
       mask_fits = c.ranges.mask.fits;
-      reached_fits = c.ranges.reached.fits;
+      reached_fits = c.requires.2;
     }

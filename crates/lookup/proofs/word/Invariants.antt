@@ -7,6 +7,3 @@ use Rattle.lookup.proofs.word.Given as goal
 
 abbrev pub invariant-loop-k : goal.invariant-loop-k
 invariant-loop-k l = (l.k ≤ 8) × (turn 8 (number l.s l.at 8) 0 ≡ turn l.k (number l.s l.at l.k) l.value) × (l.value < 256 ^ (8 - l.k))
-
-abbrev pub decreases-loop-k : goal.decreases-loop-k
-decreases-loop-k l = l.k

@@ -7,7 +7,7 @@ pub returns-then-used_up : goal.returns-then-used_up
 returns-then-used_up c =
     let used = c.used_up in
     let found = c.find_certificate-place in
-    vote_refused c.requires.0 (block_of c.args.block) c.requires.1 c.args.author found.result found.ensures used.ensures c.if-used_up.true c.refuse.ensures
+    vote_refused c.requires.0 (block_of c.args.block) c.requires.1 c.args.author found.result found.ensures used.ensures c.if-used_up.true c.answer.ensures
 
 pub counted-requires : goal.counted-requires
 counted-requires c =

@@ -21,14 +21,14 @@ statement_at-top-requires c =
     let a = c.args in
     let load = c.load-station in
     let f = c.requires.form in
-    (form_long _ f, omega (arith, top_within load.result a.store.now load.ensures a.name c.top.ensures c.in-At.is, form_statements _ f))
+    (form_long _ f, omega (arith, top_within load.result a.store.now load.ensures a.name c.top.ensures c.in-Some.is, form_statements _ f))
 
 pub returns-then-not-quorum : goal.returns-then-not-quorum
 returns-then-not-quorum c =
     let a = c.args in
     let load = c.load-station in
     let top = c.top in let statement-at = c.statement_at-top in let own_Block = c.own_block in
-    top_few load.result a.store.now load.ensures a.name top.ensures c.in-At.is statement-at.result statement-at.ensures own_Block.ensures c.voters-mask.ensures c.quorum.ensures (ap not c.if-not-quorum.true)
+    top_few load.result a.store.now load.ensures a.name top.ensures c.in-Some.is statement-at.result statement-at.ensures own_Block.ensures c.voters-mask.ensures c.quorum.ensures (ap not c.if-not-quorum.true)
 
 pub returns-then-top-ge-LAST_HEIGHT : goal.returns-then-top-ge-LAST_HEIGHT
 returns-then-top-ge-LAST_HEIGHT c =
@@ -37,7 +37,7 @@ returns-then-top-ge-LAST_HEIGHT c =
     let top = c.top in
     let statement-at = c.statement_at-top in
     let own_Block = c.own_block in let voters = c.voters-mask in
-    top_high load.result a.store.now load.ensures a.name top.ensures c.in-At.is statement-at.result statement-at.ensures own_Block.ensures voters.ensures c.if-top-ge-LAST_HEIGHT.true
+    top_high load.result a.store.now load.ensures a.name top.ensures c.in-Some.is statement-at.result statement-at.ensures own_Block.ensures voters.ensures c.if-top-ge-LAST_HEIGHT.true
 
 pub overflow_cast-result : goal.overflow_cast-result
 overflow_cast-result c =
@@ -54,4 +54,4 @@ returns c =
     let own_Block = c.own_block in
     let voters = c.voters-mask in let quorum = c.quorum in
     let if1 = c.if-not-quorum in let if2 = c.if-top-ge-LAST_HEIGHT in
-    top_extended load.result a.store.now load.ensures a.name top.ensures c.in-At.is statement-at.result statement-at.ensures own_Block.ensures voters.ensures quorum.ensures (ap not if1.false) if2.false
+    top_extended load.result a.store.now load.ensures a.name top.ensures c.in-Some.is statement-at.result statement-at.ensures own_Block.ensures voters.ensures quorum.ensures (ap not if1.false) if2.false

@@ -1,19 +1,22 @@
 -- `plans::fits` meets its contract. Assumes nothing.
+use mathlib.Core.Path.{◌≡◌, refl, sym, ap}
+use mathlib.Core.Bool.{true}
+use Rattle.plans.specs.declared.Plan.{Plan}
+use Rattle.plans.specs.declared.Plan.TheVariants.{Repeat, New, Full}
 use Rattle.plans.specs.Plans.{fits}
-use mathlib.Core.Path.{sym, ap}
+use Rattle.plans.proofs.fits.Goals.{in-Full, in_default}
 use Rattle.plans.proofs.fits.Goals as goal
 
-pub returns-in-Repeat : goal.returns-in-Repeat
+not_full : (p : Plan) → (p ≡ Full → ⊥) → true ≡ fits p
 unfolding fits
-returns-in-Repeat c =
-    sym (ap fits c.in-Repeat.is)
+not_full Repeat n = refl
+not_full (New p q) n = refl
+not_full Full n = absurd (n refl)
 
-pub returns-in-New : goal.returns-in-New
+pub returns : goal.returns
 unfolding fits
-returns-in-New c =
-    sym (ap fits c.in-New.is)
-
-pub returns-in-Full : goal.returns-in-Full
-unfolding fits
-returns-in-Full c =
-    sym (ap fits c.in-Full.is)
+returns c =
+    elim c.match-matches.branch [
+      | in-Full w ↦ rw w.matches-is (sym (ap fits w.in-Full.is))
+      | in_default w ↦ rw w.matches-is (not_full c.args.plan w.in_default.not-Full)
+    ]

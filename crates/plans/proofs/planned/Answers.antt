@@ -57,4 +57,4 @@ returns c =
     let x = statement_of c.args.x none in
     c.new_plan.ensures
     ∙ new_planned b x c.requires.1 (block_of certificate.result) (block_of block.result) certificate.ensures block.ensures own.result own.ensures
-    (is_new_lem b x found.result found.ensures c.in-Nothing.is) certified.result certified.ensures _ _ _ _ _ _ most-statements-in.ensures c.most_tallies_in.ensures (loaded_statements load.result b load.ensures) (loaded_tallies load.result b load.ensures) needed.ensures needed2.ensures
+    (is_new_lem b x found.result found.ensures c.in-None.is) certified.result certified.ensures _ _ _ _ _ _ most-statements-in.ensures c.most_tallies_in.ensures (loaded_statements load.result b load.ensures) (loaded_tallies load.result b load.ensures) needed.ensures needed2.ensures

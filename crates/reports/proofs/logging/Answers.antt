@@ -10,14 +10,14 @@ use Rattle.moments.proofs.Sizes.{same_long}
 use Rattle.outgoing.proofs.Writing.{says_length}
 use Rattle.reports.proofs.logging.Goals as goal
 
-pub get_count-k-requires : goal.get_count-k-requires
-get_count-k-requires c =
+pub get_count-logged-requires : goal.get_count-logged-requires
+get_count-logged-requires c =
     omega (arith, form_long _ c.requires.form)
 
 pub loop-k-init : goal.loop-k-init
 loop-k-init c =
     let a = c.args in let p = c.requires in
-    (omega (arith, c.get_count-k.ensures, p.more), logged_none a.store.now a.gained.now a.out.now a.at _ c.get_count-k.ensures.0 p.form)
+    (omega (arith, c.get_count-logged.ensures, p.more), logged_none a.store.now a.gained.now a.out.now a.at _ c.get_count-logged.ensures.0 p.form)
 
 pub offset_bounds-gained-k : goal.offset_bounds-gained-k
 offset_bounds-gained-k c =
@@ -27,12 +27,6 @@ pub bounds-gained-k : goal.bounds-gained-k
 bounds-gained-k c =
     let pre = c.requires in
     omega (arith, enough_few pre, pre.long, c.loop-k-test.true)
-
-pub overflow_cast-gained : goal.overflow_cast-gained
-overflow_cast-gained c =
-    let pre = c.requires in
-    let loop = c.loop-k in
-    omega (arith, pre.stored loop.k loop.invariant.1.low c.loop-k-test.true, form_statements _ pre.form)
 
 pub statement_at-x-requires : goal.statement_at-x-requires
 statement_at-x-requires c =
@@ -68,16 +62,6 @@ committed-next-requires c =
     let statement-at = c.statement_at-x in
     omega (arith, logged_ends a.store.now a.gained.now a.out.now a.at l.invariant.1, l.invariant.1.low, loop-test.true, p.space, says_length l.invariant.1.says, committed_bytes (l.k + 1) (name_of statement-at.result.name))
 
-pub overflow_add-k-in-loop-k : goal.overflow_add-k-in-loop-k
-overflow_add-k-in-loop-k c =
-    let pre = c.requires in
-    let loop-test = c.loop-k-test in
-    omega (arith, loop-test.true, enough_few pre)
-
-pub loop-k-smaller : goal.loop-k-smaller
-loop-k-smaller c =
-    omega (arith, c.loop-k-test.true)
-
 pub loop-k-preserved : goal.loop-k-preserved
 loop-k-preserved c =
     let a = c.args in let p = c.requires in
@@ -85,7 +69,7 @@ loop-k-preserved c =
     let loop-test = c.loop-k-test in
     let statement-at = c.statement_at-x in
     let append-name = c.append_name in
-    (omega (arith, loop-test.true), logged_next a.store.now a.gained.now a.out.now a.at l.invariant.1 _ (logged_name a.store.now a.gained.now a.out.now a.at l.invariant.1 statement-at.result (p.stored l.k l.invariant.1.low loop-test.true) statement-at.ensures) append-name.ensures c.committed-next.ensures)
+    (omega (arith, loop-test.true), logged_next a.store.now a.gained.now a.out.now a.at l.invariant.1 _ (logged_name a.store.now a.gained.now a.out.now a.at l.invariant.1 statement-at.result (p.stored l.k l.invariant.1.low loop-test.true) (simp c.from.ensures at statement-at.ensures)) append-name.ensures c.committed-next.ensures)
 
 pub shape_of-store : goal.shape_of-store
 shape_of-store c =

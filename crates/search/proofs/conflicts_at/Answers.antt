@@ -11,9 +11,9 @@ pub returns-then-x-view_at : goal.returns-then-x-view_at
 unfolding statement_of
 returns-then-x-view_at c =
     let a = c.args in
-    other_view (statement_of a.x none) (statement_at a.store.now a.i) (λ e. c.if-x-view_at.true (e ∙ sym c.view_at.ensures))
+    other_view (statement_of a.x.now none) (statement_at a.store.now a.i) (λ e. c.if-x-view_at.true (e ∙ sym c.view_at.ensures))
 
 pub returns : goal.returns
 returns c =
     let a = c.args in
-    c.conflicts.ensures ∙ read_conflict c.statement_at.result (statement_at a.store.now a.i) c.statement_at.ensures a.x
+    c.conflicts.ensures ∙ read_conflict c.statement_at.result (statement_at a.store.now a.i) c.statement_at.ensures a.x.now

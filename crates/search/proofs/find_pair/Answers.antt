@@ -23,36 +23,30 @@ loop-i-init c =
     let a = c.args in
     ap (λ (xs : List Statement). pair (of_view a.view xs)) (sym (rows_whole (statement_at a.store.now) (count_of statement_table a.store.now) 0 (omega arith)))
 
-pub rival_of-found-requires : goal.rival_of-found-requires
-rival_of-found-requires c =
+pub rival_of-requires : goal.rival_of-requires
+rival_of-requires c =
     (c.requires, omega (arith, c.statement_count-count.ensures.0))
-
-pub overflow_add-i : goal.overflow_add-i
-overflow_add-i c = omega arith
-
-pub loop-i-smaller : goal.loop-i-smaller
-loop-i-smaller c = omega arith
 
 pub loop-i-preserved : goal.loop-i-preserved
 loop-i-preserved c =
     let a = c.args in
     let statement-count = c.statement_count-count in
     let l = c.loop-i in
-    l.invariant ∙ pair_step (statement_at a.store.now) a.view (count_of statement_table a.store.now) l.i (omega (arith, statement-count.ensures.0)) none (finds_nothing c.rival_of-found.ensures c.in-Nothing.is)
+    l.invariant ∙ pair_step (statement_at a.store.now) a.view (count_of statement_table a.store.now) l.i (omega (arith, statement-count.ensures.0)) none (finds_nothing c.rival_of.ensures c.in_default.is)
 
-pub returns-then-count-i : goal.returns-then-count-i
-returns-then-count-i c =
+pub returns : goal.returns
+returns c =
     let a = c.args in
     record { is = sym (c.loop-i.invariant ∙ pair_end (statement_at a.store.now) a.view (count_of statement_table a.store.now) c.loop-i.i (omega (arith, c.statement_count-count.ensures.0))); inside = tt }
 
-pub returns-in-At : goal.returns-in-At
-returns-in-At c =
+pub returns-in-Some : goal.returns-in-Some
+returns-in-Some c =
     let a = c.args in
     let statement-count = c.statement_count-count in
-    let loop = c.loop-i in let rival-of = c.rival_of-found in
+    let loop = c.loop-i in let rival-of = c.rival_of in
     let f = statement_at a.store.now in
-    let j = c.in-At.j in
-    let e = c.in-At.is in
+    let j = c.in-Some.j in
+    let e = c.in-Some.is in
     let l : c.loop-i.i < count_of statement_table a.store.now = omega (arith, statement-count.ensures.0) in
     record {
       is = sym (loop.invariant ∙ pair_step f a.view (count_of statement_table a.store.now) loop.i l (some (f j)) (finds_at rival-of.ensures j e));

@@ -10,7 +10,3 @@ use Rattle.search.proofs.find_pair.Given as goal
 abbrev pub invariant-loop-i : goal.invariant-loop-i
 invariant-loop-i l =
     pair (of_view l.view (statements l.store)) ≡ pair (of_view l.view (rows (statement_at l.store) l.i (count_of statement_table l.store - l.i)))
-
-abbrev pub decreases-loop-i : goal.decreases-loop-i
-decreases-loop-i l =
-    l.count - l.i

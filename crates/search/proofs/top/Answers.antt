@@ -18,16 +18,9 @@ loop-i-init c =
     let a = c.args in
     (omega (arith, c.statement_count-i.ensures.0), topmost_none (statement_at a.store.now) a.view (count_of statement_table a.store.now) c.statement_count-i.result (omega (arith, c.statement_count-i.ensures.0)))
 
-pub overflow_sub-i : goal.overflow_sub-i
-overflow_sub-i c =
-    c.loop-i-test.true
-
 pub view_at-requires : goal.view_at-requires
 view_at-requires c =
     (long c.requires, omega (arith, c.statement_count-i.ensures.0))
-
-pub loop-i-smaller-then-view_at-view : goal.loop-i-smaller-then-view_at-view
-loop-i-smaller-then-view_at-view c = omega arith
 
 pub loop-i-preserved-then-view_at-view : goal.loop-i-preserved-then-view_at-view
 loop-i-preserved-then-view_at-view c =
@@ -39,9 +32,6 @@ pub statement_at-x-requires : goal.statement_at-x-requires
 statement_at-x-requires c =
     (long c.requires, omega (arith, c.statement_count-i.ensures.0))
 
-pub loop-i-smaller-then-x-height : goal.loop-i-smaller-then-x-height
-loop-i-smaller-then-x-height c = omega arith
-
 pub loop-i-preserved-then-x-height : goal.loop-i-preserved-then-x-height
 loop-i-preserved-then-x-height c =
     let a = c.args in
@@ -49,9 +39,6 @@ loop-i-preserved-then-x-height c =
     let loop-test = c.loop-i-test in let view-at = c.view_at in let if1 = c.if-view_at-view in
     let statement-at = c.statement_at-x in
     (omega arith, topmost_lower (statement_at a.store.now) a.view (count_of statement_table a.store.now) l.i loop-test.true l.invariant.0 (sym view-at.ensures ∙ if1.false) l.best l.height l.invariant.1 (omega (arith, read_height statement-at.result (statement_at a.store.now (l.i - 1)) statement-at.ensures)))
-
-pub loop-i-smaller : goal.loop-i-smaller
-loop-i-smaller c = omega arith
 
 pub loop-i-preserved : goal.loop-i-preserved
 loop-i-preserved c =

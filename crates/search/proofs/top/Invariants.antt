@@ -8,7 +8,3 @@ use Rattle.search.proofs.top.Given as goal
 abbrev pub invariant-loop-i : goal.invariant-loop-i
 invariant-loop-i l =
     (l.i ≤ count_of statement_table l.store) × Topmost (statement_at l.store) l.view (count_of statement_table l.store) l.i l.best l.height
-
-abbrev pub decreases-loop-i : goal.decreases-loop-i
-decreases-loop-i l =
-    l.i

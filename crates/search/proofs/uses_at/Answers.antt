@@ -7,4 +7,4 @@ use Rattle.search.proofs.uses_at.Goals as goal
 pub returns : goal.returns
 returns c =
     let a = c.args in
-    rw (c.same-own.ensures, c.same-parent.ensures) (read_uses c.statement_at-x.result (statement_at a.store.now a.i) c.statement_at-x.ensures (name_of a.name))
+    rw (c.eq-own.ensures, c.eq-parent.ensures) (read_uses c.statement_at-x.result (statement_at a.store.now a.i) c.statement_at-x.ensures (name_of a.name))

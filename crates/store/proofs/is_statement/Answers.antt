@@ -18,5 +18,5 @@ unfolding statement_of
 returns c =
     let a = c.args in
     let y = c.statement_at-other.result in
-    rw (beq_iff a.statement.is_new_view y.is_new_view, c.same-linked.ensures)
+    rw (beq_iff a.statement.is_new_view y.is_new_view, c.eq-linked.ensures)
     (same_block_lem a.store.now c.type_inv.store (statement_of a.statement none) a.i _ c.well_formed.1.1.0.1.1.1.1.0.1 c.key_of-key.ensures _ c.is_block.ensures (ap not c.if-not-is_block.false) _ c.statement_at-other.ensures)

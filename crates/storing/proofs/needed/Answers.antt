@@ -9,14 +9,14 @@ returns-then-block-eq0 c =
     let a = c.args in
     needed_genesis (block_of a.block) a.place c.if-block-eq0.true
 
-pub returns-in-At : goal.returns-in-At
+pub returns-in-Some : goal.returns-in-Some
 unfolding block_of
-returns-in-At c =
+returns-in-Some c =
     let a = c.args in
-    needed_none (block_of a.block) a.place c.if-block-eq0.false _ c.in-At.is
+    needed_none (block_of a.block) a.place c.if-block-eq0.false _ c.in-Some.is
 
-pub returns-in-Nothing : goal.returns-in-Nothing
+pub returns-in-None : goal.returns-in-None
 unfolding block_of
-returns-in-Nothing c =
+returns-in-None c =
     let a = c.args in
-    needed_one (block_of a.block) a.place c.if-block-eq0.false c.in-Nothing.is
+    needed_one (block_of a.block) a.place c.if-block-eq0.false c.in-None.is

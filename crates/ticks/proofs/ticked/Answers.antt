@@ -17,7 +17,7 @@ load-station-requires c =
 pub returns-then-not-is_running : goal.returns-then-not-is_running
 returns-then-not-is_running c =
     let args = c.args in let pre = c.requires in
-    stops_tick pre.0 (sym c.is_running.ensures ∙ c.if-not-is_running.true) c.refuse.ensures args.out.now
+    stops_tick pre.0 (sym c.is_running.ensures ∙ c.if-not-is_running.true) c.answer.ensures args.out.now
 
 pub returns-then-station-eq-LAST_CLOCK : goal.returns-then-station-eq-LAST_CLOCK
 returns-then-station-eq-LAST_CLOCK c =

@@ -38,7 +38,7 @@ statement_at-earlier-requires c =
     let blame-full = c.blame_full in
     let if1 = c.if-blame_full in
     let find-pair = c.find_pair in
-    (form_long _ pre.0.form, omega (arith, pair_inside pre.0 load.result load.ensures blame-full.result blame-full.ensures if1.false find-pair.result find-pair.ensures c.in-At.i c.in-At.j c.in-At.is, form_statements _ pre.0.form))
+    (form_long _ pre.0.form, omega (arith, pair_inside pre.0 load.result load.ensures blame-full.result blame-full.ensures if1.false find-pair.result find-pair.ensures c.in-Some.i c.in-Some.j c.in-Some.is, form_statements _ pre.0.form))
 
 pub statement_at-later-requires : goal.statement_at-later-requires
 statement_at-later-requires c =
@@ -47,7 +47,7 @@ statement_at-later-requires c =
     let blame-full = c.blame_full in
     let if1 = c.if-blame_full in
     let find-pair = c.find_pair in
-    (form_long _ pre.0.form, omega (arith, pair_inside pre.0 load.result load.ensures blame-full.result blame-full.ensures if1.false find-pair.result find-pair.ensures c.in-At.i c.in-At.j c.in-At.is, form_statements _ pre.0.form))
+    (form_long _ pre.0.form, omega (arith, pair_inside pre.0 load.result load.ensures blame-full.result blame-full.ensures if1.false find-pair.result find-pair.ensures c.in-Some.i c.in-Some.j c.in-Some.is, form_statements _ pre.0.form))
 
 pub quit_with_pair-requires : goal.quit_with_pair-requires
 quit_with_pair-requires c =
@@ -59,8 +59,8 @@ quit_with_pair-requires c =
     let statement-at = c.statement_at-earlier in
     let statement-at2 = c.statement_at-later in
     let k = pre.0 in
-    let d = pair_inside pre.0 load.result load.ensures blame-full.result blame-full.ensures if1.false find-pair.result find-pair.ensures c.in-At.i c.in-At.j c.in-At.is in
-    (k, read_linked k c.in-At.i statement-at.result d.0 statement-at.ensures, read_linked k c.in-At.j statement-at2.result d.1 statement-at2.ensures, omega (arith, pre.1, statements_some (size_in args.store.now)))
+    let d = pair_inside pre.0 load.result load.ensures blame-full.result blame-full.ensures if1.false find-pair.result find-pair.ensures c.in-Some.i c.in-Some.j c.in-Some.is in
+    (k, read_linked k c.in-Some.i statement-at.result d.0 statement-at.ensures, read_linked k c.in-Some.j statement-at2.result d.1 statement-at2.ensures, omega (arith, pre.1, statements_some (size_in args.store.now)))
 
 pub vote_in_order-requires : goal.vote_in_order-requires
 vote_in_order-requires c =
@@ -71,8 +71,8 @@ vote_in_order-requires c =
     let m = statements_most (size_in c.args.store.now) in
     record { formed = pre.0; few = omega (arith, f, m); long = omega (arith, f, m, o.auto.order, pre.2); inside = o.ensures.inside; space = omega (arith, f, pre.1) }
 
-pub returns-in-At : goal.returns-in-At
-returns-in-At c =
+pub returns-in-Some : goal.returns-in-Some
+returns-in-Some c =
     let pre = c.requires in
     let load = c.load-station in
     let blame-full = c.blame_full in
@@ -81,10 +81,10 @@ returns-in-At c =
     let statement-at = c.statement_at-earlier in
     let statement-at2 = c.statement_at-later in
     let quit-with-pair = c.quit_with_pair in
-    arrives_pair pre.0 load.result load.ensures blame-full.result blame-full.ensures if1.false find-pair.result find-pair.ensures c.in-At.i c.in-At.j c.in-At.is statement-at.result statement-at2.result statement-at.ensures statement-at2.ensures quit-with-pair.ensures
+    arrives_pair pre.0 load.result load.ensures blame-full.result blame-full.ensures if1.false find-pair.result find-pair.ensures c.in-Some.i c.in-Some.j c.in-Some.is statement-at.result statement-at2.result statement-at.ensures statement-at2.ensures quit-with-pair.ensures
 
-pub returns-in-Nothing : goal.returns-in-Nothing
-returns-in-Nothing c =
+pub returns-in-None : goal.returns-in-None
+returns-in-None c =
     let pre = c.requires in
     let load = c.load-station in
     let blame-full = c.blame_full in
@@ -92,4 +92,4 @@ returns-in-Nothing c =
     let find-pair = c.find_pair in
     let in_order_lem = c.in_order-count in
     let vote-in-order = c.vote_in_order in
-    arrives_votes pre.0 load.result load.ensures blame-full.result blame-full.ensures if1.false find-pair.result find-pair.ensures _ _ c.in-Nothing.is in_order_lem.ensures vote-in-order.ensures
+    arrives_votes pre.0 load.result load.ensures blame-full.result blame-full.ensures if1.false find-pair.result find-pair.ensures _ _ c.in-None.is in_order_lem.ensures vote-in-order.ensures

@@ -16,11 +16,6 @@ pub bounds-order-j : goal.bounds-order-j
 bounds-order-j c =
     omega (arith, c.requires.long, c.loop-j-test.true)
 
-pub overflow_cast-place : goal.overflow_cast-place
-overflow_cast-place c =
-    let pre = c.requires in
-    omega (arith, pre.inside c.loop-j.j c.loop-j-test.true, form_statements _ pre.formed.form)
-
 pub statement_at-x-requires : goal.statement_at-x-requires
 statement_at-x-requires c =
     let pre = c.requires in
@@ -38,17 +33,7 @@ voting-next-requires c =
     let loop-test = c.loop-j-test in
     let statement-at = c.statement_at-x in
     let own_Block = c.own_block in
-    (l.invariant.formed, voted_stands args.store.now args.order.now args.out.now args.at args.count l.invariant (pre.inside l.j loop-test.true) statement-at.result statement-at.ensures, rw (← own_Block.ensures) c.find_tally-tally.ensures, omega (arith, l.invariant.ends, l.invariant.long, pre.space, loop-test.true))
-
-pub overflow_add-j : goal.overflow_add-j
-overflow_add-j c =
-    let pre = c.requires in
-    let loop-test = c.loop-j-test in
-    omega (arith, loop-test.true, pre.few)
-
-pub loop-j-smaller : goal.loop-j-smaller
-loop-j-smaller c =
-    omega (arith, c.loop-j-test.true)
+    (l.invariant.formed, rw c.from-place.ensures (voted_stands args.store.now args.order.now args.out.now args.at args.count l.invariant (pre.inside l.j loop-test.true) statement-at.result (simp c.from-place.ensures at statement-at.ensures)), rw (← own_Block.ensures) c.find_tally-tally.ensures, omega (arith, l.invariant.ends, l.invariant.long, pre.space, loop-test.true))
 
 pub loop-j-preserved : goal.loop-j-preserved
 loop-j-preserved c =
@@ -57,7 +42,7 @@ loop-j-preserved c =
     let loop-test = c.loop-j-test in
     let statement-at = c.statement_at-x in
     let voting = c.voting-next in
-    voted_next args.store.now args.order.now args.out.now args.at args.count loop.invariant (pre.inside loop.j loop-test.true) statement-at.result statement-at.ensures loop-test.true voting.ensures
+    voted_next args.store.now args.order.now args.out.now args.at args.count loop.invariant (pre.inside loop.j loop-test.true) statement-at.result (simp c.from-place.ensures at statement-at.ensures) loop-test.true voting.ensures
 
 pub shape_of-store : goal.shape_of-store
 shape_of-store c =

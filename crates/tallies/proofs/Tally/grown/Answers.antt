@@ -2,7 +2,7 @@
 use mathlib.Core.Path.{ap, ◌∙◌}
 use Rattle.rules.specs.Words.{reached_at, grown}
 use Rattle.fields.specs.Names.{name_of}
-use Rattle.tallies.specs.Values.{opener_of, reached_from}
+use Rattle.tallies.specs.Values.{told}
 use Rattle.tallies.specs.Meaning.{tally_of, moment_of}
 use Rattle.tallies.proofs.Tally.grown.Goals as goal
 
@@ -12,5 +12,5 @@ returns c =
     let a = c.args in
     let t = a.self in
     let voters = c.joined-voters.ensures in
-    let since = c.reached-reached.ensures ∙ ap (reached_at (moment_of a.moment) (reached_from t.reached)) voters in
-    λ i. record { view = t.view; height = t.height; name = name_of t.name; mask = voters i; opener = opener_of t.opener; reached = since i }
+    let since = c.reached-reached.ensures ∙ ap (reached_at (moment_of a.moment) (told t.reached)) voters in
+    λ i. record { view = t.block.view; height = t.block.height; name = name_of t.block.name; mask = voters i; opener = told t.opener; reached = since i }

@@ -7,7 +7,7 @@ use Rattle.tallies.proofs.Tally.with_voter.Goals as goal
 
 pub overflow_cast-only : goal.overflow_cast-only
 overflow_cast-only c =
-    record { fits = rw c.only.ensures (voter_fits _ c.requires.1) }
+    record { fits = rw c.only.ensures (voter_fits _ c.requires) }
 
 pub returns : goal.returns
 returns c =
