@@ -9,41 +9,32 @@ ghost use Rattle.form.specs.Lent.{Counts};
 ghost use Rattle.chains.specs.Chains.{Bare, Chained};
 ghost use Rattle.apart.specs.Tallies.{tally_chain, Met, Apart, Sought, Has};
 
-use chains::CHAINS;
+use chains::Chains;
 use settings::Settings;
 use store::{NAME, TALLY_SIZE};
 use tallied::good;
 
+// A block that is looked for: its view and height as one number, the place of its name, and the salt stirred with all of it.
+#[derive(Clone, Copy)]
+pub struct Block {
+    pub key: u64,
+    pub at: usize,
+    pub mixed: u64,
+}
+
 // Whether a later tally is of the block of tally i; if none is, tally i hangs on its chain.
-fn repeated(
-    store: &[u8],
-    salt: u64,
-    count: usize,
-    heads: &mut [u16; CHAINS],
-    nexts: &mut [u16; Settings::MOST_TALLIES_LARGE],
-    i: usize,
-) -> bool
-    requires { Counts tally_table store.now count × (i < count) × Chained (tally_chain store.now salt) (i + 1) count heads.old nexts.old }
-    ensures { Met store.now salt count i result heads.new nexts.new }
+fn repeated(store: &[u8], salt: u64, count: usize, hung: &mut Chains, i: usize) -> bool
+    requires { Counts tally_table store.now count × (i < count) × Chained (tally_chain store.now salt) (i + 1) count hung.old.heads hung.old.nexts }
+    ensures { Met store.now salt count i result hung.new.heads hung.new.nexts }
 {
     let base = store::tallies_in(store);
     let at = base + TALLY_SIZE * i;
     let key = fields::get(store, at, 8);
     let chain = chains::chain_of(chains::with_words(store, salt, at, 5));
-    if chains::has_block(
-        store,
-        base,
-        TALLY_SIZE,
-        count,
-        heads,
-        nexts,
-        chain,
-        key,
-        at + NAME,
-    ) {
+    if hung.has_block(store, base, TALLY_SIZE, count, chain, key, at + NAME) {
         return true;
     }
-    chains::hang(heads, nexts, chain, i, count - i);
+    hung.hang(chain, i, count - i);
     false
 }
 
@@ -54,41 +45,29 @@ pub fn good_and_apart(
     clock: u32,
     salt: u64,
     count: usize,
-    heads: &mut [u16; CHAINS],
-    nexts: &mut [u16; Settings::MOST_TALLIES_LARGE],
+    hung: &mut Chains,
 ) -> bool
-    requires { Counts tally_table store.now count × (settings.n ≤ most_stations) × Bare heads.old nexts.old }
-    ensures { Apart (settings_of settings) clock store.now salt count result heads.new nexts.new }
+    requires { Counts tally_table store.now count × (settings.n ≤ most_stations) × Bare hung.old.heads hung.old.nexts }
+    ensures { Apart (settings_of settings) clock store.now salt count result hung.new.heads hung.new.nexts }
 {
     if !good::all_good(store, settings, clock, count) {
         return false;
     }
-    let mut i = count;
-    while 0 < i {
-        i -= 1;
-        if repeated(store, salt, count, heads, nexts, i) {
+    for i in (0..count).rev() {
+        if repeated(store, salt, count, hung, i) {
             return false;
         }
     }
     true
 }
 
-// Whether a tally is of the block with this view and height whose name is at a place, once all tallies hang: mixed is what
-// the salt is when it is stirred with the block.
-pub fn has_tally(
-    store: &[u8],
-    mixed: u64,
-    count: usize,
-    heads: &[u16; CHAINS],
-    nexts: &[u16; Settings::MOST_TALLIES_LARGE],
-    key: u64,
-    at: usize,
-) -> bool
-    requires { Counts tally_table store.now count × Sought store.now count mixed key at heads.now nexts.now × (at + 32 ≤ length store.now) }
-    ensures { Has store.now key at result }
+// Whether a tally is of a block, once all tallies hang.
+pub fn has_tally(store: &[u8], count: usize, hung: &Chains, block: Block) -> bool
+    requires { Counts tally_table store.now count × Sought store.now count block.mixed block.key block.at hung.now.heads hung.now.nexts × (block.at + 32 ≤ length store.now) }
+    ensures { Has store.now block.key block.at result }
 {
     let base = store::tallies_in(store);
-    let chain = chains::chain_of(mixed);
-    let left = heads[chain] as usize;
-    chains::walked(store, base, TALLY_SIZE, count, nexts, left, key, at)
+    let chain = chains::chain_of(block.mixed);
+    let left = hung.heads[chain] as usize;
+    hung.walked(store, base, TALLY_SIZE, count, left, block.key, block.at)
 }

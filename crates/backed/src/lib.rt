@@ -16,20 +16,13 @@ ghost use Rattle.chains.specs.Chains.{Chained};
 ghost use Rattle.apart.specs.Tallies.{tally_chain};
 ghost use Rattle.backed.specs.Backed.{Stirs, Found, Owns};
 
-use chains::CHAINS;
-use settings::Settings;
+use apart::Block;
+use chains::Chains;
 use stated::CERT;
 use store::{LINK, NAME, STATEMENT_SIZE, STATEMENTS};
 
-// The block that a statement certifies: view and height, the place of its name, and the salt stirred with all of it.
-#[derive(Clone, Copy)]
-pub struct Certified {
-    pub key: u64,
-    pub at: usize,
-    pub mixed: u64,
-}
-
 // A statement's own block: view and height, the salt stirred with it, and whether its tally was found before.
+// Both numbers are used either way, so the flag is no Option.
 #[derive(Clone, Copy)]
 pub struct Own {
     pub key: u64,
@@ -45,7 +38,7 @@ fn certified_key(store: &[u8], i: usize) -> u64
     let at = STATEMENTS + STATEMENT_SIZE * i;
     if store::kind_at(store, i) == 1 {
         let view = fields::get(store, at + CERT, 4);
-        return view * 4_294_967_296 + store::height_at(store, i) as u64;
+        return view * 4_294_967_296 + u64::from(store::height_at(store, i));
     }
     fields::get(store, at, 8) - 1
 }
@@ -63,14 +56,14 @@ fn certified_at(store: &[u8], i: usize) -> usize
 }
 
 // That block.
-pub fn certified_block(store: &[u8], salt: u64, i: usize) -> Certified
+pub fn certified_block(store: &[u8], salt: u64, i: usize) -> Block
     requires { (length store.now ≡ store_length (size_in store.now)) × (i < most_statements (size_in store.now)) × Certifies (statement_at store.now i) }
     ensures { Stirs store.now salt i result.key result.at result.mixed }
 {
     let key = certified_key(store, i);
     let at = certified_at(store, i);
     let mixed = chains::with_words(store, chains::stirred(salt, key), at, 4);
-    Certified { key, at, mixed }
+    Block { key, at, mixed }
 }
 
 // View and height of statement i, where those of the block that it certifies are known: a propose's are one above, so that its first
@@ -86,7 +79,7 @@ fn own_key(store: &[u8], i: usize, below: u64) -> u64
 }
 
 // The own block of statement i: along a chain it is the one that the statement right behind certifies, whose tally was found.
-pub fn own_block(store: &[u8], salt: u64, i: usize, below: u64, after: Certified) -> Own
+pub fn own_block(store: &[u8], salt: u64, i: usize, below: u64, after: Block) -> Own
     requires { (length store.now ≡ store_length (size_in store.now)) × (i < most_statements (size_in store.now)) × Certifies (statement_at store.now i) × (below ≡ (certificate (statement_at store.now i)).view * 256 ^ 4 + (certificate (statement_at store.now i)).height) × Found store.now salt after.key after.at after.mixed }
     ensures { Owns store.now salt i result.key result.mixed result.found }
 {
@@ -111,23 +104,20 @@ pub fn own_block(store: &[u8], salt: u64, i: usize, below: u64, after: Certified
 }
 
 // Whether the own block of statement i has a tally.
-fn own_there(
-    store: &[u8],
-    salt: u64,
-    count: usize,
-    heads: &[u16; CHAINS],
-    nexts: &[u16; Settings::MOST_TALLIES_LARGE],
-    i: usize,
-    own: Own,
-) -> bool
-    requires { Counts tally_table store.now count × Chained (tally_chain store.now salt) 0 count heads.now nexts.now × (i < most_statements (size_in store.now)) × Owns store.now salt i own.key own.mixed own.found }
+fn own_there(store: &[u8], salt: u64, count: usize, hung: &Chains, i: usize, own: Own) -> bool
+    requires { Counts tally_table store.now count × Chained (tally_chain store.now salt) 0 count hung.now.heads hung.now.nexts × (i < most_statements (size_in store.now)) × Owns store.now salt i own.key own.mixed own.found }
     ensures { result ≡ any (of_block (own_block (statement_at store.now i) 0)) (tallies store.now) }
 {
     if own.found {
         return true;
     }
     let at = STATEMENTS + STATEMENT_SIZE * i + NAME;
-    apart::has_tally(store, own.mixed, count, heads, nexts, own.key, at)
+    let block = Block {
+        key: own.key,
+        at,
+        mixed: own.mixed,
+    };
+    apart::has_tally(store, count, hung, block)
 }
 
 // Whether statement i has its tallies; genesis has none in view 0.
@@ -135,20 +125,19 @@ pub fn there(
     store: &[u8],
     salt: u64,
     count: usize,
-    heads: &[u16; CHAINS],
-    nexts: &[u16; Settings::MOST_TALLIES_LARGE],
+    hung: &Chains,
     i: usize,
     own: Own,
-    block: Certified,
+    block: Block,
 ) -> bool
-    requires { Counts tally_table store.now count × Chained (tally_chain store.now salt) 0 count heads.now nexts.now × (i < most_statements (size_in store.now)) × Owns store.now salt i own.key own.mixed own.found × Stirs store.now salt i block.key block.at block.mixed }
+    requires { Counts tally_table store.now count × Chained (tally_chain store.now salt) 0 count hung.now.heads hung.now.nexts × (i < most_statements (size_in store.now)) × Owns store.now salt i own.key own.mixed own.found × Stirs store.now salt i block.key block.at block.mixed }
     ensures { result ≡ tallies_there (tallies store.now) (statement_at store.now i) }
 {
-    if !own_there(store, salt, count, heads, nexts, i, own) {
+    if !own_there(store, salt, count, hung, i, own) {
         return false;
     }
     if block.key < 4_294_967_296 {
         return true;
     }
-    apart::has_tally(store, block.mixed, count, heads, nexts, block.key, block.at)
+    apart::has_tally(store, count, hung, block)
 }

@@ -15,13 +15,11 @@ pub fn all_good(store: &[u8], settings: Settings) -> bool
     ensures { result ≡ blames_good (settings_of settings) (blames store.now) }
 {
     let last = settings.last_view() as usize;
-    let mut i: usize = 0;
-    while i < last {
+    for i in 0..last {
         let mask = store::blame_at(store, i);
         if !clauses::mask_within(settings, mask) {
             return false;
         }
-        i += 1;
     }
     true
 }

@@ -25,8 +25,7 @@ use Rattle.glance.specs.Tables.{statement_in, name_in}
 use Rattle.walks.specs.Chains.{lacking, Walked, WalkedFrom}
 use Rattle.merging.specs.Joins.{name_so_far, WholeChain, Log, Has, JoinedWith}
 use Rattle.commit.specs.Outcome.{Settled, Joined}
-use Rattle.merging.specs.declared.Merged.{Merged}
-use Rattle.merging.specs.declared.Merged.TheVariants.{Grown, Differs}
+use Rattle.std.specs.Prelude.{Option as Maybe, None, Some}
 use Rattle.commit.proofs.Order.{bind, first_last}
 use Rattle.commit.proofs.Pigeon.{too_high}
 use Rattle.merging.proofs.Places.{so_far_old}
@@ -136,7 +135,7 @@ course_start {b} {logged} {gained} p count f old long whole =
     }
 
 module _ {b : List ℕ} {p : Statement → Bool} {count i len : ℕ} {gained table : List ℕ} {height left : ℕ} (c : Course b p count i len gained table height left) where
-  at_end : count ≡ count_of statement_table b → i ≡ 0 → Joined (commits (statements b) (keep p (statements b)) (names b)) b gained (Grown len)
+  at_end : count ≡ count_of statement_table b → i ≡ 0 → Joined (commits (statements b) (keep p (statements b)) (names b)) b gained (Some len)
   unfolding statements
   at_end e z =
       let all : rows (statement_at b) i (count - i) ≡ statements b =
@@ -212,7 +211,7 @@ module _ {b told : List ℕ} (tells : Told b told) (view wait now : ℕ) {count 
       (λ r. course_not c (omega arith) r)))
 
   pub course_end : (i settled : ℕ) → ToldBelow b told view wait now settled → Course b (is_ripe view wait now) count i len gained table height left → count ≡ count_of statement_table b → i ≤ settled
-      → Joined (commits (statements b) (keep (is_ripe view wait now) (statements b)) (names b)) b gained (Grown len)
+      → Joined (commits (statements b) (keep (is_ripe view wait now) (statements b)) (names b)) b gained (Some len)
   course_end i settled f c e l = at_end (course_rest i (λ j u v. f j u (omega arith)) c) e refl
 
 -- ---- a turn that walked a chain
@@ -276,8 +275,8 @@ module _ {b : List ℕ} {p : Statement → Bool} {count i len : ℕ} {gained tab
       blocks = λ k l m. its_walk.stored k (omega arith) m;
     }
 
-    module _ (gained' : List ℕ) (r : Merged) (j : JoinedWith b gained gained' table own len r) where
-      pub turn_grown : length gained' ≡ most_statements_large → (m : ℕ) → r ≡ Grown m → Course b p count (i - 1) m gained' table own left
+    module _ (gained' : List ℕ) (r : Maybe ℕ) (j : JoinedWith b gained gained' table own len r) where
+      pub turn_grown : length gained' ≡ most_statements_large → (m : ℕ) → r ≡ Some m → Course b p count (i - 1) m gained' table own left
       turn_grown n m q =
           let g = subst (JoinedWith b gained gained' table own len) q j in
           record {
@@ -287,7 +286,7 @@ module _ {b : List ℕ} {p : Statement → Bool} {count i len : ℕ} {gained tab
             chained = record { walked = its_walk; high = t.high; long = t.whole; has = λ z. g.1 };
           }
 
-      pub turn_differs : count ≡ count_of statement_table b → r ≡ Differs → commits (statements b) (keep p (statements b)) (names b) ≡ none
+      pub turn_differs : count ≡ count_of statement_table b → r ≡ None → commits (statements b) (keep p (statements b)) (names b) ≡ none
       unfolding statements
       turn_differs a q =
           ap (λ (n : ℕ). commits (statements b) (keep p (rows (statement_at b) 0 n)) (names b)) (sym a)

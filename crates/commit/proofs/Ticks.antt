@@ -23,8 +23,7 @@ use Rattle.glance.specs.Tables.{name_in}
 use Rattle.merging.specs.Joins.{name_so_far}
 use Rattle.commit.specs.Outcome.{tick_log, Joined, Committed}
 use Rattle.glance.specs.Looks.{ToldIn}
-use Rattle.merging.specs.declared.Merged.{Merged}
-use Rattle.merging.specs.declared.Merged.TheVariants.{Grown, Differs}
+use Rattle.std.specs.Prelude.{Option as Maybe, None, Some}
 use Rattle.commit.proofs.Order.{any_order}
 use Rattle.merging.proofs.Places.{so_far_old, so_far_new}
 use Rattle.glance.proofs.Seeing.{delay_is}
@@ -87,7 +86,7 @@ module _ (b : List ℕ) where
   tick_out d = due_out (with_clock ((state_of b).clock + 1) (state_of b)) d
 
   -- nothing is gained
-  pub gained_none : (t : List ℕ) (n : ℕ) → n ≡ count_of log_table b → count_of log_table b ≤ most_statements_large → tick_log b ≡ some (names b) → Committed b t (Grown n)
+  pub gained_none : (t : List ℕ) (n : ℕ) → n ≡ count_of log_table b → count_of log_table b ≤ most_statements_large → tick_log b ≡ some (names b) → Committed b t (Some n)
   unfolding rows
   gained_none t n e l q =
       let z : n - count_of log_table b ≡ 0 = omega arith in
@@ -109,10 +108,10 @@ module _ (b : List ℕ) where
       (ap (λ (k : ℕ). rows (name_so_far b t) k (n - old)) (zero-add old)
       ∙ rows_same (name_so_far b t) (name_in b t) old (n - old) (λ k u v. so_far_new b t k u))
 
-  pub gained : (o : Option (List ℕ)) → o ≡ tick_log b → (t : List ℕ) (r : Merged) → Joined o b t r → Committed b t r
-  gained o e t (Grown n) g =
+  pub gained : (o : Option (List ℕ)) → o ≡ tick_log b → (t : List ℕ) (r : Maybe ℕ) → Joined o b t r → Committed b t r
+  gained o e t (Some n) g =
       record { is = sym e ∙ g.is ∙ ap some (parted t n g.more); more = g.more; fits = g.fits; stored = g.stored }
-  gained o e t Differs g = sym e ∙ g
+  gained o e t None g = sym e ∙ g
 
 -- ---- what was seen before the tick
 

@@ -1,12 +1,13 @@
 -- The form of a store by its tables, as the header counts them. Assumes nothing.
 use Prim.Native.Nat.{ℕ, ◌+◌, ◌-◌, ◌*◌, ◌≤◌}
-use mathlib.Core.Path.{◌≡◌, sym, ap, ◌∙◌}
+use mathlib.Core.Path.{◌≡◌, refl, sym, ap, ◌∙◌}
 use mathlib.Core.Bool.{Bool, true, false, not, ◌&&◌}
 use mathlib.Core.List.{List}
 use native.Mathlib.Omega.{arith}
 use lib.Dec.{leb, eqb}
 use borrow.Author.Tests.{not-true, not-false, leb-true, eq-eqb}
-use Rattle.rules.specs.Limits.{most_statements_large, most_tallies_large}
+use Rattle.rules.specs.Limits.{most_statements, most_tallies, most_statements_large, most_tallies_large}
+use Rattle.settings.specs.Made.{size_from}
 use Rattle.rules.specs.Lists.{all, within}
 use Rattle.laws.proofs.Bounds.{statements_most, tallies_most}
 use Rattle.laws.proofs.Tests.{and_left, and_right}
@@ -38,7 +39,7 @@ used_is t b n e =
     ap (λ (k : ℕ). leb k (t.room z) && eqb (number b (t.base z + t.size * k) (t.size * t.room z - t.size * k)) 0) e
 
 -- as the code tests it, with the limits of the store
-pub used_by_lem : (t : Table) (b : List ℕ) (n : ℕ) {r : Bool} {base room : ℕ} → base ≡ t.base (size_in b) → room ≡ t.room (size_in b) → r ≡ fits b base t.size room n
+used_by_lem : (t : Table) (b : List ℕ) (n : ℕ) {r : Bool} {base room : ℕ} → base ≡ t.base (size_in b) → room ≡ t.room (size_in b) → r ≡ fits b base t.size room n
     → r ≡ used t b n
 used_by_lem t b n p q e = rw (← p, ← q) e
 
@@ -53,6 +54,19 @@ pub record Tested (b : List ℕ) (s : Station) (x y z : Bool) : Type 0 where
   pub log : z ≡ used log_table b s.logged
 
 module _ (b : List ℕ) (s : Station) (h : Lent b s) where
+  -- the three tests, as the code makes them with the limits of the header's size
+  pub tested_by : {x y z : Bool} {most few base top : ℕ} → most ≡ most_statements (size_from s.settings.size) → few ≡ most_tallies (size_from s.settings.size)
+      → base ≡ tally_table.base (size_in b) → top ≡ log_table.base (size_in b)
+      → x ≡ fits b (statement_table.base (size_in b)) statement_table.size most s.statements → y ≡ fits b base tally_table.size few s.tallies → z ≡ fits b top log_table.size most s.logged
+      → Tested b s x y z
+  tested_by m f t l x y z =
+      let same = h.holds.size in
+      record {
+        statements = used_by_lem statement_table b s.statements refl (m ∙ ap most_statements same) x;
+        tallies = used_by_lem tally_table b s.tallies t (f ∙ ap most_tallies same) y;
+        log = used_by_lem log_table b s.logged l (m ∙ ap most_statements same) z;
+      }
+
   abbrev xs : Bool
   xs = used statement_table b s.statements
 

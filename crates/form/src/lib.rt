@@ -25,14 +25,12 @@ fn kinds_good(store: &[u8], count: usize) -> bool
     requires { Counts statement_table store.now count }
     ensures { result ≡ all (within 1 2) (kinds store.now) }
 {
-    let mut i: usize = 0;
-    while i < count {
+    for i in 0..count {
         let kind = store::kind_at(store, i);
         let good = (1 <= kind) & (kind <= 2);
         if !good {
             return false;
         }
-        i += 1;
     }
     true
 }

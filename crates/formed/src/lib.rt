@@ -10,7 +10,7 @@ ghost use Rattle.store.specs.Layout.{size_in, store_length};
 ghost use Rattle.store.specs.Decode.{state_of, has_form};
 ghost use Rattle.formed.specs.Ready.{Ready, tables_good, Telling};
 
-use chains::CHAINS;
+use chains::Chains;
 use settings::Settings;
 use store::Station;
 
@@ -26,21 +26,11 @@ fn tables_good(
 {
     let settings = station.settings;
     let count = station.tallies;
-    let mut heads: [u16; CHAINS] = [0; CHAINS];
-    let mut nexts: [u16; Settings::MOST_TALLIES_LARGE] = [0; Settings::MOST_TALLIES_LARGE];
-    let good = apart::good_and_apart(
-        store,
-        settings,
-        station.clock,
-        salt,
-        count,
-        &mut heads,
-        &mut nexts,
-    );
-    if !good {
+    let mut hung = Chains::new();
+    if !apart::good_and_apart(store, settings, station.clock, salt, count, &mut hung) {
         return false;
     }
-    repeats::there_and_apart(store, salt, count, &heads, &nexts, station.statements)
+    repeats::there_and_apart(store, salt, count, &hung, station.statements)
         & blames::all_good(store, settings)
         & linked::is_linked(store, station.logged, station.statements, told)
         & openers::few_opened(store, settings, count)

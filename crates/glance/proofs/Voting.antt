@@ -5,14 +5,16 @@ use mathlib.Core.Bool.{Bool, true, false, not, ◌&&◌, and-false}
 use mathlib.Core.List.{List, [], ◌∷◌}
 use mathlib.Core.Option.{Option, none, some}
 use native.Mathlib.Omega.{arith}
-use lib.Dec.{leb, eqb}
+use lib.Dec.{leb, ltb, eqb}
 use lib.ListN.{length}
-use borrow.Author.Tests.{eq-eqb, ne_eqb, leb-true, le-leb}
+use borrow.Author.Tests.{eq-eqb, ne_eqb, leb-true, le-leb, lt-leb, ltb-true, ltb-false}
 use Rattle.rules.specs.Lists.{keep}
 use Rattle.rules.specs.Words as words
 use Rattle.rules.specs.Inputs.{votes}
 use Rattle.laws.proofs.Tests.{by_bool, no_bool}
-use Rattle.tallies.specs.Values.{vote_number}
+use Rattle.std.specs.Prelude.{Option as Told, Some, None}
+use native.Mathlib.Numerals.{add-one}
+use Rattle.tallies.specs.Values.{told, vote_number}
 use Rattle.store.specs.Decode.{rows, statement_at, kind_at, vote_at, statements, state_from, state_of}
 use Rattle.tallies.proofs.Values.{vote_number_lem}
 use Rattle.store.proofs.Values.{voted_is}
@@ -42,6 +44,14 @@ module _ (b : List ℕ) (i view : ℕ) where
   pub vote_propose : (statement_at b i).view ≡ view → (statement_at b i).is_new_view ≡ false → vote_at b i ≡ vote_in view (statement_at b i)
   unfolding vote_in
   vote_propose e q = vote_read b i ∙ rw (q, eq-eqb _ _ e)
+
+-- the vote's number, from what the code tells of it
+module _ (view : ℕ) (x : words.Statement) (r : Told ℕ) (e : vote_number (told r) ≡ vote_in view x) where
+  pub vote_missing : r ≡ None → vote_in view x ≡ 0
+  vote_missing s = sym e ∙ ap (λ (q : Told ℕ). vote_number (told q)) s
+
+  pub vote_given : (c : ℕ) → r ≡ Some c → c + 1 ≡ vote_in view x
+  vote_given c s = add-one c ∙ sym (ap (λ (q : Told ℕ). vote_number (told q)) s) ∙ e
 
 -- ---- what the number says
 
@@ -89,6 +99,15 @@ module _ (view : ℕ) (x : words.Statement) where
         go false o k e d = absurd (d e)
         go true none k e d = absurd (d e)
         go true (some c) k e d = same (k + wait) now (wait + 1) (now - c) (λ l. omega arith) (λ l. omega arith)
+
+    -- from the clock itself
+    pub ripe_told : (r : Told ℕ) → vote_number (told r) ≡ vote_in view x → (c : ℕ) → r ≡ Some c → ltb (c + wait) now ≡ is_ripe view wait now x
+    ripe_told r e c s =
+        let k : c + 1 ≡ vote_in view x = vote_given view x r e c s in
+        same (c + wait) now ∙ ap (λ (n : ℕ). leb n now) (omega arith) ∙ ripe_by (c + 1) k (λ z. absurd (omega arith))
+      where
+        same : (a b : ℕ) → ltb a b ≡ leb (a + 1) b
+        same a b = by_bool (ltb a b) (λ q. q ∙ sym (le-leb (a + 1) b (omega (arith, ltb-true a b q)))) (λ q. q ∙ sym (lt-leb (a + 1) b (omega (arith, ltb-false a b q))))
 
 -- ---- a loop downward over the records that pass
 

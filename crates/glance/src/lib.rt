@@ -9,6 +9,7 @@ ghost use Rattle.store.specs.Layout.{size_in, statement_table, store_length, cou
 ghost use Rattle.store.specs.Decode.{statement_at, state_of, Form};
 ghost use Rattle.store.specs.Meaning.{Loads};
 ghost use Rattle.linked.specs.Told.{Told};
+ghost use Rattle.tallies.specs.Values.{told, vote_number};
 ghost use Rattle.glance.specs.Votes.{vote_in};
 ghost use Rattle.glance.specs.Looks.{Tells, Begun, IsView, turned, Views, OthersFrom, FourOthers, Looked, Seen};
 
@@ -45,16 +46,16 @@ pub fn is_told(store: &[u8], told: &[u16], i: usize) -> bool
     place_in(told, height - 1) == i + 1
 }
 
-// The number of the own vote for statement i, if it is a propose of the view; else 0.
-pub fn vote_in(store: &[u8], i: usize, view: u32) -> u32
+// The clock of the own vote for statement i, if it is a propose of the view that was voted for.
+pub fn vote_in(store: &[u8], i: usize, view: u32) -> Option<u32>
     requires { (length store.now ≡ store_length (size_in store.now)) × (i < most_statements (size_in store.now)) }
-    ensures { result ≡ vote_in view (statement_at store.now i) }
+    ensures { vote_number (told result) ≡ vote_in view (statement_at store.now i) }
 {
     if search::view_at(store, i) != view {
-        return 0;
+        return None;
     }
     if store::kind_at(store, i) == 1 {
-        return 0;
+        return None;
     }
     store::voted_at(store, i)
 }
@@ -65,7 +66,7 @@ fn turned(view: u32) -> u64
 {
     let high = view / 256 % 256;
     let low = view % 256;
-    (high + 256 * low) as u64
+    u64::from(high + 256 * low)
 }
 
 // Whether statement i is of a view: none is above 65,535, so the lower half tells. It is read with its bytes turned, as the
@@ -103,18 +104,15 @@ fn pass(store: &[u8], from: usize, view: u32) -> usize
     ensures { (result ≤ from) × OthersFrom store.now view result from }
 {
     let mut i = from;
-    loop {
-        if i < 4 {
-            break i;
-        }
-        if !are_others(store, i - 4, view) {
-            break i;
-        }
+    // Down by four, and the test of the four belongs to the turn: no range has it.
+    while 4 <= i && are_others(store, i - 4, view) {
         i -= 4;
     }
+    i
 }
 
-// What is seen of all statements, from the last place down, field by field.
+// What is seen of all statements, from the last place down, field by field. How far down a step goes is not known before, so no range
+// would do.
 fn look_down(store: &[u8], told: &[u16], count: usize, view: u32, wait: u64, clock: u64) -> Glance
     requires { (Begun store.now told.now count wait) × (Views store.now view) }
     ensures { Looked store.now told.now view wait clock count result.votes result.settled }
@@ -129,21 +127,20 @@ fn look_down(store: &[u8], told: &[u16], count: usize, view: u32, wait: u64, clo
             continue;
         }
         if is_told(store, told, i) {
-            if store::voted_at(store, i) == 0 {
+            let Some(_) = store::voted_at(store, i) else {
                 continue;
-            }
+            };
             votes += 1;
             continue;
         }
         if store::kind_at(store, i) == 1 {
             continue;
         }
-        let vote = store::voted_at(store, i);
-        if vote == 0 {
+        let Some(vote) = store::voted_at(store, i) else {
             continue;
-        }
+        };
         votes += 1;
-        if clock < vote as u64 + wait {
+        if clock <= u64::from(vote) + wait {
             continue;
         }
         settled = i;
@@ -163,6 +160,6 @@ pub fn look(store: &[u8], station: Station, told: &[u16]) -> Glance
         station.statements,
         station.view,
         2 * settings.delay,
-        station.clock as u64 + 1,
+        u64::from(station.clock) + 1,
     )
 }

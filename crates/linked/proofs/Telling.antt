@@ -1,14 +1,14 @@
 -- What is told of the lowest logged names, name by name. Assumes nothing.
 use Prim.Native.Nat.{ℕ, zero, suc, ◌+◌, ◌-◌, ◌<◌}
 use mathlib.Core.Path.{◌≡◌, refl, sym, ap, ◌∙◌}
-use mathlib.Core.Bool.{Bool, true, false, not, ◌&&◌, false≢true}
+use mathlib.Core.Bool.{Bool, true, false, ◌&&◌, false≢true}
 use mathlib.Core.List.{List}
 use native.Mathlib.Omega.{arith}
 use native.Mathlib.Decide.{ℕ_discrete, dec_lt}
 use lib.Dec.{eqb}
 use lib.ListN.{length, set, replicate, length-set, length-replicate}
 use lib.Seq.{get_or-set_same, get_or-set_other}
-use borrow.Author.Tests.{eqb-true, not-true, not-false}
+use borrow.Author.Tests.{eqb-true}
 use Rattle.rules.specs.Limits.{most_statements_large}
 use Rattle.laws.proofs.Tests.{and_left, and_right}
 use Rattle.laws.proofs.Searches.{first_any}
@@ -64,10 +64,14 @@ module _ {b t : List ℕ} where
       }
 
 -- the first stored propose of a logged name settles it, where it is also the first above the name below
-module _ (b : List ℕ) (n k rest : ℕ) where
-  settles_by : k < count_of log_table b → n ≡ count_of statement_table b → 0 < rest → {is_first : Bool} → Foremosts b k n rest is_first → is_first ≡ true → Settling b k (n - rest + 1)
-  settles_by logged e g found t p w =
-      let is : n - rest ≡ p = omega arith in
+module _ (b : List ℕ) (n k place : ℕ) where
+  abbrev rest : ℕ
+  rest = n - place
+
+  settles_by : k < count_of log_table b → n ≡ count_of statement_table b → place < n → {is_first : Bool} → Foremosts b k n rest is_first → is_first ≡ true → Settling b k (place + 1)
+  settles_by logged e l found t p w =
+      let g : 0 < rest = omega (arith, l) in
+      let is : n - rest ≡ p = omega (arith, l, w) in
       let within = found.above.within in
       let passes = (first_any (sought_at b k false) (places 0 n) (n - rest) (found.above.is ∙ sym (place_left_lem n rest g))).1 in
       rw (← is)
@@ -87,12 +91,11 @@ pub so_far_none : {b t : List ℕ} → t ≡ replicate most_statements_large 0 �
 so_far_none e = record { told = lowest_told (lowest_none e); lowest = λ h. lowest_none e }
 
 module _ {b t : List ℕ} {k : ℕ} {on : Bool} (h : SoFar b k t on) (is_first : Bool) where
-  pub so_far_less : not (on && is_first) ≡ true → SoFar b (k + 1) t (on && is_first)
-  so_far_less off = record { told = h.told; lowest = λ u. absurd (false≢true (sym (not-true _ off) ∙ u)) }
+  pub so_far_less : (on && is_first) ≡ false → SoFar b (k + 1) t (on && is_first)
+  so_far_less off = record { told = h.told; lowest = λ u. absurd (false≢true (sym off ∙ u)) }
 
-  pub so_far_more : not (on && is_first) ≡ false → {n rest : ℕ} → k < count_of log_table b → k < most_statements_large → n ≡ count_of statement_table b → 0 < rest → Foremosts b k n rest is_first
-      → SoFar b (k + 1) (set t k (n - rest + 1)) (on && is_first)
-  so_far_more go {n} {rest} logged few e g found =
-      let both = not-false _ go in
-      let more = lowest_more (h.lowest (and_left on is_first both)) few (λ z. omega (arith, z)) (settles_by b n k rest logged e g found (and_right on is_first both)) in
+  pub so_far_more : (on && is_first) ≡ true → {n place : ℕ} → k < count_of log_table b → k < most_statements_large → n ≡ count_of statement_table b → place < n → Foremosts b k n (n - place) is_first
+      → SoFar b (k + 1) (set t k (place + 1)) (on && is_first)
+  so_far_more go {n} {place} logged few e l found =
+      let more = lowest_more (h.lowest (and_left on is_first go)) few (λ z. omega (arith, z)) (settles_by b n k place logged e l found (and_right on is_first go)) in
       record { told = lowest_told more; lowest = λ u. more }

@@ -10,10 +10,11 @@ ghost use Rattle.store.specs.Layout.{size_in, store_length, statement_table, log
 ghost use Rattle.store.specs.Decode.{statement_at};
 ghost use Rattle.form.specs.Lent.{Counts};
 ghost use Rattle.chains.specs.Chains.{Bare, Chained};
-ghost use Rattle.linked.specs.Links.{is_link, height_chain, Foremosts, Checked};
+ghost use Rattle.linked.specs.Links.{is_link, height_chain, Checked};
+ghost use Rattle.linked.specs.Answers.{Answered};
 ghost use Rattle.linked.specs.Told.{name_below};
 
-use chains::CHAINS;
+use chains::{CHAINS, Chains};
 use fields::Name;
 use settings::Settings;
 use store::{LINK, NAME, STATEMENT_SIZE, STATEMENTS};
@@ -27,24 +28,17 @@ pub fn links(store: &[u8], i: usize, height: u32, name: Name, parent: Name) -> b
         return false;
     }
     let statement = store::statement_at(store, i);
-    !statement.is_new_view & name.same(statement.name) & parent.same(statement.link)
+    !statement.is_new_view & (name == statement.name) & (parent == statement.link)
 }
 
 // All statements hang on the chains of their heights.
-fn hang_all(
-    store: &[u8],
-    count: usize,
-    heads: &mut [u16; CHAINS],
-    nexts: &mut [u16; Settings::MOST_TALLIES_LARGE],
-)
-    requires { Counts statement_table store.now count × Bare heads.old nexts.old }
-    ensures { Chained (height_chain store.now) 0 count heads.new nexts.new }
+fn hang_all(store: &[u8], count: usize, hung: &mut Chains)
+    requires { Counts statement_table store.now count × Bare hung.old.heads hung.old.nexts }
+    ensures { Chained (height_chain store.now) 0 count hung.new.heads hung.new.nexts }
 {
-    let mut i = count;
-    while 0 < i {
-        i -= 1;
+    for i in (0..count).rev() {
         let chain = store::height_at(store, i) as usize % CHAINS;
-        chains::hang(heads, nexts, chain, i, count - i);
+        hung.hang(chain, i, count - i);
     }
 }
 
@@ -70,41 +64,32 @@ fn is_above(store: &[u8], i: usize, k: usize) -> bool
     fields::same(store, store::name_place(store, k - 1), store, link, 32)
 }
 
-// How many statements are left from the first propose of a logged name on that is above the name below, 0 where there is none; and
-// whether it is also the first of that name.
+// The place of the first propose of a logged name that is above the name below, and whether it is also the first of that name. The place
+// holds either way, so the flag is no Option.
 #[derive(Clone, Copy)]
 struct Sought {
-    rest: usize,
+    place: usize,
     foremost: bool,
 }
 
-// That of the name logged at place k, along the chain of its height.
-fn first_sought(
-    store: &[u8],
-    count: usize,
-    heads: &[u16; CHAINS],
-    nexts: &[u16; Settings::MOST_TALLIES_LARGE],
-    k: usize,
-) -> Sought
-    requires { (k < most_statements (size_in store.now)) × Counts statement_table store.now count × Chained (height_chain store.now) 0 count heads.now nexts.now }
-    ensures { Foremosts store.now k count result.rest result.foremost }
+// That of the name logged at place k: a walk along the chain of its height, which counts nothing, since each statement names the next.
+fn first_sought(store: &[u8], count: usize, hung: &Chains, k: usize) -> Option<Sought>
+    requires { (k < most_statements (size_in store.now)) × Counts statement_table store.now count × Chained (height_chain store.now) 0 count hung.now.heads hung.now.nexts }
+    ensures { Answered store.now k count result }
 {
     let at = store::name_place(store, k);
     let mut foremost = true;
-    let mut rest = heads[(k + 1) % CHAINS] as usize;
+    let mut rest = hung.heads[(k + 1) % CHAINS] as usize;
     while 0 < rest {
         let i = count - rest;
         let named = is_block(store, i, k as u32 + 1, at);
         if is_above(store, i, k) & named {
-            return Sought { rest, foremost };
+            return Some(Sought { place: i, foremost });
         }
-        foremost = foremost & !named;
-        rest = nexts[i] as usize;
+        foremost &= !named;
+        rest = hung.nexts[i] as usize;
     }
-    Sought {
-        rest: 0,
-        foremost: false,
-    }
+    None
 }
 
 // Whether each logged name, above the one before, is that of a stored propose. Of the lowest names the table is told which stored
@@ -121,24 +106,17 @@ pub fn is_linked(
     if count == 0 {
         return true;
     }
-    let mut heads: [u16; CHAINS] = [0; CHAINS];
-    let mut nexts: [u16; Settings::MOST_TALLIES_LARGE] = [0; Settings::MOST_TALLIES_LARGE];
-    hang_all(store, stored, &mut heads, &mut nexts);
+    let mut hung = Chains::new();
+    hang_all(store, stored, &mut hung);
     let mut telling = true;
-    let mut k: usize = 0;
-    while k < count {
-        let found = first_sought(store, stored, &heads, &nexts, k);
-        let rest = found.rest;
-        if rest == 0 {
+    for k in 0..count {
+        let Some(found) = first_sought(store, stored, &hung, k) else {
             return false;
+        };
+        telling &= found.foremost;
+        if telling {
+            told[k] = found.place as u16 + 1;
         }
-        telling = telling & found.foremost;
-        if !telling {
-            k += 1;
-            continue;
-        }
-        told[k] = (stored - rest) as u16 + 1;
-        k += 1;
     }
     true
 }

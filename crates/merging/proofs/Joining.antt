@@ -14,7 +14,7 @@ use Rattle.store.specs.Decode.{rows}
 use Rattle.store.proofs.Rows.{rows_same}
 use Rattle.glance.specs.Tables.{name_in}
 use Rattle.merging.specs.Joins.{name_so_far, Copied, WholeChain, Agree, JoinedWith}
-use Rattle.merging.specs.declared.Merged.TheVariants.{Grown, Differs}
+use Rattle.std.specs.Prelude.{None, Some}
 use Rattle.merging.proofs.Places.{name_same, so_far_new, so_far_same}
 
 module _ (f g : ℕ → ℕ) where
@@ -74,7 +74,7 @@ module _ (b gained chain : List ℕ) (logged len height : ℕ) (r : WholeChain b
   abbrev G : ℕ → ℕ
   G = name_so_far b gained
 
-  pub join_differs : end ≤ height → end ≤ len → a ≡ false → JoinedWith b gained gained chain height len Differs
+  pub join_differs : end ≤ height → end ≤ len → a ≡ false → JoinedWith b gained gained chain height len None
   join_differs p q e =
       let d = subst (Agree F G end) e agree in
       merge_differs F G 0 height len d.0 (omega arith) (omega (arith, d.1)) (omega (arith, d.1)) d.2
@@ -82,7 +82,7 @@ module _ (b gained chain : List ℕ) (logged len height : ℕ) (r : WholeChain b
   alike : a ≡ true → (k : ℕ) → k < end → F k ≡ G k
   alike e = subst (Agree F G end) e agree
 
-  pub join_stays : height ≤ len → height ≤ end → a ≡ true → JoinedWith b gained gained chain height len (Grown len)
+  pub join_stays : height ≤ len → height ≤ end → a ≡ true → JoinedWith b gained gained chain height len (Some len)
   join_stays p q e = (
     record {
       is = merge_short F G 0 height len p (λ k l m. alike e k (omega arith));
@@ -93,7 +93,7 @@ module _ (b gained chain : List ℕ) (logged len height : ℕ) (r : WholeChain b
     record { up = p; same = λ k l. alike e k (omega arith) },
   )
 
-  pub join_grows : len ≤ height → len ≤ end → a ≡ true → (left : List ℕ) → Copied chain gained left len height → JoinedWith b gained left chain height len (Grown height)
+  pub join_grows : len ≤ height → len ≤ end → a ≡ true → (left : List ℕ) → Copied chain gained left len height → JoinedWith b gained left chain height len (Some height)
   join_grows p q e left c = (
     record {
       is = merge_long F G 0 height len p (λ k l m. alike e k (omega arith)) ∙ ap some (rows_same F (name_so_far b left) 0 height (λ k l m. same k (omega arith)));

@@ -1,13 +1,11 @@
 -- A chain and the log of a tick as places of statements in local tables, and how they join. Assumes nothing.
-use Rattle.std.specs.Prelude.{ℕ, ◌<◌, ◌≤◌, ◌≡◌, Bool, true, false, List, length, get_or, ltb}
+use Rattle.std.specs.Prelude.{Option as Maybe, None, Some, ℕ, ◌<◌, ◌≤◌, ◌≡◌, Bool, true, false, List, length, get_or, ltb}
 use Rattle.std.proofs.Math.Option.{Option, none, some}
 use Rattle.rules.specs.Limits.{most_statements_large}
 use Rattle.rules.specs.Inputs.{merge}
 use Rattle.store.specs.Layout.{log_table, count_of}
 use Rattle.store.specs.Decode.{rows, name_at, Form}
 use Rattle.glance.specs.Tables.{name_in, Stored}
-use Rattle.merging.specs.declared.Merged.{Merged}
-use Rattle.merging.specs.declared.Merged.TheVariants.{Grown, Differs}
 
 -- the log of a tick: the logged names, and above them those of a table
 unfoldable pub name_so_far : List ℕ → List ℕ → ℕ → ℕ
@@ -48,6 +46,6 @@ pub record Has (b t chain : List ℕ) (height n : ℕ) : Type 0 where
   pub up : height ≤ n
   pub same : (k : ℕ) → k < height → name_in b chain k ≡ name_so_far b t k
 
-abbrev pub JoinedWith : List ℕ → List ℕ → List ℕ → List ℕ → ℕ → ℕ → Merged → Type 0
-JoinedWith b t t' chain height len (Grown n) = Log (merge (rows (name_in b chain) 0 height) (rows (name_so_far b t) 0 len)) b t' n × Has b t' chain height n
-JoinedWith b t t' chain height len Differs = merge (rows (name_in b chain) 0 height) (rows (name_so_far b t) 0 len) ≡ none
+abbrev pub JoinedWith : List ℕ → List ℕ → List ℕ → List ℕ → ℕ → ℕ → Maybe ℕ → Type 0
+JoinedWith b t t' chain height len (Some n) = Log (merge (rows (name_in b chain) 0 height) (rows (name_so_far b t) 0 len)) b t' n × Has b t' chain height n
+JoinedWith b t t' chain height len None = merge (rows (name_in b chain) 0 height) (rows (name_so_far b t) 0 len) ≡ none

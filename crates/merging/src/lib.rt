@@ -7,16 +7,9 @@ ghost use Rattle.rules.specs.Limits.{most_statements};
 ghost use Rattle.fields.specs.Names.{name_of};
 ghost use Rattle.store.specs.Layout.{size_in, log_table, store_length, count_of};
 ghost use Rattle.glance.specs.Tables.{name_in, Known};
-ghost use Rattle.merging.specs.Joins.{name_so_far, WholeChain, Agree, Copied, JoinedWith};
+ghost use Rattle.merging.specs.Joins.{name_so_far, WholeChain, Agree, JoinedWith};
 
 use fields::Name;
-
-// The log is so long now, or a chain differs from it.
-#[derive(Clone, Copy)]
-pub enum Merged {
-    Grown(usize),
-    Differs,
-}
 
 // The name of the statement whose place stands in a table.
 fn name_in(store: &[u8], table: &[u16], k: usize) -> Name
@@ -52,43 +45,18 @@ fn agrees(
     requires { (WholeChain store.now gained.now chain.now logged len height) × (Known store.now chain.now known) × (end ≤ len) × (end ≤ height) }
     ensures { Agree (name_in store.now chain.now) (name_so_far store.now gained.now) end result }
 {
-    let mut k = known;
-    loop {
-        if end <= k {
-            break true;
-        }
+    for k in known..end {
         let own = name_in(store, chain, k);
         let old = name_so_far(store, logged, gained, k);
-        if !own.same(old) {
-            break false;
+        if own != old {
+            return false;
         }
-        k += 1;
     }
+    true
 }
 
-// Copies the places from one height up to another.
-fn copy_places(from: &[u16], to: &mut [u16], start: usize, end: usize)
-    requires { (end ≤ length from.now) × (end ≤ length to.old) }
-    ensures { Copied from.now to.old to.new start end }
-{
-    let mut k = start;
-    while k < end {
-        to[k] = from[k];
-        k += 1;
-    }
-}
-
-// The smaller of two numbers.
-fn least(a: usize, b: usize) -> usize
-    ensures { (result ≤ a) × (result ≤ b) × (a ≤ b → a ≤ result) × (b ≤ a → b ≤ result) }
-{
-    if a < b {
-        return a;
-    }
-    b
-}
-
-// A whole chain joins the log so far.
+// A whole chain joins the log so far: how long the log is then, or nothing where the chain differs from it. The lengths stand beside
+// the tables, for there is no heap: the log's table grows in place, and the chain's is walked into again.
 pub fn join(
     store: &[u8],
     logged: usize,
@@ -97,7 +65,7 @@ pub fn join(
     chain: &[u16],
     height: usize,
     known: usize,
-) -> Merged
+) -> Option<usize>
     requires { (WholeChain store.now gained.old chain.now logged len height) × (Known store.now chain.now known) }
     ensures { JoinedWith store.now gained.old gained.new chain.now height len result }
 {
@@ -109,13 +77,13 @@ pub fn join(
         chain,
         height,
         known,
-        least(height, len),
+        height.min(len),
     ) {
-        return Merged::Differs;
+        return None;
     }
     if height <= len {
-        return Merged::Grown(len);
+        return Some(len);
     }
-    copy_places(chain, gained, len, height);
-    Merged::Grown(height)
+    gained[len..height].copy_from_slice(&chain[len..height]);
+    Some(height)
 }

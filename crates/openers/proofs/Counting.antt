@@ -1,7 +1,7 @@
 -- Openers counted all at once are the tallies that each author opened. Assumes nothing.
 use Prim.Native.Nat.{ℕ, zero, suc, ◌+◌, ◌-◌, ◌<◌, ◌≤◌}
 use mathlib.Core.Path.{◌≡◌, refl, sym, ap, ◌∙◌}
-use mathlib.Core.Bool.{Bool, ◌&&◌}
+use mathlib.Core.Bool.{Bool, ◌&&◌, and_comm}
 use mathlib.Core.List.{List, [], ◌∷◌}
 use native.Mathlib.Omega.{arith}
 use native.Mathlib.Nat.{sub-zero}
@@ -90,6 +90,6 @@ counted_author b n counts h e a l =
     rw (q, ← e) (h (suc a) (omega arith) (omega arith) ∙ times_author b a 0 n)
 
 -- the next author
-pub few_next : (ts : List Tally) (a v : ℕ) (few : Bool) → v ≡ opened_by a ts → few ≡ few_opened a ts → (leb v most_opened && few) ≡ few_opened (a + 1) ts
+pub few_next : (ts : List Tally) (a v : ℕ) (few : Bool) → v ≡ opened_by a ts → few ≡ few_opened a ts → (few && leb v most_opened) ≡ few_opened (a + 1) ts
 unfolding few_opened
-few_next ts a v few e f = rw (e, f, add-one a)
+few_next ts a v few e f = and_comm few (leb v most_opened) ∙ rw (e, f, add-one a)

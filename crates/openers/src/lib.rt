@@ -18,12 +18,9 @@ fn counts_of(store: &[u8], count: usize) -> [u16; 256]
     ensures { Counted store.now 0 count result }
 {
     let mut counts: [u16; 256] = [0; 256];
-    let mut i = count;
-    while 0 < i {
-        i -= 1;
-        let opener = store::opener_at(store, i) as usize;
-        if 0 < opener {
-            counts[opener] = counts[opener] + 1;
+    for i in (0..count).rev() {
+        if let Some(author) = store::opener_at(store, i) {
+            counts[usize::from(author) + 1] += 1;
         }
     }
     counts
@@ -37,10 +34,8 @@ pub fn few_opened(store: &[u8], settings: Settings, count: usize) -> bool
     let counts = counts_of(store, count);
     let n = settings.n as usize;
     let mut few = true;
-    let mut author: usize = 0;
-    while author < n {
-        few = (counts[author + 1] <= Settings::MOST_OPENED) & few;
-        author += 1;
+    for author in 0..n {
+        few &= counts[author + 1] <= Settings::MOST_OPENED;
     }
     few
 }

@@ -14,9 +14,8 @@ ghost use Rattle.chains.specs.Chains.{chains, behind, Walk, Chained};
 ghost use Rattle.apart.specs.Tallies.{tally_chain};
 ghost use Rattle.repeats.specs.Repeats.{AllCertify, statement_chain, is_same, Met};
 
-use backed::Certified;
-use chains::CHAINS;
-use settings::Settings;
+use apart::Block;
+use chains::Chains;
 use store::{AUTHOR, LINK, NAME, STATEMENT_SIZE, STATEMENTS};
 
 // Whether two statements are the same, but for the mask, where they lie.
@@ -33,15 +32,10 @@ fn is_same(store: &[u8], i: usize, k: usize) -> bool
     block & (((store::kind_at(store, i) == 1) == (store::kind_at(store, k) == 1)) & written)
 }
 
-// Whether one of the last so many statements is the same as statement i, on their chain.
-fn met(
-    store: &[u8],
-    count: usize,
-    nexts: &[u16; Settings::MOST_TALLIES_LARGE],
-    left: usize,
-    i: usize,
-) -> bool
-    requires { Counts statement_table store.now count × (i < count) × Walk (is_same store.now (statement_at store.now i)) count left nexts.now }
+// Whether one of the last so many statements is the same as statement i, on their chain: a walk along it, which counts nothing, since
+// each statement names the next.
+fn met(store: &[u8], count: usize, hung: &Chains, left: usize, i: usize) -> bool
+    requires { Counts statement_table store.now count × (i < count) × Walk (is_same store.now (statement_at store.now i)) count left hung.now.nexts }
     ensures { result ≡ any (is_same store.now (statement_at store.now i)) (behind count left) }
 {
     let mut rest = left;
@@ -50,7 +44,7 @@ fn met(
         if is_same(store, i, k) {
             return true;
         }
-        rest = nexts[k] as usize;
+        rest = hung.nexts[k] as usize;
     }
     false
 }
@@ -60,19 +54,18 @@ fn repeated(
     store: &[u8],
     salt: u64,
     count: usize,
-    heads: &mut [u16; CHAINS],
-    nexts: &mut [u16; Settings::MOST_TALLIES_LARGE],
+    hung: &mut Chains,
     i: usize,
     chain: usize,
 ) -> bool
-    requires { Counts statement_table store.now count × (i < count) × Chained (statement_chain store.now salt) (i + 1) count heads.old nexts.old × (chain ≡ statement_chain store.now salt i) × (chain < chains) }
-    ensures { Met store.now salt count i result heads.new nexts.new }
+    requires { Counts statement_table store.now count × (i < count) × Chained (statement_chain store.now salt) (i + 1) count hung.old.heads hung.old.nexts × (chain ≡ statement_chain store.now salt i) × (chain < chains) }
+    ensures { Met store.now salt count i result hung.new.heads hung.new.nexts }
 {
-    let left = heads[chain] as usize;
-    if met(store, count, nexts, left, i) {
+    let left = hung.heads[chain] as usize;
+    if met(store, count, hung, left, i) {
         return true;
     }
-    chains::hang(heads, nexts, chain, i, count - i);
+    hung.hang(chain, i, count - i);
     false
 }
 
@@ -81,33 +74,29 @@ pub fn there_and_apart(
     store: &[u8],
     salt: u64,
     count: usize,
-    heads: &[u16; CHAINS],
-    nexts: &[u16; Settings::MOST_TALLIES_LARGE],
+    tallied: &Chains,
     stored: usize,
 ) -> bool
-    requires { Counts tally_table store.now count × Chained (tally_chain store.now salt) 0 count heads.now nexts.now × Counts statement_table store.now stored × AllCertify store.now stored }
+    requires { Counts tally_table store.now count × Chained (tally_chain store.now salt) 0 count tallied.now.heads tallied.now.nexts × Counts statement_table store.now stored × AllCertify store.now stored }
     ensures { result ≡ (all (tallies_there (tallies store.now)) (statements store.now) && distinct same_statement (statements store.now)) }
 {
     if stored == 0 {
         return true;
     }
-    let mut hung: [u16; CHAINS] = [0; CHAINS];
-    let mut follow: [u16; Settings::MOST_TALLIES_LARGE] = [0; Settings::MOST_TALLIES_LARGE];
-    let mut after = Certified {
+    let mut hung = Chains::new();
+    let mut after = Block {
         key: 0,
         at: 0,
         mixed: 0,
     };
-    let mut i = stored;
-    while 0 < i {
-        i -= 1;
+    for i in (0..stored).rev() {
         let block = backed::certified_block(store, salt, i);
         let own = backed::own_block(store, salt, i, block.key, after);
-        if !backed::there(store, salt, count, heads, nexts, i, own, block) {
+        if !backed::there(store, salt, count, tallied, i, own, block) {
             return false;
         }
         let chain = chains::chain_of(chains::stirred(own.mixed, block.mixed));
-        if repeated(store, salt, stored, &mut hung, &mut follow, i, chain) {
+        if repeated(store, salt, stored, &mut hung, i, chain) {
             return false;
         }
         after = block;

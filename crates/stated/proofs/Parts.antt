@@ -21,7 +21,8 @@ use Rattle.settings.specs.Made.{settings_of}
 use Rattle.words.specs.Meaning.{Certifies}
 use Rattle.words.proofs.Statements.{certifies_allowed}
 use Rattle.store.specs.Layout.{statement_table, place_of}
-use Rattle.tallies.specs.Values.{vote_of}
+use Rattle.std.specs.Prelude.{Option as Told, Some, None}
+use Rattle.tallies.specs.Values.{told, vote_of}
 use Rattle.store.specs.Decode.{statement_at, kind_at, vote_at, state_from}
 use Rattle.store.specs.Meaning.{header_of}
 use Rattle.store.specs.declared.Station.{Station}
@@ -29,14 +30,13 @@ use Rattle.heading.specs.Alone.{alone}
 use Rattle.tallied.proofs.Parts.{lost, kept}
 use Rattle.stated.specs.Stated.{vote_in_order, new_view_said, propose_said}
 
-pub vote_none : (clock v : ℕ) → v ≡ 0 → true ≡ vote_in_order clock (vote_of v)
+pub vote_none : (clock : ℕ) (v : Told ℕ) → v ≡ None → true ≡ vote_in_order clock (told v)
 unfolding vote_in_order
 vote_none clock v e = rw e
 
-pub vote_some : (clock v : ℕ) → (v ≡ 0 → ⊥) → leb (v - 1) clock ≡ vote_in_order clock (vote_of v)
+pub vote_some : (clock c : ℕ) (v : Told ℕ) → v ≡ Some c → leb c clock ≡ vote_in_order clock (told v)
 unfolding vote_in_order
-vote_some clock zero d = absurd (d refl)
-vote_some clock (suc c) d = ap (λ (k : ℕ). leb k clock) (omega arith)
+vote_some clock c v e = rw e
 
 stored_name : (b : List ℕ) → Bytes b → (at : ℕ) → is_name (number b at 32) ≡ true
 unfolding is_name

@@ -7,7 +7,7 @@ ghost use Rattle.rules.specs.Lists.{all};
 ghost use Rattle.rules.specs.WellFormed.{statement_good};
 ghost use Rattle.fields.specs.Places.{number};
 ghost use Rattle.store.specs.Layout.{size_in, store_length, statement_table};
-ghost use Rattle.tallies.specs.Values.{vote_of};
+ghost use Rattle.tallies.specs.Values.{told};
 ghost use Rattle.store.specs.Decode.{statement_at, statements};
 ghost use Rattle.form.specs.Lent.{Counts};
 ghost use Rattle.heading.specs.Alone.{alone};
@@ -22,13 +22,13 @@ use tallied::block;
 pub const CERT: usize = LINK + 28;
 
 // Whether a vote, if there is one, was not after the clock.
-fn vote_in_order(vote: u32, clock: u32) -> bool
-    ensures { result ≡ vote_in_order clock (vote_of vote) }
+fn vote_in_order(vote: Option<u32>, clock: u32) -> bool
+    ensures { result ≡ vote_in_order clock (told vote) }
 {
-    if vote == 0 {
-        return true;
+    match vote {
+        Some(voted) => voted <= clock,
+        None => true,
     }
-    vote - 1 <= clock
 }
 
 // Whether what a new-view says of its certificate is allowed: the certificate's view is its link, of which the last four bytes count.
@@ -94,12 +94,10 @@ pub fn all_good(store: &[u8], station: Station, count: usize) -> bool
     requires { Counts statement_table store.now count }
     ensures { result ≡ all (statement_good (alone station)) (statements store.now) }
 {
-    let mut i: usize = 0;
-    while i < count {
+    for i in 0..count {
         if !statement_good(store, station, i) {
             return false;
         }
-        i += 1;
     }
     true
 }

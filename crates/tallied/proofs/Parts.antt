@@ -1,5 +1,5 @@
 -- A block and a tally as the code tests them. Assumes nothing.
-use Prim.Native.Nat.{ℕ, zero, suc, ◌+◌, ◌-◌, ◌^◌, ◌<◌, ◌≤◌}
+use Prim.Native.Nat.{ℕ, zero, suc, ◌+◌, ◌^◌, ◌<◌, ◌≤◌}
 use mathlib.Core.Path.{◌≡◌, refl, sym, ap, ◌∙◌}
 use mathlib.Core.Bool.{Bool, true, false, not, ◌&&◌, and-true, and-false}
 use native.Mathlib.Nat.{add-zero}
@@ -10,7 +10,8 @@ use Rattle.fields.proofs.Laws.{number_lt}
 use Rattle.store.proofs.Kept.{zero_front}
 use mathlib.Core.List.{List}
 use Rattle.store.specs.Layout.{size_in, tally_table, place_of}
-use Rattle.tallies.specs.Values.{opener_of, reached_from}
+use Rattle.std.specs.Prelude.{Option as Told, Some, None}
+use Rattle.tallies.specs.Values.{told, opener_of, reached_from}
 use Rattle.store.specs.Decode.{tally_at, tally_for, opener_at, opener_for, since_at, since_for}
 use native.Mathlib.Omega.{arith}
 use lib.Dec.{leb, ltb, eqb}
@@ -88,38 +89,26 @@ module _ (g : Settings) (now : ℕ) (b : List ℕ) (bytes : Bytes b) (i at : ℕ
   pub as_since : viewed ≡ true → blocked ≡ true → masked ≡ true → opened ≡ true → since ≡ good
   as_since v k m o = kept viewed blocked masked opened since v k m o ∙ tally_is
 
--- the clock of the first quorum, by the record's number
-module _ (g : Settings) (now m k : ℕ) where
-  pub reached_none : k ≡ 0 → not (quorum (settings_of g) m) ≡ reached_good (settings_of g) now m (reached_from k)
+-- the clock of the first quorum
+module _ (g : Settings) (now m : ℕ) (r : Told ℕ) where
+  pub reached_none : r ≡ None → not (quorum (settings_of g) m) ≡ reached_good (settings_of g) now m (told r)
   unfolding reached_good
   reached_none e = rw e
 
-  pub reached_some : (k ≡ 0 → ⊥) → (quorum (settings_of g) m && leb (k - 1) now) ≡ reached_good (settings_of g) now m (reached_from k)
+  pub reached_some : (c : ℕ) → r ≡ Some c → (quorum (settings_of g) m && leb c now) ≡ reached_good (settings_of g) now m (told r)
   unfolding reached_good
-  reached_some d = go k refl
-    where
-      go : (j : ℕ) → k ≡ j → (quorum (settings_of g) m && leb (k - 1) now) ≡ reached_good (settings_of g) now m (reached_from j)
-      go zero e = absurd (d e)
-      go (suc c) e = let f : k - 1 ≡ c = omega arith in rw f
+  reached_some c e = rw e
 
--- who opened a tally, by the record's number
-module _ (g : Settings) (m k : ℕ) where
-  pub opener_none : k ≡ 0 → true ≡ opener_good (settings_of g) m (opener_of k)
+-- who opened a tally
+module _ (g : Settings) (m : ℕ) (r : Told ℕ) where
+  pub opener_none : r ≡ None → true ≡ opener_good (settings_of g) m (told r)
   unfolding opener_good
   opener_none e = rw e
 
-  pub opener_other : (k ≡ 0 → ⊥) → g.n ≤ k - 1 → false ≡ opener_good (settings_of g) m (opener_of k)
+  pub opener_other : (a x : ℕ) → r ≡ Some x → a ≡ x → g.n ≤ a → false ≡ opener_good (settings_of g) m (told r)
   unfolding opener_good
-  opener_other d l = go k refl
-    where
-      go : (j : ℕ) → k ≡ j → false ≡ opener_good (settings_of g) m (opener_of j)
-      go zero e = absurd (d e)
-      go (suc a) e = let f : ltb a g.n ≡ false = le-ltb a g.n (omega arith) in rw f
+  opener_other a x e q l = let f : ltb x g.n ≡ false = le-ltb x g.n (omega arith) in rw (e, f)
 
-  pub opener_some : (k ≡ 0 → ⊥) → k - 1 < g.n → {r : Bool} → r ≡ holds m (k - 1) → r ≡ opener_good (settings_of g) m (opener_of k)
+  pub opener_some : (a x : ℕ) → r ≡ Some x → a ≡ x → a < g.n → {h : Bool} → h ≡ holds m a → h ≡ opener_good (settings_of g) m (told r)
   unfolding opener_good
-  opener_some d l {r} q = go k refl
-    where
-      go : (j : ℕ) → k ≡ j → r ≡ opener_good (settings_of g) m (opener_of j)
-      go zero e = absurd (d e)
-      go (suc a) e = let f : k - 1 ≡ a = omega arith in rw (lt-ltb a g.n (omega arith)) (q ∙ ap (holds m) f)
+  opener_some a x e q l {h} p = let f : ltb x g.n ≡ true = lt-ltb x g.n (omega arith) in rw (e, f) (p ∙ ap (holds m) q)

@@ -5,7 +5,7 @@ ghost use Rattle.rules.specs.Lists.{all};
 ghost use Rattle.rules.specs.WellFormed.{opener_good, reached_good, tally_good};
 ghost use Rattle.settings.specs.Made.{settings_of};
 ghost use Rattle.store.specs.Layout.{size_in, store_length, tally_table};
-ghost use Rattle.tallies.specs.Values.{opener_of, reached_from};
+ghost use Rattle.tallies.specs.Values.{told};
 ghost use Rattle.store.specs.Decode.{tally_at, tallies};
 ghost use Rattle.form.specs.Lent.{Counts};
 
@@ -14,32 +14,32 @@ use settings::Settings;
 use store::{HEIGHT, NAME, VOTERS};
 
 // Whether who opened a tally, if an author did, is one of these stations and among its voters.
-fn opener_good(settings: Settings, mask: u16, opener: u8) -> bool
+fn opener_good(settings: Settings, mask: u16, opener: Option<u8>) -> bool
     requires { settings.n ≤ most_stations }
-    ensures { result ≡ opener_good (settings_of settings) mask (opener_of opener) }
+    ensures { result ≡ opener_good (settings_of settings) mask (told opener) }
 {
-    if opener == 0 {
+    let Some(voter) = opener else {
         return true;
-    }
-    let author = opener as u64 - 1;
+    };
+    let author = u64::from(voter);
     if settings.n <= author {
         return false;
     }
-    settings::holds(mask as u64, author)
+    settings::holds(u64::from(mask), author)
 }
 
 // Whether the clock of the first quorum is there exactly when a quorum is, and is not after the present one.
-fn reached_good(settings: Settings, clock: u32, mask: u16, reached: u32) -> bool
-    ensures { result ≡ reached_good (settings_of settings) clock mask (reached_from reached) }
+fn reached_good(settings: Settings, clock: u32, mask: u16, reached: Option<u32>) -> bool
+    ensures { result ≡ reached_good (settings_of settings) clock mask (told reached) }
 {
-    let certified = settings.quorum(mask as u64);
-    if reached == 0 {
+    let certified = settings.quorum(u64::from(mask));
+    let Some(first) = reached else {
         return !certified;
-    }
+    };
     if !certified {
         return false;
     }
-    reached - 1 <= clock
+    first <= clock
 }
 
 // Whether a tally is of a view and a block that are allowed, with a mask of these stations, opened by nobody or by one of its voters,
@@ -56,7 +56,7 @@ fn tally_good(store: &[u8], settings: Settings, clock: u32, i: usize) -> bool
         return false;
     }
     let mask = fields::get(store, at + VOTERS, 2) as u16;
-    if settings::only(settings.n) <= mask as u64 {
+    if settings::only(settings.n) <= u64::from(mask) {
         return false;
     }
     if !opener_good(settings, mask, store::opener_at(store, i)) {
@@ -70,12 +70,10 @@ pub fn all_good(store: &[u8], settings: Settings, clock: u32, count: usize) -> b
     requires { Counts tally_table store.now count × (settings.n ≤ most_stations) }
     ensures { result ≡ all (tally_good (settings_of settings) clock) (tallies store.now) }
 {
-    let mut i: usize = 0;
-    while i < count {
+    for i in 0..count {
         if !tally_good(store, settings, clock, i) {
             return false;
         }
-        i += 1;
     }
     true
 }

@@ -16,8 +16,7 @@ use Rattle.rules.specs.Words.{Statement}
 use Rattle.rules.specs.Inputs.{is_block, chain_to, chain}
 use Rattle.store.specs.Layout.{statement_table, count_of}
 use Rattle.store.specs.Decode.{nth, rows, statement_at, statements, name_at}
-use Rattle.store.specs.declared.Found.{Found}
-use Rattle.store.specs.declared.Found.TheVariants.{At, Nothing}
+use Rattle.std.specs.Prelude.{Option, Some, None}
 use Rattle.store.proofs.Rows.{rows_same}
 use Rattle.store.specs.Searches.{first_from}
 use Rattle.store.proofs.Searches.{found_within, found_matches, found_first, missing_first}
@@ -83,8 +82,8 @@ module _ (b : List ℕ) where
             (own_chain t (h - 1) i (omega arith) (omega arith));
       }
 
-  module _ (t : List ℕ) (h k link : ℕ) (d : Down b t h k link) (f : Found) (found : f ≡ first_from (is_block k link) 0 (statements b)) (pos : 0 < k) where
-    down_broken : f ≡ Nothing → Walked b t h k
+  module _ (t : List ℕ) (h k link : ℕ) (d : Down b t h k link) (f : Option ℕ) (found : f ≡ first_from (is_block k link) 0 (statements b)) (pos : 0 < k) where
+    down_broken : f ≡ None → Walked b t h k
     unfolding statements
     down_broken e =
         let q = missing_first (is_block k link) (statement_at b) (count_of statement_table b) f found e in
@@ -97,7 +96,7 @@ module _ (b : List ℕ) where
         lacks zero l c c' = absurd (omega arith)
         lacks (suc k) l c c' = refl
 
-    module _ (p : ℕ) (at : f ≡ At p) where
+    module _ (p : ℕ) (at : f ≡ Some p) where
       found_stored : p < count_of statement_table b
       unfolding statements
       found_stored = found_within (is_block k link) (statement_at b) (count_of statement_table b) f found p at
@@ -233,11 +232,11 @@ module _ {b t : List ℕ} {i height k link : ℕ} (w : Walking b t i height k li
             };
       }
 
-  module _ {f : Found} (found : f ≡ first_from (is_block k link) 0 (statements b)) (pos : 0 < k) where
-    pub walking_broken : f ≡ Nothing → WalkedDown b t i k 0
+  module _ {f : Option ℕ} (found : f ≡ first_from (is_block k link) 0 (statements b)) (pos : 0 < k) where
+    pub walking_broken : f ≡ None → WalkedDown b t i k 0
     walking_broken e = from k w.below (down_broken b t height k link w.down f found pos e)
 
-    module _ {p : ℕ} (e : f ≡ At p) where
+    module _ {p : ℕ} (e : f ≡ Some p) where
       pub walking_stored : p < count_of statement_table b
       walking_stored = found_stored b t height k link w.down f found pos p e
 

@@ -4,6 +4,8 @@ use Rattle.std.proofs.Math.Option.{Option, none, some}
 use Rattle.rules.specs.Inputs.{chain}
 use Rattle.store.specs.Decode.{rows, statement_at, name_at, statements}
 use Rattle.glance.specs.Tables.{statement_in, name_in, Stored, Known}
+use Rattle.walks.specs.declared.Reached.{Reached}
+use Rattle.walks.specs.declared.Reached.TheVariants.{Whole, Lacking}
 
 -- a chain that lacks so many of its lowest names: whole where it lacks none
 abbrev pub lacking : ℕ → List ℕ → Option (List ℕ)
@@ -25,6 +27,11 @@ pub record WalkedFrom (b t : List ℕ) (i left : ℕ) : Type 0 where
 pub record WalkedDown (b t : List ℕ) (i left known : ℕ) : Type 0 where
   pub from : WalkedFrom b t i left
   pub lowest : Known b t known
+
+-- what the walk answers: all are stored, and so many of the lowest names are the log's, or so many of the lowest are not stored
+abbrev pub Answered : List ℕ → List ℕ → ℕ → Reached → Type 0
+Answered b t i (Whole known) = WalkedDown b t i 0 known
+Answered b t i (Lacking left) = (0 < left) × WalkedDown b t i left 0
 
 -- the check told of the log's lowest k names, and a name is the highest of them
 abbrev pub Meets : List ℕ → List ℕ → ℕ → ℕ → Bool → Type 0

@@ -41,10 +41,6 @@ returns-then-repeated c =
     let twice = distinct_not (tally_at c.args.store.now) same_tally (loop.i - 1) _ _ c.requires.0.is (omega (arith, loop.invariant.0, loop-test.true)) (sym c.repeated.ensures.is ∙ c.if-repeated.true) in
     record { is = sym (ap (good &&◌) twice ∙ and-false good); hang = λ e. no_bool (sym e) }
 
-pub loop-i-smaller : goal.loop-i-smaller
-loop-i-smaller c =
-    omega (arith, c.loop-i-test.true)
-
 pub loop-i-preserved : goal.loop-i-preserved
 loop-i-preserved c =
     let store = c.args.store.now in

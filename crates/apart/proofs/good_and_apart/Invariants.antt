@@ -11,8 +11,4 @@ use Rattle.apart.proofs.good_and_apart.Given as goal
 
 abbrev pub invariant-loop-i : goal.invariant-loop-i
 invariant-loop-i l =
-    (l.i ≤ l.count) × Chained (tally_chain l.store l.salt) l.i l.count l.heads l.nexts × (distinct same_tally (rows (tally_at l.store) l.i (l.count - l.i)) ≡ true)
-
-abbrev pub decreases-loop-i : goal.decreases-loop-i
-decreases-loop-i l =
-    l.i
+    (l.i ≤ l.count) × Chained (tally_chain l.store l.salt) l.i l.count l.hung.heads l.hung.nexts × (distinct same_tally (rows (tally_at l.store) l.i (l.count - l.i)) ≡ true)

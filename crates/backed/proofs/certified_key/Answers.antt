@@ -6,9 +6,9 @@ use Rattle.backed.proofs.certified_key.Goals as goal
 
 pub returns-then-kind_at-eq1 : goal.returns-then-kind_at-eq1
 returns-then-kind_at-eq1 c =
-    let pre = c.requires in let shared-slice-known = c.shared_slice_known-1 in
+    let pre = c.requires in
     let kind_at = c.kind_at in
-    new_key _ shared-slice-known.given _ pre.2 (sym kind_at.ensures ∙ c.if-kind_at-eq1.true) _ _ c.get-view.ensures.0 c.height_at.ensures
+    new_key _ c.type_inv.store _ pre.2 (sym kind_at.ensures ∙ c.if-kind_at-eq1.true) _ _ c.get-view.ensures.0 (c.from.ensures ∙ c.height_at.ensures)
 
 pub overflow_sub-result : goal.overflow_sub-result
 overflow_sub-result c =

@@ -12,10 +12,10 @@ returns-then-not-own_there c =
 
 pub returns-then-block-lt4294967296 : goal.returns-then-block-lt4294967296
 returns-then-block-lt4294967296 c =
-    let shared-slice-known = c.shared_slice_known-1 in let own-there = c.own_there in
+    let own-there = c.own_there in
     let b = c.args.store.now in
     let i = c.args.i in
-    sym (there_genesis (tallies b) (statement_at b i) _ refl _ refl (sym own-there.ensures ∙ c.if-not-own_there.false) (certified_genesis b shared-slice-known.given i _ c.requires.4.keyed.key_is c.if-block-lt4294967296.true))
+    sym (there_genesis (tallies b) (statement_at b i) _ refl _ refl (sym own-there.ensures ∙ c.if-not-own_there.false) (certified_genesis b c.type_inv.store i _ c.requires.4.keyed.key_is c.if-block-lt4294967296.true))
 
 pub has_tally-requires : goal.has_tally-requires
 has_tally-requires c =
@@ -24,10 +24,10 @@ has_tally-requires c =
 
 pub returns : goal.returns
 returns c =
-    let shared-slice-known = c.shared_slice_known-1 in let own-there = c.own_there in
+    let own-there = c.own_there in
     let if1 = c.if-not-own_there in
     let b = c.args.store.now in
     let i = c.args.i in
     let block = c.requires.4 in
     c.has_tally.ensures _ block.keyed
-    ∙ sym (there_both (tallies b) (statement_at b i) _ refl _ refl (sym own-there.ensures ∙ if1.false) (certified_later b shared-slice-known.given i _ block.keyed.key_is c.if-block-lt4294967296.false))
+    ∙ sym (there_both (tallies b) (statement_at b i) _ refl _ refl (sym own-there.ensures ∙ if1.false) (certified_later b c.type_inv.store i _ block.keyed.key_is c.if-block-lt4294967296.false))

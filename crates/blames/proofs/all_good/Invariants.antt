@@ -10,7 +10,3 @@ use Rattle.blames.proofs.all_good.Given as goal
 abbrev pub invariant-loop-i : goal.invariant-loop-i
 invariant-loop-i l =
     blames_good (settings_of l.settings) (blames l.store) ≡ all (is_mask (settings_of l.settings)) (rows (blame_at l.store) l.i (l.last - l.i))
-
-abbrev pub decreases-loop-i : goal.decreases-loop-i
-decreases-loop-i l =
-    l.last - l.i

@@ -36,11 +36,11 @@ overflow_mul-wait c =
 pub commit_due-requires : goal.commit_due-requires
 commit_due-requires c =
     let pre = c.requires in
-    (begun _ _ _ pre.2 pre.0 pre.1 pre.3, loaded_logged _ _ pre.2, pre.4, pre.5, refl)
+    (begun _ _ _ pre.2 pre.0 pre.1 pre.3, loaded_logged _ _ pre.2, rw c.from-clock.ensures pre.4, pre.5, refl)
 
 pub returns : goal.returns
 returns c =
     let header = c.requires.2 in
     let in-view = sym (loaded_phase _ _ header) ∙ ap course_of c.in-InView.is in
-    let later = ap (λ (k : ℕ). k + 1) (loaded_clock _ _ header) in
+    let later = ap (λ (k : ℕ). k + 1) (c.from-clock.ensures ∙ loaded_clock _ _ header) in
     gained _ _ (tick_in _ in-view _ _ _ (loaded_view _ _ header) (delay_is _ _ header) later) _ c.commit_due.result c.commit_due.ensures

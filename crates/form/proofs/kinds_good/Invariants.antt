@@ -8,7 +8,3 @@ use Rattle.form.proofs.kinds_good.Given as goal
 abbrev pub invariant-loop-i : goal.invariant-loop-i
 invariant-loop-i l =
     (l.i ≤ l.count) × (all (within 1 2) (kinds l.store) ≡ all (within 1 2) (rows (kind_at l.store) l.i (l.count - l.i)))
-
-abbrev pub decreases-loop-i : goal.decreases-loop-i
-decreases-loop-i l =
-    l.count - l.i

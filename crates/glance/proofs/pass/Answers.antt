@@ -13,18 +13,6 @@ pub are_others-requires : goal.are_others-requires
 are_others-requires c =
     (c.requires.0, omega (arith, c.loop-i.invariant.0, c.requires.1))
 
-pub loop-i-smaller : goal.loop-i-smaller
-loop-i-smaller c =
-    omega arith
-
 pub loop-i-preserved : goal.loop-i-preserved
 loop-i-preserved c =
-    (omega (arith, c.loop-i.invariant.0), others_on _ _ _ _ c.are_others.result (omega arith) c.are_others.ensures (ap not c.if-not-are_others.false) c.loop-i.invariant.1)
-
-pub returns-then-i-lt4 : goal.returns-then-i-lt4
-returns-then-i-lt4 c =
-    c.loop-i.invariant
-
-pub returns-then-not-are_others : goal.returns-then-not-are_others
-returns-then-not-are_others c =
-    c.loop-i.invariant
+    (omega (arith, c.loop-i.invariant.0), others_on _ _ _ _ c.are_others.result (omega (arith, c.loop-i-test.true)) c.are_others.ensures (ap not c.if-are_others.true) c.loop-i.invariant.1)

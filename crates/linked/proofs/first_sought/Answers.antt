@@ -1,5 +1,6 @@
 -- Answers to the goals of `linked::first_sought`. Assumes nothing.
-use mathlib.Core.Path.{sym, ◌∙◌}
+use Prim.Native.Nat.{◌-◌}
+use mathlib.Core.Path.{◌≡◌, sym, ◌∙◌}
 use native.Mathlib.Omega.{arith}
 use Rattle.laws.proofs.Bounds.{statements_most}
 use Rattle.store.specs.Layout.{size_in}
@@ -18,9 +19,6 @@ overflow_cast-rest c =
 pub loop-rest-init : goal.loop-rest-init
 loop-rest-init c =
     seek_start c.args.store.now c.args.k c.requires.2 (omega arith)
-
-pub overflow_sub-i : goal.overflow_sub-i
-overflow_sub-i c = omega (arith, c.loop-rest.invariant.above.within)
 
 pub overflow_cast-k : goal.overflow_cast-k
 overflow_cast-k c =
@@ -44,14 +42,17 @@ pub returns-then-is_above-named : goal.returns-then-is_above-named
 returns-then-is_above-named c =
     let at = c.name_place-at.ensures.0 in
     let is = sought_above _ _ _ _ at c.is_block-named.ensures c.is_above.ensures in
-    seek_here c.loop-rest.invariant c.loop-rest-test.true (sym is ∙ c.if-is_above-named.true)
+    let loop = c.loop-rest in
+    let within = loop.invariant.above.within in
+    let e : c.args.count - (c.args.count - loop.rest) ≡ loop.rest = omega (arith, within) in
+    (omega (arith, within, c.loop-rest-test.true), rw e (seek_here loop.invariant c.loop-rest-test.true (sym is ∙ c.if-is_above-named.true)))
 
-pub offset_bounds-nexts-i : goal.offset_bounds-nexts-i
-offset_bounds-nexts-i c =
+pub offset_bounds-hung-i : goal.offset_bounds-hung-i
+offset_bounds-hung-i c =
     omega (arith, c.loop-rest.invariant.above.within, few_statements_lem c.requires.1)
 
-pub bounds-nexts-i : goal.bounds-nexts-i
-bounds-nexts-i c =
+pub bounds-hung-i : goal.bounds-hung-i
+bounds-hung-i c =
     omega (arith, c.loop-rest.invariant.above.within, c.loop-rest-test.true, few_statements_lem c.requires.1)
 
 pub overflow_cast-rest-in-loop-rest : goal.overflow_cast-rest-in-loop-rest

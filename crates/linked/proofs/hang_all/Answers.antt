@@ -22,10 +22,6 @@ hang-requires c =
     let few = few_statements_lem c.requires.0 in
     (omega arith, omega (arith, c.loop-i.invariant.0), omega arith)
 
-pub loop-i-smaller : goal.loop-i-smaller
-loop-i-smaller c =
-    omega (arith, c.loop-i-test.true)
-
 pub loop-i-preserved : goal.loop-i-preserved
 loop-i-preserved c =
     let loop = c.loop-i in
@@ -34,7 +30,7 @@ loop-i-preserved c =
     let more = loop-test.true in
     let few = few_statements_lem c.requires.0 in
     let e : loop.i - 1 + 1 ≡ loop.i = omega (arith, more) in
-    (omega (arith, loop.invariant.0), rw (c.hang.ensures.0, c.hang.ensures.1) (chained_more (height_chain c.args.store.now) (loop.i - 1) c.args.count loop.heads loop.nexts (omega (arith, loop.invariant.0, more)) (rw e loop.invariant.1) _ (ap (◌% chains) height-at.ensures) (omega arith) (omega (arith, loop.invariant.0))))
+    (omega (arith, loop.invariant.0), rw (c.hang.ensures.0, c.hang.ensures.1) (chained_more (height_chain c.args.store.now) (loop.i - 1) c.args.count loop.hung.heads loop.hung.nexts (omega (arith, loop.invariant.0, more)) (rw e loop.invariant.1) _ (ap (◌% chains) height-at.ensures) (omega arith) (omega (arith, loop.invariant.0))))
 
 pub returns : goal.returns
 returns c =

@@ -6,8 +6,4 @@ use Rattle.linked.proofs.hang_all.Given as goal
 
 abbrev pub invariant-loop-i : goal.invariant-loop-i
 invariant-loop-i l =
-    (l.i ≤ l.count) × Chained (height_chain l.store) l.i l.count l.heads l.nexts
-
-abbrev pub decreases-loop-i : goal.decreases-loop-i
-decreases-loop-i l =
-    l.i
+    (l.i ≤ l.count) × Chained (height_chain l.store) l.i l.count l.hung.heads l.hung.nexts

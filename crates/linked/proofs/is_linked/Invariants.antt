@@ -1,5 +1,4 @@
 -- `linked::is_linked` meets its contract. Assumes nothing.
-use Prim.Native.Nat.{◌-◌}
 use mathlib.Core.Path.{◌≡◌}
 use Rattle.rules.specs.WellFormed.{linked}
 use Rattle.store.specs.Decode.{statements, names}
@@ -10,7 +9,3 @@ use Rattle.linked.proofs.is_linked.Given as goal
 abbrev pub invariant-loop-k : goal.invariant-loop-k
 invariant-loop-k l =
     (linked (statements l.store) 0 0 (names l.store) ≡ linked_from l.store l.count l.k) × SoFar l.store l.k l.told l.telling
-
-abbrev pub decreases-loop-k : goal.decreases-loop-k
-decreases-loop-k l =
-    l.count - l.k

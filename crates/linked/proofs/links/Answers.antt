@@ -9,4 +9,4 @@ returns-then-height-height_at c =
 
 pub returns : goal.returns
 returns c =
-    link_agrees _ _ _ _ _ (c.if-height-height_at.false ∙ c.height_at.ensures) _ c.statement_at-statement.ensures _ _ c.same.ensures c.same-2.ensures
+    link_agrees _ _ _ _ _ (c.if-height-height_at.false ∙ c.height_at.ensures) _ c.statement_at-statement.ensures _ _ c.eq.ensures c.eq-2.ensures

@@ -8,6 +8,3 @@ use Rattle.openers.proofs.counts_of.Given as goal
 abbrev pub invariant-loop-i : goal.invariant-loop-i
 invariant-loop-i l =
     (l.i ≤ l.count) × (length l.counts ≡ 256) × Counted l.store l.i (l.count - l.i) l.counts
-
-abbrev pub decreases-loop-i : goal.decreases-loop-i
-decreases-loop-i l = l.i

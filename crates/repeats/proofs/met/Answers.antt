@@ -9,10 +9,6 @@ pub loop-rest-init : goal.loop-rest-init
 loop-rest-init c =
     (c.requires.2, refl)
 
-pub overflow_sub-k : goal.overflow_sub-k
-overflow_sub-k c =
-    omega (arith, c.loop-rest.invariant.0.within)
-
 pub is_same-requires : goal.is_same-requires
 is_same-requires c =
     let k = c.requires.0 in
@@ -22,12 +18,12 @@ pub returns-then-is_same : goal.returns-then-is_same
 returns-then-is_same c =
     sym (c.loop-rest.invariant.1 ∙ walk_here c.loop-rest.invariant.0 c.loop-rest-test.true (sym c.is_same.ensures ∙ c.if-is_same.true))
 
-pub offset_bounds-nexts-k : goal.offset_bounds-nexts-k
-offset_bounds-nexts-k c =
+pub offset_bounds-hung-k : goal.offset_bounds-hung-k
+offset_bounds-hung-k c =
     omega (arith, c.loop-rest.invariant.0.within, few_statements_lem c.requires.0)
 
-pub bounds-nexts-k : goal.bounds-nexts-k
-bounds-nexts-k c =
+pub bounds-hung-k : goal.bounds-hung-k
+bounds-hung-k c =
     omega (arith, c.loop-rest.invariant.0.within, c.loop-rest-test.true, few_statements_lem c.requires.0)
 
 pub overflow_cast-rest : goal.overflow_cast-rest

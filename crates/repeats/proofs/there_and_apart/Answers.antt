@@ -11,7 +11,7 @@ use Rattle.rules.specs.Words.{same_statement}
 use Rattle.rules.specs.Lists.{all, distinct}
 use native.Mathlib.Omega.{arith}
 use mathlib.Core.Bool.{Bool, ◌&&◌, and-false}
-use mathlib.Core.Path.{◌≡◌, refl, sym, ap, ap₂, ◌∙◌}
+use mathlib.Core.Path.{◌≡◌, sym, ap, ap₂, ◌∙◌}
 use Prim.Native.Nat.{◌-◌, ◌+◌, ◌<◌, ◌≤◌}
 use Rattle.repeats.proofs.there_and_apart.Goals as goal
 
@@ -26,7 +26,7 @@ returns-then-stored-eq0 c =
 pub loop-i-init : goal.loop-i-init
 loop-i-init c = (
   omega arith,
-  chained_none _ _ _ _ (record { heads_are = refl; nexts_are = refl }),
+  chained_none _ _ _ _ c.new-hung.ensures,
   distinct_end (statement_at _) _ same_statement _ (omega arith),
   all_end (statement_at _) _ _ _ (omega arith),
   record { fits = omega (arith, c.requires.0.long); mixes = λ l. absurd (omega (arith, l)); has = λ l. absurd (omega (arith, l)) },
@@ -61,14 +61,13 @@ returns-then-not-there c =
 
 pub repeated-requires : goal.repeated-requires
 repeated-requires c =
-    let shared-slice-known = c.shared_slice_known-1 in
     let loop = c.loop-i in
     let loop-test = c.loop-i-test in
     let block = c.certified_block-block in
     let own = c.own_block-own in
     let stirred = c.stirred in let chain-of = c.chain_of-chain in
     let more = loop-test.true in
-    let bytes = shared-slice-known.given in
+    let bytes = c.type_inv.store in
     let store = c.args.store.now in
     let chain = chain-of.ensures.0 ∙ ap chain_of (stirred.ensures ∙ ap₂ stir (own.ensures.mixes ∙ keyed_stirs store bytes c.args.salt _ _ _ own.ensures.keyed) (block.ensures.mixes ∙ keyed_stirs store bytes c.args.salt _ _ _ block.ensures.keyed)) in
     let e : loop.i - 1 + 1 ≡ loop.i = omega (arith, more) in
@@ -82,11 +81,6 @@ returns-then-repeated c =
     let store = c.args.store.now in
     let there = all (tallies_there (tallies store)) (statements store) in
     sym (ap (λ (x : Bool). there && x) (distinct_not (statement_at store) same_statement (loop.i - 1) _ _ c.requires.2.is (omega (arith, loop.invariant.0, more)) (sym c.repeated.ensures.is ∙ c.if-repeated.true)) ∙ and-false there)
-
-pub loop-i-smaller : goal.loop-i-smaller
-loop-i-smaller c =
-    let more = c.loop-i-test.true in
-    omega (arith, more)
 
 pub loop-i-preserved : goal.loop-i-preserved
 loop-i-preserved c =

@@ -13,9 +13,5 @@ use Rattle.repeats.proofs.there_and_apart.Given as goal
 
 abbrev pub invariant-loop-i : goal.invariant-loop-i
 invariant-loop-i l =
-    (l.i ≤ l.stored) × Chained (statement_chain l.store l.salt) l.i l.stored l.hung l.follow × (distinct same_statement (rows (statement_at l.store) l.i (l.stored - l.i)) ≡ true)
+    (l.i ≤ l.stored) × Chained (statement_chain l.store l.salt) l.i l.stored l.hung.heads l.hung.nexts × (distinct same_statement (rows (statement_at l.store) l.i (l.stored - l.i)) ≡ true)
     × (all (tallies_there (tallies l.store)) (rows (statement_at l.store) l.i (l.stored - l.i)) ≡ true) × Found l.store l.salt l.after.key l.after.at l.after.mixed
-
-abbrev pub decreases-loop-i : goal.decreases-loop-i
-decreases-loop-i l =
-    l.i

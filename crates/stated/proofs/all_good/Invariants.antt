@@ -10,7 +10,3 @@ use Rattle.stated.proofs.all_good.Given as goal
 abbrev pub invariant-loop-i : goal.invariant-loop-i
 invariant-loop-i l =
     all (statement_good (alone l.station)) (statements l.store) ≡ all (statement_good (alone l.station)) (rows (statement_at l.store) l.i (l.count - l.i))
-
-abbrev pub decreases-loop-i : goal.decreases-loop-i
-decreases-loop-i l =
-    l.count - l.i

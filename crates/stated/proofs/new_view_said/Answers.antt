@@ -5,6 +5,5 @@ use Rattle.stated.proofs.new_view_said.Goals as goal
 
 pub returns : goal.returns
 returns c =
-    let shared-slice-known = c.shared_slice_known-1 in
     rw (c.certificate_allowed.ensures, c.all_zero.ensures)
-    (new_view_said_lem (settings_of c.args.settings) c.args.store.now shared-slice-known.given c.args.at _ _ _ _ c.requires.1.0 c.requires.1.1 c.requires.1.2 c.get-cert.ensures.0)
+    (new_view_said_lem (settings_of c.args.settings) c.args.store.now c.type_inv.store c.args.at _ _ _ _ c.requires.1.0 c.requires.1.1 c.requires.1.2 c.get-cert.ensures.0)

@@ -2,10 +2,8 @@
 use Rattle.stated.proofs.Parts.{vote_none, vote_some}
 use Rattle.stated.proofs.vote_in_order.Goals as goal
 
-pub returns-then-vote-eq0 : goal.returns-then-vote-eq0
-returns-then-vote-eq0 c =
-    vote_none _ _ c.if-vote-eq0.true
+pub returns-in-Some : goal.returns-in-Some
+returns-in-Some c = vote_some _ _ _ c.in-Some.is
 
-pub returns : goal.returns
-returns c =
-    vote_some _ _ c.if-vote-eq0.false
+pub returns-in-None : goal.returns-in-None
+returns-in-None c = vote_none _ _ c.in-None.is

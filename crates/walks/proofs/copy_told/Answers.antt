@@ -9,10 +9,6 @@ pub loop-k-init : goal.loop-k-init
 loop-k-init c =
     (omega arith, refl, lowered_none _ _)
 
-pub overflow_sub-to : goal.overflow_sub-to
-overflow_sub-to c =
-    omega (arith, c.requires.2 c.loop-k.k (omega arith))
-
 pub loop-k-preserved : goal.loop-k-preserved
 loop-k-preserved c =
     let inv = c.loop-k.invariant in

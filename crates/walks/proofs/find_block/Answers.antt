@@ -14,26 +14,18 @@ loop-i-init c =
 
 pub is_block-requires : goal.is_block-requires
 is_block-requires c =
-    (form_long _ c.requires.0, omega (arith, c.requires.1, form_statements _ c.requires.0))
-
-pub overflow_add-i : goal.overflow_add-i
-overflow_add-i c =
-    omega (arith, c.requires.1, form_statements _ c.requires.0)
-
-pub loop-i-smaller : goal.loop-i-smaller
-loop-i-smaller c =
-    omega arith
+    (form_long _ c.requires.0, omega (arith, c.loop-i-test.true, c.requires.1, form_statements _ c.requires.0))
 
 pub loop-i-preserved : goal.loop-i-preserved
 loop-i-preserved c =
     let other = sym c.is_block.ensures ∙ c.if-is_block.false in
-    (omega arith, c.loop-i.invariant.1 ∙ find_next _ _ _ c.loop-i.i (omega arith) other)
+    (omega (arith, c.loop-i-test.true), c.loop-i.invariant.1 ∙ find_next _ _ _ c.loop-i.i c.loop-i-test.true other)
 
-pub returns-then-count-i : goal.returns-then-count-i
-returns-then-count-i c =
-    sym (c.loop-i.invariant.1 ∙ find_none _ _ _ c.loop-i.i (omega arith))
+pub returns : goal.returns
+returns c =
+    sym (c.loop-i.invariant.1 ∙ find_none _ _ _ c.loop-i.i (omega (arith, c.loop-i-test.false)))
 
 pub returns-then-is_block : goal.returns-then-is_block
 returns-then-is_block c =
     let block = sym c.is_block.ensures ∙ c.if-is_block.true in
-    sym (c.loop-i.invariant.1 ∙ find_here _ _ _ c.loop-i.i (omega arith) block)
+    sym (c.loop-i.invariant.1 ∙ find_here _ _ _ c.loop-i.i c.loop-i-test.true block)

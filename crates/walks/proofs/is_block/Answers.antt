@@ -9,4 +9,4 @@ returns-then-height-height_at c =
 
 pub returns : goal.returns
 returns c =
-    block_agrees _ _ _ c.statement_at-x.ensures _ _ (c.if-height-height_at.false ∙ c.height_at.ensures) _ c.same.ensures
+    block_agrees _ _ _ c.statement_at-x.ensures _ _ (c.if-height-height_at.false ∙ c.height_at.ensures) _ c.eq.ensures

@@ -13,4 +13,4 @@ name_at-requires c =
 pub returns : goal.returns
 returns c =
     let args = c.args in
-    meets_read args.store.now args.told.now args.k (name_of args.link) c.place_in.ensures c.if-place_in-eq0.false c.name_at.ensures _ c.same.ensures
+    meets_read args.store.now args.told.now args.k (name_of args.link) c.place_in.ensures c.if-place_in-eq0.false c.name_at.ensures _ c.eq.ensures

@@ -1,4 +1,5 @@
 -- Answers to the goals of `walks::walk`. Assumes nothing.
+use Prim.Native.Nat.{◌-◌, ◌<◌}
 use native.Mathlib.Omega.{arith}
 use Rattle.store.proofs.Forms.{form_long, form_statements}
 use Rattle.glance.proofs.Readers.{height_of_lem, link_of_lem}
@@ -11,8 +12,8 @@ statement_at-x-requires c =
     let pre = c.requires in
     (form_long _ pre.0, omega (arith, pre.2, pre.3, form_statements _ pre.0))
 
-pub overflow_sub-k : goal.overflow_sub-k
-overflow_sub-k c =
+pub overflow_sub-chain : goal.overflow_sub-chain
+overflow_sub-chain c =
     omega (arith, c.requires.5, height_of_lem _ _ _ c.statement_at-x.ensures)
 
 pub overflow_cast-chain : goal.overflow_cast-chain
@@ -20,8 +21,8 @@ overflow_cast-chain c =
     let pre = c.requires in
     omega (arith, pre.2, pre.3, form_statements _ pre.0)
 
-pub bounds-chain-k : goal.bounds-chain-k
-bounds-chain-k c =
+pub bounds-chain-height : goal.bounds-chain-height
+bounds-chain-height c =
     let pre = c.requires in
     omega (arith, pre.4, pre.5, pre.6, height_of_lem _ _ _ c.statement_at-x.ensures)
 
@@ -36,14 +37,14 @@ pub meets-requires : goal.meets-requires
 meets-requires c =
     let pre = c.requires in
     let walking = c.loop-k.invariant in
-    (pre.0, pre.1, omega arith, omega (arith, walking.below, walking.most))
+    (pre.0, pre.1, omega (arith, c.loop-k-test.true), omega (arith, walking.below, walking.most))
 
 pub copy_told-requires : goal.copy_told-requires
 copy_told-requires c =
     let tells = c.requires.1 in
     let walking = c.loop-k.invariant in
     let meets = c.meets in
-    (omega (arith, tells.long, walking.below, walking.most), omega (arith, walking.long, walking.below, walking.most), meets_low tells _ _ meets.result meets.ensures c.if-meets.true (omega arith))
+    (omega (arith, tells.long, walking.below, walking.most), omega (arith, walking.long, walking.below, walking.most), meets_low tells _ _ meets.result meets.ensures c.if-meets.true (omega (arith, c.loop-k-test.true)))
 
 pub overflow_cast-k : goal.overflow_cast-k
 overflow_cast-k c =
@@ -54,42 +55,30 @@ pub find_block-requires : goal.find_block-requires
 find_block-requires c =
     (c.requires.0, c.requires.2)
 
-pub overflow_sub-k-in-loop-k : goal.overflow_sub-k-in-loop-k
-overflow_sub-k-in-loop-k c =
-    omega arith
-
 pub overflow_cast-chain-in-loop-k : goal.overflow_cast-chain-in-loop-k
 overflow_cast-chain-in-loop-k c =
     let pre = c.requires in
     let loop = c.loop-k in let find-block = c.find_block in
-    omega (arith, form_statements _ pre.0, walking_stored loop.invariant find-block.ensures (omega arith) c.in-At.is)
+    omega (arith, form_statements _ pre.0, walking_stored loop.invariant find-block.ensures (omega (arith, c.loop-k-test.true)) c.in-Some.is)
 
-pub bounds-chain-k-in-loop-k : goal.bounds-chain-k-in-loop-k
-bounds-chain-k-in-loop-k c =
+pub bounds-chain-k : goal.bounds-chain-k
+bounds-chain-k c =
     let walking = c.loop-k.invariant in
     omega (arith, walking.below, walking.most, walking.long)
 
 pub statement_at-parent-requires : goal.statement_at-parent-requires
 statement_at-parent-requires c =
     let form = c.requires.0 in
-    (form_long _ form, omega (arith, form_statements _ form, walking_stored c.loop-k.invariant c.find_block.ensures (omega arith) c.in-At.is))
-
-pub loop-k-smaller : goal.loop-k-smaller
-loop-k-smaller c =
-    omega arith
+    (form_long _ form, omega (arith, form_statements _ form, walking_stored c.loop-k.invariant c.find_block.ensures (omega (arith, c.loop-k-test.true)) c.in-Some.is))
 
 pub loop-k-preserved : goal.loop-k-preserved
 loop-k-preserved c =
     let loop = c.loop-k in let find-block = c.find_block in
-    walking_next loop.invariant find-block.ensures (omega arith) c.in-At.is (link_of_lem _ _ _ c.statement_at-parent.ensures)
+    walking_next loop.invariant find-block.ensures (omega (arith, c.loop-k-test.true)) c.in-Some.is (link_of_lem _ _ _ c.statement_at-parent.ensures)
 
-pub shape_of-chain-then-k-eq0 : goal.shape_of-chain-then-k-eq0
-shape_of-chain-then-k-eq0 c =
-    omega (arith, c.loop-k.invariant.long, c.requires.4)
-
-pub returns-then-k-eq0 : goal.returns-then-k-eq0
-returns-then-k-eq0 c =
-    walking_end c.loop-k.invariant c.if-k-eq0.true
+pub returns : goal.returns
+returns c =
+    walking_end c.loop-k.invariant (omega (arith, c.loop-k-test.false))
 
 pub shape_of-chain-then-meets : goal.shape_of-chain-then-meets
 shape_of-chain-then-meets c =
@@ -103,12 +92,9 @@ returns-then-meets c =
     let loop = c.loop-k in
     let meets = c.meets in
     let if2 = c.if-meets in
-    walking_meets loop.invariant meets.result meets.ensures if2.true pre.1 (omega arith) c.copy_told.ensures
-
-pub shape_of-chain-in_default : goal.shape_of-chain-in_default
-shape_of-chain-in_default c =
-    omega (arith, c.loop-k.invariant.long, c.requires.4)
+    walking_meets loop.invariant meets.result meets.ensures if2.true pre.1 (omega (arith, c.loop-k-test.true)) c.copy_told.ensures
 
 pub returns-in_default : goal.returns-in_default
 returns-in_default c =
-    walking_broken c.loop-k.invariant c.find_block.ensures (omega arith) c.in_default.is
+    let pos : 0 < c.loop-k.k - 1 = omega (arith, c.loop-k-test.true) in
+    (pos, walking_broken c.loop-k.invariant c.find_block.ensures pos c.in_default.is)

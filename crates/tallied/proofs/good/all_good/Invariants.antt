@@ -10,7 +10,3 @@ use Rattle.tallied.proofs.good.all_good.Given as goal
 abbrev pub invariant-loop-i : goal.invariant-loop-i
 invariant-loop-i l =
     all (tally_good (settings_of l.settings) l.clock) (tallies l.store) ≡ all (tally_good (settings_of l.settings) l.clock) (rows (tally_at l.store) l.i (l.count - l.i))
-
-abbrev pub decreases-loop-i : goal.decreases-loop-i
-decreases-loop-i l =
-    l.count - l.i

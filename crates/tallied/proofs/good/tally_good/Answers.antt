@@ -22,30 +22,27 @@ returns-then-not-block_good c =
     bad_block a.settings a.clock a.store.now c.type_inv.store a.i _ c.tally_place-at.ensures.0
     (ap (λ (h : ℕ). block_allowed h (number a.store.now (place + 8) 32)) (sym c.get-2.ensures.0) ∙ sym c.block_good.ensures ∙ c.if-not-block_good.true)
 
-pub returns-then-only-mask : goal.returns-then-only-mask
+pub returns-then-only-from : goal.returns-then-only-from
 unfolding only
-returns-then-only-mask c =
+returns-then-only-from c =
     let a = c.args in
-    let shared-slice-known = c.shared_slice_known-1 in
     let tally-place = c.tally_place-at in
     let place = tally-place.result in
-    bad_mask a.settings a.clock a.store.now shared-slice-known.given a.i _ tally-place.ensures.0
-    (le-ltb (number a.store.now (place + 40) 2) (2 ^ a.settings.n) (omega (arith, c.if-only-mask.true, c.only.ensures, c.get-mask.ensures.0)))
+    bad_mask a.settings a.clock a.store.now c.type_inv.store a.i _ tally-place.ensures.0
+    (le-ltb (number a.store.now (place + 40) 2) (2 ^ a.settings.n) (omega (arith, c.if-only-from.true, c.only.ensures, c.from.ensures, c.get-mask.ensures.0)))
 
 pub returns-then-not-opener_good : goal.returns-then-not-opener_good
 returns-then-not-opener_good c =
     let a = c.args in
-    let shared-slice-known = c.shared_slice_known-1 in
     let tally-place = c.tally_place-at in
     let get3 = c.get-mask in
-    bad_opener a.settings a.clock a.store.now shared-slice-known.given a.i _ tally-place.ensures.0
+    bad_opener a.settings a.clock a.store.now c.type_inv.store a.i _ tally-place.ensures.0
     (rw (← get3.ensures.0, ← c.opener_at.ensures) (sym c.opener_good.ensures ∙ c.if-not-opener_good.true))
 
 pub returns : goal.returns
 unfolding only
 returns c =
     let a = c.args in
-    let shared-slice-known = c.shared_slice_known-1 in
     let tally-place = c.tally_place-at in
     let get = c.get in
     let view-allowed = c.view_allowed in
@@ -53,12 +50,12 @@ returns c =
     let get2 = c.get-2 in
     let block-good = c.block_good in
     let if2 = c.if-not-block_good in let get3 = c.get-mask in
-    let only = c.only in let if3 = c.if-only-mask in
+    let only = c.only in let if3 = c.if-only-from in
     let opener-at = c.opener_at in let opener-good = c.opener_good in
     let place = tally-place.result in
     c.reached_good.ensures ∙ rw (get3.ensures.0, c.reached_at.ensures)
-    (as_since a.settings a.clock a.store.now shared-slice-known.given a.i _ tally-place.ensures.0
+    (as_since a.settings a.clock a.store.now c.type_inv.store a.i _ tally-place.ensures.0
     (ap (view_allowed _) (sym get.ensures.0) ∙ sym view-allowed.ensures ∙ if1.false)
     (ap (λ (h : ℕ). block_allowed h (number a.store.now (place + 8) 32)) (sym get2.ensures.0) ∙ sym block-good.ensures ∙ if2.false)
-    (lt-ltb (number a.store.now (place + 40) 2) (2 ^ a.settings.n) (omega (arith, if3.false, only.ensures, get3.ensures.0)))
+    (lt-ltb (number a.store.now (place + 40) 2) (2 ^ a.settings.n) (omega (arith, if3.false, only.ensures, c.from.ensures, get3.ensures.0)))
     (rw (← get3.ensures.0, ← opener-at.ensures) (sym opener-good.ensures ∙ c.if-not-opener_good.false)))

@@ -1,7 +1,7 @@
--- Answers to the goals of `chains::walked`. Assumes nothing.
+-- Answers to the goals of `chains::Chains::walked`. Assumes nothing.
 use Rattle.std.proofs.Common.{◌-◌, length, sym, refl, ◌∙◌, arith, lit≤}
 use Rattle.chains.proofs.Walks.{record_within, walk_end, walk_less, walk_on, walk_here, walk_next}
-use Rattle.chains.proofs.walked.Goals as goal
+use Rattle.chains.proofs.Chains.walked.Goals as goal
 
 pub loop-rest-init : goal.loop-rest-init
 loop-rest-init c = (c.requires.4, refl)
@@ -44,8 +44,8 @@ pub returns-then-key-get : goal.returns-then-key-get
 returns-then-key-get c =
     sym (c.loop-rest.invariant.1 ∙ walk_here c.loop-rest.invariant.0 c.loop-rest-test.true (rw (← c.get.ensures.0, ← c.same.ensures) c.if-key-get.true))
 
-pub offset_bounds-nexts-i : goal.offset_bounds-nexts-i
-offset_bounds-nexts-i c =
+pub offset_bounds-self-i : goal.offset_bounds-self-i
+offset_bounds-self-i c =
     omega (arith, c.loop-rest.invariant.0.within)
 
 pub overflow_cast-rest : goal.overflow_cast-rest

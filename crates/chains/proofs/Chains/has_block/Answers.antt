@@ -1,7 +1,7 @@
--- `chains::has_block` meets its contract. Assumes nothing.
+-- `chains::Chains::has_block` meets its contract. Assumes nothing.
 use Rattle.std.proofs.Common.{sym, arith}
 use Rattle.chains.proofs.Walks.{walk_end}
-use Rattle.chains.proofs.has_block.Goals as goal
+use Rattle.chains.proofs.Chains.has_block.Goals as goal
 
 pub overflow_cast-left : goal.overflow_cast-left
 overflow_cast-left c =
