@@ -19,8 +19,7 @@ use Rattle.items.specs.Reading.{most_bytes}
 use Rattle.items.proofs.Grammar.{length_message}
 use Rattle.bundle.specs.Writing.{place_in, places_from, places_in, is_message_at, gathered, flat_bytes, bundle_of, bundled}
 use Rattle.bundle.specs.Meaning.{total_of}
-use Rattle.bundle.specs.declared.Total.{Total}
-use Rattle.bundle.specs.declared.Total.TheVariants.{Fits, Refused}
+use Rattle.std.specs.Prelude.{Option as Maybe, Some, None}
 
 -- ---- one place
 
@@ -74,12 +73,12 @@ gathered_step s list k n h e =
 -- ---- lengths
 
 -- so many bytes, if they are not too many
-abbrev bounded : ℕ → Bool → Total
-bounded n b = elim b [ true ↦ Fits n | false ↦ Refused ]
+abbrev bounded : ℕ → Bool → Maybe ℕ
+bounded n b = elim b [ true ↦ Some n | false ↦ None ]
 
 -- the length of what is written before some messages and of them
-abbrev pub weighed : ℕ → Option (List (List ℕ)) → Total
-weighed n none = Refused
+abbrev pub weighed : ℕ → Option (List (List ℕ)) → Maybe ℕ
+weighed n none = None
 weighed n (some ms) = bounded (n + length (bytes_of (flat ms))) (leb (n + length (bytes_of (flat ms))) most_bytes)
 
 length_flat : (ms : List (List ℕ)) → length (flat_bytes ms) ≡ 3 + length (bytes_of (flat ms))
@@ -101,7 +100,7 @@ pub total_starts : (s list : List ℕ) {n : ℕ} → n ≡ length list / 8 → w
 unfolding bundled
 total_starts s list e = ap (λ (ps : List Place). weighed 3 (gathered s ps)) (places_start list e) ∙ total_is (gathered s (places_in list))
 
-over : (t : ℕ) (o : Option (List (List ℕ))) → most_bytes < t → weighed t o ≡ Refused
+over : (t : ℕ) (o : Option (List (List ℕ))) → most_bytes < t → weighed t o ≡ None
 over t none h = refl
 over t (some ms) h = ap (bounded (t + length (bytes_of (flat ms)))) (lt-leb (t + length (bytes_of (flat ms))) most_bytes (omega arith))
 
@@ -115,7 +114,7 @@ more s p t (some ms) h =
     omega (arith, length_message (part_at s p) (flat ms), length_part s p h) in e)
 
 module _ (s list : List ℕ) (t k n : ℕ) (inv : weighed t (gathered s (places_from list k (n - k))) ≡ total_of (bundled s list)) where
-  pub total_ends : n ≤ k → t ≤ most_bytes → Fits t ≡ total_of (bundled s list)
+  pub total_ends : n ≤ k → t ≤ most_bytes → Some t ≡ total_of (bundled s list)
   unfolding gathered flat bytes_of
   total_ends h l =
       let e : weighed t (some []) ≡ total_of (bundled s list) = sym (ap (λ (ps : List Place). weighed t (gathered s ps)) (places_end list k n h)) ∙ inv in
@@ -127,7 +126,7 @@ module _ (s list : List ℕ) (t k n : ℕ) (inv : weighed t (gathered s (places_
     unfolding place_in
     here = sym (r ∙ ap₂ (λ (x y : ℕ). is_message_at s (place x y)) p q)
 
-    pub total_not : b ≡ false → Refused ≡ total_of (bundled s list)
+    pub total_not : b ≡ false → None ≡ total_of (bundled s list)
     total_not f = sym (ap (weighed t) (gathered_step s list k n h (here ∙ f))) ∙ inv
 
     pub total_next : b ≡ true → weighed (t + 3 + z) (gathered s (places_from list (k + 1) (n - (k + 1)))) ≡ total_of (bundled s list)
@@ -137,5 +136,5 @@ module _ (s list : List ℕ) (t k n : ℕ) (inv : weighed t (gathered s (places_
         ∙ more s (place_in list k) t (gathered s (places_from list (k + 1) (n - (k + 1)))) (message_within s (place_in list k) (here ∙ f))
         ∙ sym (ap (weighed t) (gathered_step s list k n h (here ∙ f))) ∙ inv
 
-    pub total_over : b ≡ true → most_bytes < t + 3 + z → Refused ≡ total_of (bundled s list)
+    pub total_over : b ≡ true → most_bytes < t + 3 + z → None ≡ total_of (bundled s list)
     total_over f l = sym (over (t + 3 + z) (gathered s (places_from list (k + 1) (n - (k + 1)))) l) ∙ total_next f

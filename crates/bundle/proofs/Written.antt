@@ -22,7 +22,7 @@ use Rattle.items.specs.Reading.{most_bytes}
 use Rattle.items.proofs.Grammar.{length_message}
 use Rattle.bundle.specs.Writing.{place_in, places_from, places_in, is_message_at, gathered, flat_bytes, bundle_of, bundled}
 use Rattle.bundle.specs.Meaning.{total_of, bundle_in, MayWrite}
-use Rattle.bundle.specs.declared.Total.TheVariants.{Fits, Refused}
+use Rattle.std.specs.Prelude.{Option as Maybe, Some, None}
 use Rattle.bundle.proofs.Totals.{message_within, length_part, places_end, places_start, gathered_step}
 
 -- ---- what may be written
@@ -38,13 +38,13 @@ opened : {s list out : List ℕ} {total : ℕ} → MayWrite s list out total →
 unfolding bundled bundle_of bundle_in total_of flat_bytes
 opened {s} {list} {out} {total} w = go (gathered s (places_in list)) refl
   where
-    never : Fits total ≡ Refused → ⊥
+    never : ◌≡◌ {A = Maybe ℕ} (Some total) None → ⊥
     never e = let z : ◌≡◌ {A = ℕ} 0 1 = cc in omega arith
 
     by_length : (ms : List (List ℕ)) (b : Bool) → leb (length (flat_bytes ms)) most_bytes ≡ b → gathered s (places_in list) ≡ some ms → Opened s list total
     by_length ms true l e =
         let is : bundled s list ≡ some (flat_bytes ms) = ap bundle_of e ∙ ap (λ (b : Bool). elim b [ true ↦ some (flat_bytes ms) | false ↦ none ]) l in
-        let t : Fits total ≡ Fits (length (flat_bytes ms)) = w.is ∙ ap total_of is in
+        let t : ◌≡◌ {A = Maybe ℕ} (Some total) (Some (length (flat_bytes ms))) = w.is ∙ ap total_of is in
         let n : total ≡ length (flat_bytes ms) = cc in
         record {
           messages = ms;

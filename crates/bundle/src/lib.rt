@@ -7,12 +7,7 @@ ghost use Rattle.slots.specs.Slots.{written};
 ghost use Rattle.bundle.specs.Writing.{is_message_at, bundled, writing};
 ghost use Rattle.bundle.specs.Meaning.{total_of, bundle_in, MayWrite};
 
-// The bytes of an envelope that may be written.
-#[derive(Clone, Copy)]
-enum Total {
-    Fits(usize),
-    Refused,
-}
+use answer::Refusal;
 
 // Whether a readable message stands at a place of some bytes.
 fn is_message_at(bytes: &[u8], offset: u32, size: u32) -> bool
@@ -27,25 +22,23 @@ fn is_message_at(bytes: &[u8], offset: u32, size: u32) -> bool
 }
 
 // How many bytes the envelope of the listed messages has, if it may be written.
-fn total_of(bytes: &[u8], list: &[u8]) -> Total
+fn total_of(bytes: &[u8], list: &[u8]) -> Option<usize>
     ensures { result ≡ total_of (bundled bytes.now list.now) }
 {
     let count = list.len() / 8;
     let mut total: usize = 3;
-    let mut k: usize = 0;
-    while k < count {
+    for k in 0..count {
         let offset = fields::get(list, k * 8, 4) as u32;
         let size = fields::get(list, k * 8 + 4, 4) as u32;
         if !is_message_at(bytes, offset, size) {
-            return Total::Refused;
+            return None;
         }
         total = total + 3 + size as usize;
         if items::MOST_BYTES < total {
-            return Total::Refused;
+            return None;
         }
-        k += 1;
     }
-    Total::Fits(total)
+    Some(total)
 }
 
 // Writes the envelope of the listed messages.
@@ -56,15 +49,13 @@ fn write_bundle(bytes: &[u8], list: &[u8], out: &mut [u8], total: usize)
     fields::put(out, 0, 3, 0x30_0000 + total as u64 - 3);
     let count = list.len() / 8;
     let mut at: usize = 3;
-    let mut k: usize = 0;
-    while k < count {
+    for k in 0..count {
         let offset = fields::get(list, k * 8, 4) as usize;
         let size = fields::get(list, k * 8 + 4, 4) as usize;
         let end = offset + size;
         fields::put(out, at, 3, 0x31_0000 + size as u64);
         slots::copy(out, at + 3, &bytes[offset..end]);
         at = at + 3 + size;
-        k += 1;
     }
 }
 
@@ -74,13 +65,13 @@ pub extern "C" fn envelope_write(bytes: &[u8], list: &[u8], out: &mut [u8]) -> u
     ensures { written result out.new ≡ writing bytes.now list.now out.old }
 {
     if list.len() % 8 != 0 {
-        return slots::refuse(1);
+        return Refusal::Lengths.answer();
     }
     if out.len() < items::MOST_BYTES {
-        return slots::refuse(1);
+        return Refusal::Lengths.answer();
     }
-    let Total::Fits(total) = total_of(bytes, list) else {
-        return slots::refuse(14);
+    let Some(total) = total_of(bytes, list) else {
+        return Refusal::Envelope.answer();
     };
     write_bundle(bytes, list, out, total);
     total as u64

@@ -1,5 +1,5 @@
 -- The call by its cases: refused for the lengths, refused for the store, or the number that is kept. Assumes nothing.
-use Prim.Native.Nat.{ℕ, ◌*◌, ◌^◌}
+use Prim.Native.Nat.{ℕ, ◌+◌, ◌*◌, ◌^◌}
 use mathlib.Core.Path.{◌≡◌, sym, ap, ◌∙◌}
 use mathlib.Core.Bool.{Bool, true, false, not, ◌&&◌, and-false}
 use mathlib.Core.List.{List}
@@ -13,10 +13,21 @@ use Rattle.laws.proofs.Tests.{and_left}
 use Rattle.fields.specs.Places.{number, Bytes}
 use Rattle.wire.proofs.Reading.{be_number}
 use Rattle.store.specs.Layout.{store_length, size_in}
-use Rattle.tallies.specs.Values.{reached_number}
+use Rattle.std.specs.Prelude.{Option as Told, Some, None}
+use mathlib.Core.Option.{Option}
+use native.Mathlib.Numerals.{add-one}
+use Rattle.tallies.specs.Values.{told, reached_number}
 use Rattle.store.specs.Decode.{tallies, state_from, state_of, has_form, Form}
 use Rattle.formed.proofs.Whole.{formed_decoded, unformed_decoded}
 use Rattle.certified.specs.Called.{asked, certified_called}
+
+-- the number of a clock that is kept, and of none
+module _ (r : Told ℕ) {o : Option ℕ} (e : told r ≡ o) where
+  pub since_some : (c : ℕ) → r ≡ Some c → c + 1 ≡ reached_number o
+  since_some c s = add-one c ∙ sym (ap reached_number (sym e ∙ ap told s))
+
+  pub since_none : r ≡ None → 0 ≡ reached_number o
+  since_none s = sym (ap reached_number (sym e ∙ ap told s))
 
 module _ (b : List ℕ) (view height : ℕ) (name : List ℕ) where
   abbrev lengths : Bool

@@ -11,35 +11,32 @@ use Rattle.laws.proofs.Tests.{by_bool}
 use Rattle.laws.proofs.Tallies.{block_eq}
 use Rattle.fields.proofs.Laws.{number_lt}
 use Rattle.store.specs.Layout.{tally_table, size_in, count_of, place_of}
-use Rattle.tallies.specs.Values.{reached_number}
+use Rattle.tallies.specs.Values.{reached_from}
 use Rattle.store.specs.Decode.{tally_for, tally_at, since_for, since_at, rows, tallies, Form}
 use Rattle.store.specs.Searches.{first_from, block_at}
-use Rattle.store.specs.declared.Found.{Found}
-use Rattle.store.specs.declared.Found.TheVariants.{At, Nothing}
+use Rattle.std.specs.Prelude.{Option as Maybe, Some, None}
 use Rattle.store.proofs.Searches.{found_within}
-use Rattle.tallies.proofs.Values.{vote_number_lem}
 
 -- the clock of the record at a place
-kept_at : (ℕ → Tally) → Found → Option ℕ
-kept_at f (At j) = (f j).reached
-kept_at f Nothing = none
+kept_at : (ℕ → Tally) → Maybe ℕ → Option ℕ
+kept_at f (Some j) = (f j).reached
+kept_at f None = none
 
 reached_rows : (t : Certificate) (f : ℕ → Tally) (i n : ℕ) → reached_of t (rows f i n) ≡ kept_at f (first_from (of_block t) i (rows f i n))
 unfolding reached_of rows first_from kept_at
 reached_rows t f i zero = refl
 reached_rows t f i (suc n) = by_bool (of_block t (f i)) (λ q. rw (q, reached_of)) (λ q. rw (q, reached_of) (reached_rows t f (suc i) n))
 
-module _ (b : List ℕ) (t : Certificate) {r : Found} (e : r ≡ block_at t (tallies b)) where
-  pub kept_there : (j : ℕ) → r ≡ At j → since_at b j ≡ reached_number (reached_of t (tallies b))
+module _ (b : List ℕ) (t : Certificate) {r : Maybe ℕ} (e : r ≡ block_at t (tallies b)) where
+  pub kept_there : (j : ℕ) → r ≡ Some j → reached_from (since_at b j) ≡ reached_of t (tallies b)
   unfolding tallies kept_at tally_for since_for
-  kept_there j q =
-      sym (vote_number_lem (since_at b j)) ∙ ap reached_number (sym (reached_rows t (tally_at b) 0 (count_of tally_table b) ∙ ap (kept_at (tally_at b)) (sym e ∙ q)))
+  kept_there j q = sym (reached_rows t (tally_at b) 0 (count_of tally_table b) ∙ ap (kept_at (tally_at b)) (sym e ∙ q))
 
-  pub kept_missing : r ≡ Nothing → 0 ≡ reached_number (reached_of t (tallies b))
+  pub kept_missing : r ≡ None → none ≡ reached_of t (tallies b)
   unfolding tallies kept_at
-  kept_missing q = ap reached_number (sym (reached_rows t (tally_at b) 0 (count_of tally_table b) ∙ ap (kept_at (tally_at b)) (sym e ∙ q)))
+  kept_missing q = sym (reached_rows t (tally_at b) 0 (count_of tally_table b) ∙ ap (kept_at (tally_at b)) (sym e ∙ q))
 
-  pub place_within : (j : ℕ) → r ≡ At j → j < count_of tally_table b
+  pub place_within : (j : ℕ) → r ≡ Some j → j < count_of tally_table b
   unfolding tallies
   place_within j q = found_within (of_block t) (tally_at b) (count_of tally_table b) r e j q
 
@@ -60,6 +57,6 @@ module _ {b : List ℕ} (k : Form b) (t : Certificate) where
       elim l [ inl m ↦ absurd (omega (arith, number_lt b k.bytes (at + 0) 4)) | inr m ↦ absurd (omega (arith, number_lt b k.bytes (at + 4) 4)) ])
       (λ q. q)
 
-  pub kept_outside : (256 ^ 4 ≤ t.view) ⊎ (256 ^ 4 ≤ t.height) → 0 ≡ reached_number (reached_of t (tallies b))
+  pub kept_outside : (256 ^ 4 ≤ t.view) ⊎ (256 ^ 4 ≤ t.height) → none ≡ reached_of t (tallies b)
   unfolding tallies
-  kept_outside l = ap reached_number (sym (outside t (tally_at b) (differs l) 0 (count_of tally_table b)))
+  kept_outside l = sym (outside t (tally_at b) (differs l) 0 (count_of tally_table b))

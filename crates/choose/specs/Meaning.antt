@@ -1,9 +1,8 @@
 -- What the code's answers mean in the words of the request. Assumes nothing.
-use Rattle.std.specs.Prelude.{ℕ, ◌≡◌}
+use Rattle.std.specs.Prelude.{ℕ, ◌≡◌, Option as Maybe, Some, None}
 use Rattle.std.proofs.Math.Option.{Option, none, some}
 use Rattle.rules.specs.Words.{Certificate}
-use Rattle.choose.specs.declared.Report.{Report}
-use Rattle.choose.specs.declared.Report.TheVariants.{Certified, Nothing}
+use Rattle.choose.specs.declared.Rank as code
 use Rattle.choose.specs.declared.Choice.{Choice}
 use Rattle.choose.specs.declared.Choice.TheVariants.{First, Second, Neither}
 
@@ -20,6 +19,6 @@ pub record Rank (v h : ℕ) (o : Option Certificate) : Type 0 where
   pub view_is : v ≡ certificate.view
   pub height_is : h ≡ certificate.height
 
-abbrev pub Ranks : Report → Option Certificate → Type 0
-Ranks (Certified v h) o = Rank v h o
-Ranks Nothing o = o ≡ none
+abbrev pub Ranks : Maybe code.Rank → Option Certificate → Type 0
+Ranks (Some r) o = Rank r.view r.height o
+Ranks None o = o ≡ none

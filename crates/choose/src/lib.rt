@@ -6,14 +6,14 @@ ghost use Rattle.settings.specs.Made.{settings_of};
 ghost use Rattle.choose.specs.Choose.{report, taken as taken_in, taken_of, chosen};
 ghost use Rattle.choose.specs.Meaning.{number_of, Ranks};
 
-use settings::{Made, Settings};
-use wire::{Message, Read};
+use settings::Settings;
+use wire::Message;
 
-// What a message reports: the rank of its certificate; or it is no report.
-#[derive(Clone, Copy)]
-pub enum Report {
-    Certified { view: u32, height: u32 },
-    Nothing,
+// The rank of a certificate: by view, then by height.
+#[derive(Clone, Copy, PartialEq, Eq, PartialOrd, Ord)]
+pub struct Rank {
+    pub view: u32,
+    pub height: u32,
 }
 
 // Whose part is taken.
@@ -24,15 +24,13 @@ pub enum Choice {
     Neither,
 }
 
-// What a message reports: any bytes, any settings.
-fn rank_of(settings: Settings, message: &[u8]) -> Report
+// The rank of the certificate that a message reports, if it is a report: any bytes, any settings.
+fn rank_of(settings: Settings, message: &[u8]) -> Option<Rank>
     ensures { Ranks result (report (settings_of settings) message.now) }
 {
-    let Read::Readable(said) = reading::read_message(message) else {
-        return Report::Nothing;
-    };
+    let said = reading::read_message(message)?;
     if !allowed::message_allowed(settings, said) {
-        return Report::Nothing;
+        return None;
     }
     match said {
         Message::Status {
@@ -40,8 +38,8 @@ fn rank_of(settings: Settings, message: &[u8]) -> Report
             name: _,
             cert,
             mask: _,
-        } => Report::Certified { view: cert, height },
-        _ => Report::Nothing,
+        } => Some(Rank { view: cert, height }),
+        _ => None,
     }
 }
 
@@ -49,23 +47,16 @@ fn rank_of(settings: Settings, message: &[u8]) -> Report
 fn decide(settings: Settings, first: &[u8], second: &[u8]) -> Choice
     ensures { number_of result ≡ taken_in (report (settings_of settings) first.now) (report (settings_of settings) second.now) }
 {
-    match rank_of(settings, first) {
-        Report::Certified { view, height } => match rank_of(settings, second) {
-            Report::Certified {
-                view: other_view,
-                height: other_height,
-            } => {
-                if (view < other_view) | ((view == other_view) & (height < other_height)) {
-                    return Choice::Second;
-                }
-                Choice::First
+    match (rank_of(settings, first), rank_of(settings, second)) {
+        (Some(own), Some(other)) => {
+            if own < other {
+                return Choice::Second;
             }
-            Report::Nothing => Choice::First,
-        },
-        Report::Nothing => match rank_of(settings, second) {
-            Report::Certified { view: _, height: _ } => Choice::Second,
-            Report::Nothing => Choice::Neither,
-        },
+            Choice::First
+        }
+        (Some(_), None) => Choice::First,
+        (None, Some(_)) => Choice::Second,
+        (None, None) => Choice::Neither,
     }
 }
 
@@ -73,7 +64,7 @@ fn decide(settings: Settings, first: &[u8], second: &[u8]) -> Choice
 fn taken(kind: u64, n: u64, first: &[u8], second: &[u8]) -> Choice
     ensures { number_of result ≡ taken_of kind n first.now second.now }
 {
-    let Made::Good(settings) = groups::group_of(kind, n) else {
+    let Some(settings) = groups::group_of(kind, n) else {
         return Choice::Neither;
     };
     decide(settings, first, second)

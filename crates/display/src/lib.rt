@@ -17,6 +17,7 @@ ghost use Rattle.store.specs.Meaning.{course_of, Loads};
 ghost use Rattle.calls.specs.Calls.{Gives};
 ghost use Rattle.display.specs.Called.{display_called};
 
+use answer::Refusal;
 use fields::Name;
 use store::{Phase, Station};
 
@@ -32,7 +33,7 @@ fn is_logged(store: &[u8], logged: usize, height: u32, name: Name) -> bool
     if logged < at {
         return false;
     }
-    name.same(store::name_at(store, at - 1))
+    name == store::name_at(store, at - 1)
 }
 
 // Due clock minus present clock, in two's complement.
@@ -51,7 +52,7 @@ fn show(out: &mut [u8], at: usize, height: u32, name: Name, left: u64) -> usize
     ensures { Says out.old at (field 0x13 (unbe 4 height ++ unbe 32 (name_of name) ++ unbe 8 left)) out.new result }
 {
     fields::put(out, at, 3, 0x13_002c);
-    fields::put(out, at + 3, 4, height as u64);
+    fields::put(out, at + 3, 4, u64::from(height));
     fields::put_name(out, at + 7, name);
     fields::put(out, at + 39, 8, left);
     at + 47
@@ -62,18 +63,17 @@ fn show_one(store: &[u8], station: Station, i: usize, out: &mut [u8], at: usize)
     requires { (Form store.now) × (Loads station store.now) × (course_of station.phase ≡ in_view) × (i < count_of statement_table store.now) × (at + 47 ≤ length out.old) }
     ensures { Says out.old at (entries (showing (state_of store.now) (statement_at store.now i))) out.new result }
 {
-    let vote = glance::vote_in(store, i, station.view);
-    if vote == 0 {
+    let Some(vote) = glance::vote_in(store, i, station.view) else {
         return at;
-    }
+    };
     let x = store::statement_at(store, i);
     let name = x.name;
     if is_logged(store, station.logged, x.height, name) {
         return at;
     }
     let settings = station.settings;
-    let due = vote as u64 + 2 * settings.delay;
-    let left = ticks_left(due, station.clock as u64);
+    let due = u64::from(vote) + 1 + 2 * settings.delay;
+    let left = ticks_left(due, u64::from(station.clock));
     show(out, at, x.height, name, left)
 }
 
@@ -83,15 +83,12 @@ fn show_all(store: &[u8], out: &mut [u8]) -> usize
     ensures { Says out.old 0 (entries (display (state_of store.now))) out.new result }
 {
     let station = Station::load(store);
-    let phase = station.phase;
-    let Phase::InView = phase else {
+    let Phase::InView = station.phase else {
         return 0;
     };
-    let mut i: usize = 0;
     let mut next: usize = 0;
-    while i < station.statements {
+    for i in 0..station.statements {
         next = show_one(store, station, i, out, next);
-        i += 1;
     }
     next
 }
@@ -102,13 +99,13 @@ pub extern "C" fn station_display(store: &[u8], out: &mut [u8]) -> u64
     ensures { Gives (display_called store.now out.old) result store.now out.new }
 {
     if !store::is_whole(store) {
-        return 1 << 32;
+        return Refusal::Lengths.answer();
     }
     if out.len() < store::least_out_in(store) {
-        return 1 << 32;
+        return Refusal::Lengths.answer();
     }
     if !formed::well_formed(store) {
-        return 2 << 32;
+        return Refusal::Malformed.answer();
     }
     show_all(store, out) as u64
 }

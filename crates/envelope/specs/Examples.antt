@@ -1,5 +1,5 @@
 -- Envelopes and what reading them answers and lists, which proofs/Examples.antt evaluates together, under a single claim. Assumes nothing.
-use Rattle.std.specs.Prelude.{ℕ, zero, suc, ◌+◌, ◌*◌, ◌^◌, Bool, ◌&&◌, List, [], ◌∷◌, ◌++◌, length, take, drop, replicate, eqb}
+use Rattle.std.specs.Prelude.{ℕ, zero, suc, ◌*◌, ◌^◌, Bool, ◌&&◌, List, [], ◌∷◌, ◌++◌, length, take, drop, replicate, eqb}
 use Rattle.rules.specs.Messages.{field, vote, blame, blame_set, write}
 use Rattle.rules.specs.Script.{same_list}
 use Rattle.items.specs.Reading.{most_bytes, envelope_in}

@@ -6,12 +6,14 @@ ghost use Rattle.outgoing.specs.Wrote.{wrote};
 ghost use Rattle.slots.specs.Slots.{written};
 ghost use Rattle.envelope.specs.Reading.{least_list, is_envelope, list_in, reading};
 
-use items::{Count, ENVELOPE_TAG};
+use answer::Refusal;
+use items::ENVELOPE_TAG;
 
 // The least list: 8 bytes for each message that an envelope can hold.
 const LEAST_LIST: usize = 4096;
 
 // Lists the messages of an envelope. What an inner envelope holds stands where its tag and length end, so one walk meets every message.
+// A turn goes on by a tag and length or by a whole message, so it is no count of an index.
 fn list_messages(s: &[u8], list: &mut [u8])
     requires { (is_envelope s.now ≡ true) × (least_list ≤ length list.old) }
     ensures { list.new ≡ wrote list.old 0 (list_in s.now) }
@@ -38,10 +40,10 @@ pub extern "C" fn envelope_read(envelope: &[u8], list: &mut [u8]) -> u64
     ensures { written result list.new ≡ reading envelope.now list.old }
 {
     if list.len() < LEAST_LIST {
-        return slots::refuse(1);
+        return Refusal::Lengths.answer();
     }
-    let Count::All(count) = items::read_envelope(envelope) else {
-        return slots::refuse(14);
+    let Some(count) = items::read_envelope(envelope) else {
+        return Refusal::Envelope.answer();
     };
     list_messages(envelope, list);
     count as u64

@@ -4,7 +4,8 @@
 ghost use Rattle.std.specs.Prelude.{◌≡◌};
 ghost use Rattle.lent_list.specs.Plain.{left, plain_fresh};
 
-use settings::{Made, Settings, Size};
+use answer::Refusal;
+use settings::{Settings, Size};
 
 // Makes a fresh list of whatever was in it.
 #[unsafe(no_mangle)]
@@ -12,8 +13,8 @@ pub extern "C" fn plain_fresh(list: &mut [u8], n: u64, d: u64, own: u64) -> u64
     ensures { left result list.new ≡ plain_fresh list.old n d own }
 {
     if lent_list::has_length(list) {
-        let Made::Good(_) = Settings::new(n, d, own, Size::Small) else {
-            return slots::refuse(10);
+        let Some(_) = Settings::new(n, d, own, Size::Small) else {
+            return Refusal::BadSettings.answer();
         };
         fields::put(list, 0, 1, n);
         fields::put(list, 1, 2, d);
@@ -22,5 +23,5 @@ pub extern "C" fn plain_fresh(list: &mut [u8], n: u64, d: u64, own: u64) -> u64
         fields::clear(list, 4, rest);
         return 0;
     }
-    slots::refuse(1)
+    Refusal::Lengths.answer()
 }

@@ -16,9 +16,11 @@ use Rattle.items.specs.Reading.{is_whole, value_in, rest_in, item_of, item_in, i
 use Rattle.items.specs.Meaning as meaning
 use Rattle.items.specs.Meaning.{count_of, Few, Within, FirstOf, AllOf}
 use Rattle.items.specs.declared.Item.{Item}
-use Rattle.items.specs.declared.Item.TheVariants.{Good, Bad}
-use Rattle.items.specs.declared.Count.{Count}
-use Rattle.items.specs.declared.Count.TheVariants.{All, Broken}
+use Rattle.std.specs.Prelude.{Option as Maybe, Some, None}
+
+-- an item of so many bytes, with so many messages
+abbrev item : ℕ → ℕ → Item
+item n m = record { size = n; count = m }
 
 -- ---- the first item
 
@@ -59,12 +61,12 @@ module _ (inner : List ℕ → Option Items) (bs : List ℕ) where
         let not-message : get_or bs 0 0 ≡ message_tag → ⊥ = λ e. omega arith in
         item_whole ∙ ap₂ (λ (x y : Bool). sorted x (is_readable (value_in bs)) y) (ne_eqb (get_or bs 0 0) message_tag not-message) (eq-eqb (get_or bs 0 0) envelope_tag t)
 
-bad : (d : ℕ) (bs : List ℕ) → item_in (inside d) bs ≡ none → FirstOf d bs Bad
+bad : (d : ℕ) (bs : List ℕ) → item_in (inside d) bs ≡ none → FirstOf d bs None
 unfolding meaning.item_of
 bad d bs e = record { is = sym (ap (meaning.item_of bs) e); within = tt }
 
 module _ (d : ℕ) (bs : List ℕ) where
-  pub first_cut : length bs < 3 + number bs 1 2 → FirstOf d bs Bad
+  pub first_cut : length bs < 3 + number bs 1 2 → FirstOf d bs None
   first_cut h = bad d bs (item_cut (inside d) bs h)
 
   module _ {m : ℕ} (n : m ≡ number bs 1 2) (h : 3 + m ≤ length bs) where
@@ -84,49 +86,49 @@ module _ (d : ℕ) (bs : List ℕ) where
         readable : is_readable (value_in bs) ≡ b
         readable = sym (r ∙ ap is_readable value_is)
 
-        pub first_message : get_or bs 0 0 ≡ message_tag → b ≡ true → FirstOf d bs (Good (3 + m) 1)
+        pub first_message : get_or bs 0 0 ≡ message_tag → b ≡ true → FirstOf d bs (Some (item (3 + m) 1))
         unfolding meaning.item_of messages_of
         first_message t q =
             record {
-              is = ap (λ (k : ℕ). Good (3 + k) 1) n ∙ sym (ap (meaning.item_of bs) (item_message (inside d) bs whole t (readable ∙ q)));
+              is = ap (λ (k : ℕ). Some (item (3 + k) 1)) n ∙ sym (ap (meaning.item_of bs) (item_message (inside d) bs whole t (readable ∙ q)));
               within = (omega arith, h, omega arith);
             }
 
-        pub first_unreadable : get_or bs 0 0 ≡ message_tag → b ≡ false → FirstOf d bs Bad
+        pub first_unreadable : get_or bs 0 0 ≡ message_tag → b ≡ false → FirstOf d bs None
         first_unreadable t q = bad d bs (item_message (inside d) bs whole t (readable ∙ q))
 
-      module _ (t : get_or bs 0 0 ≡ envelope_tag) {k : ℕ} (s : suc k ≡ d) {r : Count} (a : AllOf (inside (suc k) (take l (drop 3 bs))) (take l (drop 3 bs)) r) where
+      module _ (t : get_or bs 0 0 ≡ envelope_tag) {k : ℕ} (s : suc k ≡ d) {r : Maybe ℕ} (a : AllOf (inside (suc k) (take l (drop 3 bs))) (take l (drop 3 bs)) r) where
         counted : r ≡ count_of (inside d (value_in bs))
         counted = a.is ∙ ap₂ (λ (x : ℕ) (v : List ℕ). count_of (inside x v)) s value_is
 
         read_envelope : (o : Option Items) → inside d (value_in bs) ≡ o → item_in (inside d) bs ≡ map (λ i. envelope i end) o
         read_envelope o e = item_envelope (inside d) bs whole t ∙ ap (map (λ i. envelope i end)) e
 
-        pub first_broken : r ≡ Broken → FirstOf d bs Bad
+        pub first_broken : r ≡ None → FirstOf d bs None
         unfolding count_of
         first_broken q = bad d bs (go (inside d (value_in bs)) refl)
           where
             go : (o : Option Items) → inside d (value_in bs) ≡ o → item_in (inside d) bs ≡ none
             go none e = read_envelope none e
-            go (some i) e = absurd (let z : ◌≡◌ {A = ℕ} 0 1 = let w : Broken ≡ All (length (messages_of i)) = sym q ∙ counted ∙ ap count_of e in cc in omega arith)
+            go (some i) e = absurd (let z : ◌≡◌ {A = ℕ} 0 1 = let w : ◌≡◌ {A = Maybe ℕ} None (Some (length (messages_of i))) = sym q ∙ counted ∙ ap count_of e in cc in omega arith)
 
-        pub first_envelope : {n₀ : ℕ} → r ≡ All n₀ → FirstOf d bs (Good (3 + m) n₀)
+        pub first_envelope : {n₀ : ℕ} → r ≡ Some n₀ → FirstOf d bs (Some (item (3 + m) n₀))
         unfolding count_of meaning.item_of messages_of
         first_envelope {n₀} q =
             record { is = go (inside d (value_in bs)) refl; within = (omega arith, h, (let f = subst (Few (length (take l (drop 3 bs)))) q a.few in omega (arith, value_length))) }
           where
-            go : (o : Option Items) → inside d (value_in bs) ≡ o → Good (3 + m) n₀ ≡ meaning.item_of bs (item_in (inside d) bs)
-            go none e = absurd (let z : ◌≡◌ {A = ℕ} 0 1 = let w : All n₀ ≡ Broken = sym q ∙ counted ∙ ap count_of e in cc in omega arith)
+            go : (o : Option Items) → inside d (value_in bs) ≡ o → Some (item (3 + m) n₀) ≡ meaning.item_of bs (item_in (inside d) bs)
+            go none e = absurd (let z : ◌≡◌ {A = ℕ} 0 1 = let w : ◌≡◌ {A = Maybe ℕ} (Some n₀) None = sym q ∙ counted ∙ ap count_of e in cc in omega arith)
             go (some i) e =
-                let w : All n₀ ≡ All (length (messages_of i)) = sym q ∙ counted ∙ ap count_of e in
+                let w : ◌≡◌ {A = Maybe ℕ} (Some n₀) (Some (length (messages_of i))) = sym q ∙ counted ∙ ap count_of e in
                 let v : n₀ ≡ length (messages_of i) = cc in
                 let z : length (messages_of i ++ []) ≡ length (messages_of i) = simp length-append (omega arith) in
-                ap₂ (λ (x y : ℕ). Good (3 + x) y) n (v ∙ sym z) ∙ sym (ap (meaning.item_of bs) (read_envelope (some i) e))
+                ap₂ (λ (x y : ℕ). Some (item (3 + x) y)) n (v ∙ sym z) ∙ sym (ap (meaning.item_of bs) (read_envelope (some i) e))
 
-    pub first_stray : (get_or bs 0 0 ≡ message_tag → ⊥) → (get_or bs 0 0 ≡ envelope_tag → ⊥) → FirstOf d bs Bad
+    pub first_stray : (get_or bs 0 0 ≡ message_tag → ⊥) → (get_or bs 0 0 ≡ envelope_tag → ⊥) → FirstOf d bs None
     first_stray t u = bad d bs (item_stray (inside d) bs whole t u)
 
-    pub first_deep : get_or bs 0 0 ≡ envelope_tag → d ≡ 0 → FirstOf d bs Bad
+    pub first_deep : get_or bs 0 0 ≡ envelope_tag → d ≡ 0 → FirstOf d bs None
     unfolding inside
     first_deep t z = bad d bs (item_envelope (inside d) bs whole t ∙ ap (λ (x : ℕ). map (λ i. envelope i end) (inside x (value_in bs))) z)
 
@@ -168,29 +170,29 @@ messages_joined (message m r) j = ap (m ∷◌) (messages_joined r j)
 messages_joined (envelope i r) j = ap (messages_of i ++◌) (messages_joined r j) ∙ sym (append_assoc (messages_of i) (messages_of r) (messages_of j))
 
 -- so many messages more
-abbrev pub more : ℕ → Count → Count
-more n (All m) = All (n + m)
-more n Broken = Broken
+abbrev pub more : ℕ → Maybe ℕ → Maybe ℕ
+more n (Some m) = Some (n + m)
+more n None = None
 
 count_onward : (n : ℕ) (i : Items) (o : Option Items) → more (n + length (messages_of i)) (count_of o) ≡ more n (count_of (map (joined i) o))
 unfolding count_of
 count_onward n i none = refl
 count_onward n i (some j) =
-    ap All (let e = ap length (messages_joined i j) ∙ length-append (messages_of i) (messages_of j) in omega arith)
+    ap Some (let e = ap length (messages_joined i j) ∙ length-append (messages_of i) (messages_of j) in omega arith)
 
-pub count_starts : (c : Count) → more 0 c ≡ c
-count_starts (All m) = ap All (omega arith)
-count_starts Broken = refl
+pub count_starts : (c : Maybe ℕ) → more 0 c ≡ c
+count_starts (Some m) = ap Some (omega arith)
+count_starts None = refl
 
 module _ (d : ℕ) (s : List ℕ) (at n : ℕ) (inv : more n (count_of (inside (suc d) (drop at s))) ≡ count_of (inside (suc d) s)) where
-  pub items_end : length s ≤ at → n ≤ length s → AllOf (inside (suc d) s) s (All n)
+  pub items_end : length s ≤ at → n ≤ length s → AllOf (inside (suc d) s) s (Some n)
   unfolding count_of messages_of
   items_end h l =
       let e : inside (suc d) (drop at s) ≡ some end = ap (inside (suc d)) (drop_of_length-le s h) ∙ inside_none d in
       let z : n ≡ n + 0 = omega arith in
-      record { is = ap All z ∙ ap (λ (o : Option Items). more n (count_of o)) (sym e) ∙ inv; few = l }
+      record { is = ap Some z ∙ ap (λ (o : Option Items). more n (count_of o)) (sym e) ∙ inv; few = l }
 
-  module _ (h : at < length s) {l : ℕ} (p : l ≡ length s - at) {r : Item} (f : FirstOf d (take l (drop at s)) r) where
+  module _ (h : at < length s) {l : ℕ} (p : l ≡ length s - at) {r : Maybe Item} (f : FirstOf d (take l (drop at s)) r) where
     part_is : take l (drop at s) ≡ drop at s
     part_is = take_all l (drop at s) (simp length-drop (omega arith))
 
@@ -204,27 +206,28 @@ module _ (d : ℕ) (s : List ℕ) (at n : ℕ) (inv : more n (count_of (inside (
     is_first_lem : r ≡ meaning.item_of (drop at s) (item_in (inside d) (drop at s))
     is_first_lem = f.is ∙ ap (λ (l : List ℕ). meaning.item_of l (item_in (inside d) l)) part_is
 
-    pub items_bad : r ≡ Bad → AllOf (inside (suc d) s) s Broken
+    pub items_bad : r ≡ None → AllOf (inside (suc d) s) s None
     unfolding count_of meaning.item_of
     items_bad q = record { is = go (item_in (inside d) (drop at s)) refl; few = tt }
       where
-        go : (first : Option Items) → item_in (inside d) (drop at s) ≡ first → Broken ≡ count_of (inside (suc d) s)
+        go : (first : Option Items) → item_in (inside d) (drop at s) ≡ first → None ≡ count_of (inside (suc d) s)
         go none e = step none e
-        go (some i) e = absurd (let z : ◌≡◌ {A = ℕ} 0 1 = let w : Bad ≡ Good (3 + number (drop at s) 1 2) (length (messages_of i)) = sym q ∙ is_first_lem ∙ ap (meaning.item_of (drop at s)) e in cc in omega arith)
+        go (some i) e = absurd (let z : ◌≡◌ {A = ℕ} 0 1 = let w : ◌≡◌ {A = Maybe Item} None (Some (item (3 + number (drop at s) 1 2) (length (messages_of i)))) = sym q ∙ is_first_lem ∙ ap (meaning.item_of (drop at s)) e in cc in omega arith)
 
-    module _ {size count : ℕ} (q : r ≡ Good size count) where
-      pub item_within : (3 ≤ size) × (size ≤ length s - at) × (count ≤ size)
+    module _ {i₀ : Item} (q : r ≡ Some i₀) where
+      pub item_within : (3 ≤ i₀.size) × (i₀.size ≤ length s - at) × (i₀.count ≤ i₀.size)
       item_within = let w = subst (Within (length (take l (drop at s)))) q f.within in (w.0, (let e = ap length part_is ∙ length-drop at s in omega arith), w.2)
 
-      pub items_next : more (n + count) (count_of (inside (suc d) (drop (at + size) s))) ≡ count_of (inside (suc d) s)
+      pub items_next : more (n + i₀.count) (count_of (inside (suc d) (drop (at + i₀.size) s))) ≡ count_of (inside (suc d) s)
       unfolding count_of meaning.item_of rest_in
       items_next = go (item_in (inside d) (drop at s)) refl
         where
-          go : (first : Option Items) → item_in (inside d) (drop at s) ≡ first → more (n + count) (count_of (inside (suc d) (drop (at + size) s))) ≡ count_of (inside (suc d) s)
-          go none e = absurd (let z : ◌≡◌ {A = ℕ} 0 1 = let w : Good size count ≡ Bad = sym q ∙ is_first_lem ∙ ap (meaning.item_of (drop at s)) e in cc in omega arith)
+          go : (first : Option Items) → item_in (inside d) (drop at s) ≡ first → more (n + i₀.count) (count_of (inside (suc d) (drop (at + i₀.size) s))) ≡ count_of (inside (suc d) s)
+          go none e = absurd (let z : ◌≡◌ {A = ℕ} 0 1 = let w : ◌≡◌ {A = Maybe Item} (Some i₀) None = sym q ∙ is_first_lem ∙ ap (meaning.item_of (drop at s)) e in cc in omega arith)
           go (some i) e =
-              let w : Good size count ≡ Good (3 + number (drop at s) 1 2) (length (messages_of i)) = sym q ∙ is_first_lem ∙ ap (meaning.item_of (drop at s)) e in
-              let v : size ≡ 3 + number (drop at s) 1 2 = cc in
-              let u : count ≡ length (messages_of i) = cc in
-              let rest : drop (at + size) s ≡ rest_in (drop at s) = sym (drop-drop size at s) ∙ ap (λ (x : ℕ). drop x (drop at s)) v in
+              let w : ◌≡◌ {A = Maybe Item} (Some i₀) (Some (item (3 + number (drop at s) 1 2) (length (messages_of i)))) = sym q ∙ is_first_lem ∙ ap (meaning.item_of (drop at s)) e in
+              let same : i₀ ≡ item (3 + number (drop at s) 1 2) (length (messages_of i)) = cc in
+              let v : i₀.size ≡ 3 + number (drop at s) 1 2 = ap (λ (x : Item). x.size) same in
+              let u : i₀.count ≡ length (messages_of i) = ap (λ (x : Item). x.count) same in
+              let rest : drop (at + i₀.size) s ≡ rest_in (drop at s) = sym (drop-drop i₀.size at s) ∙ ap (λ (x : ℕ). drop x (drop at s)) v in
               ap₂ (λ (x : ℕ) (l : List ℕ). more (n + x) (count_of (inside (suc d) l))) u rest ∙ count_onward n i (inside (suc d) (rest_in (drop at s))) ∙ step (some i) e

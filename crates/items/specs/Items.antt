@@ -1,6 +1,6 @@
 -- 02, request 8: "an envelope is tag 30 with a list of items; an item is a message in tag 31 or another envelope". What items are, their
 -- bytes and the messages inside. Assumes nothing.
-use Rattle.std.specs.Prelude.{ℕ, zero, suc, ◌+◌, ◌≡◌, true, List, [], ◌∷◌, ◌++◌}
+use Rattle.std.specs.Prelude.{ℕ, zero, suc, ◌≡◌, true, List, [], ◌∷◌, ◌++◌}
 use Rattle.rules.specs.Messages.{field}
 use Rattle.slots.specs.Slots.{is_readable}
 

@@ -16,86 +16,76 @@ const MESSAGE_TAG: u8 = 0x31;
 
 // An item: its bytes, and the messages in it.
 #[derive(Clone, Copy)]
-enum Item {
-    Good { size: usize, count: usize },
-    Bad,
+struct Item {
+    size: usize,
+    count: usize,
 }
 
-// The messages in a list of items.
-#[derive(Clone, Copy)]
-pub enum Count {
-    All(usize),
-    Broken,
-}
-
-// Reads the first item: a message, or an envelope, of which `depth` more may be opened.
+// Reads the first item, if there is one: a message, or an envelope, of which `depth` more may be opened.
 #[cycle(read_item_read_items)]
-fn read_item(s: &[u8], depth: usize) -> Item
+fn read_item(s: &[u8], depth: usize) -> Option<Item>
     ensures { FirstOf depth s.now result }
 {
     if s.len() < 3 {
-        return Item::Bad;
+        return None;
     }
     let size = fields::get(s, 1, 2) as usize;
     if s.len() - 3 < size {
-        return Item::Bad;
+        return None;
     }
     let end = 3 + size;
     let tag = s[0];
     if tag == MESSAGE_TAG {
         if slots::is_readable(&s[3..end]) {
-            return Item::Good {
+            return Some(Item {
                 size: end,
                 count: 1,
-            };
+            });
         }
-        return Item::Bad;
+        return None;
     }
     if tag != ENVELOPE_TAG {
-        return Item::Bad;
+        return None;
     }
     if depth == 0 {
-        return Item::Bad;
+        return None;
     }
-    let Count::All(count) = read_items(&s[3..end], depth - 1) else {
-        return Item::Bad;
-    };
-    Item::Good { size: end, count }
+    let count = read_items(&s[3..end], depth - 1)?;
+    Some(Item { size: end, count })
 }
 
-// Reads items to the last byte, in an envelope below which `depth` more may be opened.
+// How many messages are in the items that some bytes are, to the last byte, in an envelope below which `depth` more may be opened.
+// A turn goes on by the length of an item, so it is no count of an index.
 #[cycle(read_item_read_items)]
-fn read_items(s: &[u8], depth: usize) -> Count
+fn read_items(s: &[u8], depth: usize) -> Option<usize>
     ensures { AllOf (inside (suc depth) s.now) s.now result }
 {
     let mut at: usize = 0;
     let mut messages: usize = 0;
     while at < s.len() {
-        let Item::Good { size, count } = read_item(&s[at..], depth) else {
-            return Count::Broken;
-        };
-        at += size;
-        messages += count;
+        let item = read_item(&s[at..], depth)?;
+        at += item.size;
+        messages += item.count;
     }
-    Count::All(messages)
+    Some(messages)
 }
 
-// Reads an envelope: any bytes, any length.
-pub fn read_envelope(s: &[u8]) -> Count
+// How many messages are in an envelope, if the bytes are one: any bytes, any length.
+pub fn read_envelope(s: &[u8]) -> Option<usize>
     ensures { AllOf (envelope_in s.now) s.now result }
 {
     if MOST_BYTES < s.len() {
-        return Count::Broken;
+        return None;
     }
     if s.len() < 3 {
-        return Count::Broken;
+        return None;
     }
     if s[0] != ENVELOPE_TAG {
-        return Count::Broken;
+        return None;
     }
     let size = fields::get(s, 1, 2) as usize;
     if s.len() - 3 != size {
-        return Count::Broken;
+        return None;
     }
     read_items(&s[3..], MOST_DEPTH - 1)
 }

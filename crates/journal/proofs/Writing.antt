@@ -12,7 +12,7 @@ use Rattle.slots.proofs.Inputs.{input_fits}
 use Rattle.journal.specs.Journal.{slot_count, with_slot, room_in, is_short, placing, writing}
 use Rattle.journal.specs.Meaning.{room_of, Within, Found}
 use Rattle.journal.specs.declared.Room.{Room}
-use Rattle.journal.specs.declared.Room.TheVariants.{Free, Nowhere}
+use Rattle.std.specs.Prelude.{Option, Some, None}
 
 module _ (j : List ℕ) (k : ℕ) (bs : List ℕ) where
   -- an answer by its test
@@ -38,18 +38,24 @@ module _ (j : List ℕ) (k : ℕ) (bs : List ℕ) where
       pub no_input : {r : ℕ} → i ≡ false → r ≡ 13 * 2 ^ 32 → written r j ≡ writing j k bs
       no_input t a = refusing (ap₂ (λ (x y : Bool). x && y) short (sym f ∙ t)) a
 
-      module _ (t : i ≡ true) {x : Room} (g : Found j x) where
+      module _ (t : i ≡ true) {x : Option Room} (g : Found j x) where
         placed : placing (room_of x) j k bs ≡ writing j k bs
         unfolding writing
         placed = ap (λ y. placing y j k bs) g.is ∙ sym (ap answered (ap₂ (λ (x y : Bool). x && y) short (sym f ∙ t)))
 
-        pub no_room : {r : ℕ} → x ≡ Nowhere → r ≡ 13 * 2 ^ 32 → written r j ≡ writing j k bs
+        pub no_room : {r : ℕ} → x ≡ None → r ≡ 13 * 2 ^ 32 → written r j ≡ writing j k bs
         unfolding placing room_of
         no_room u a = ap (λ (y : ℕ). written y j) a ∙ ap (λ y. placing (room_of y) j k bs) (sym u) ∙ placed
 
-        module _ {c p : ℕ} (u : x ≡ Free c p) where
+        module _ {r : Room} (u : x ≡ Some r) where
+          abbrev c : ℕ
+          c = r.records
+
+          abbrev p : ℕ
+          p = r.place
+
           -- the place lies within the journal
-          pub place_within : (c ≤ p) × (p < slot_count j) × (p * slot_length + slot_length ≤ length j)
+          place_within : (c ≤ p) × (p < slot_count j) × (p * slot_length + slot_length ≤ length j)
           unfolding slot_count
           place_within =
               let w : (c ≤ p) × (p < length j / slot_length) = subst (Within j) u g.within in

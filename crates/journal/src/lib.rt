@@ -7,19 +7,20 @@ ghost use Rattle.slot_reader.specs.Meaning.{Judged};
 ghost use Rattle.journal.specs.Journal.{slot_count, slot_at, writing};
 ghost use Rattle.journal.specs.Meaning.{Found};
 
+use answer::Refusal;
 use slot_reader::Slot;
 
 // The place for the next record, and its number.
 #[derive(Clone, Copy)]
-enum Room {
-    Free { records: u64, place: usize },
-    Nowhere,
+struct Room {
+    records: u64,
+    place: usize,
 }
 
 // What the slot of a place holds.
-pub fn judge_at(journal: &[u8], place: usize) -> Slot
+pub fn judge_at(journal: &[u8], place: usize) -> Slot<'_>
     requires { place < slot_count journal.now }
-    ensures { Judged (slot_at journal.now place) (judged (slot_at journal.now place)) result }
+    ensures { Judged (judged (slot_at journal.now place)) result }
 {
     let at = place * slots::LENGTH;
     let end = at + slots::LENGTH;
@@ -27,35 +28,25 @@ pub fn judge_at(journal: &[u8], place: usize) -> Slot
 }
 
 // The first blank slot, if nothing before it stops a replay.
-fn find_room(journal: &[u8]) -> Room
+fn find_room(journal: &[u8]) -> Option<Room>
     ensures { Found journal.now result }
 {
     let count = journal.len() / slots::LENGTH;
     let mut records: u64 = 0;
-    let mut place: usize = 0;
-    while place < count {
+    for place in 0..count {
         match judge_at(journal, place) {
-            Slot::Blank => {
-                return Room::Free { records, place };
-            }
-            Slot::Torn => {
-                place += 1;
-                continue;
-            }
-            Slot::Bad => {
-                return Room::Nowhere;
-            }
+            Slot::Blank => return Some(Room { records, place }),
+            Slot::Torn => {}
+            Slot::Bad => return None,
             Slot::Whole { sequence, .. } => {
                 if sequence != records {
-                    return Room::Nowhere;
+                    return None;
                 }
                 records += 1;
-                place += 1;
-                continue;
             }
         }
     }
-    Room::Nowhere
+    None
 }
 
 // Writes the record of an input into the first blank slot.
@@ -65,16 +56,16 @@ pub extern "C" fn journal_write(journal: &mut [u8], kind: u64, input: &[u8]) -> 
 {
     let count = journal.len() / slots::LENGTH;
     if 4_294_967_295 < count {
-        return slots::refuse(13);
+        return Refusal::Journal.answer();
     }
     if slots::is_input(kind, input) {
-        let Room::Free { records, place } = find_room(journal) else {
-            return slots::refuse(13);
+        let Some(room) = find_room(journal) else {
+            return Refusal::Journal.answer();
         };
-        let at = place * slots::LENGTH;
+        let at = room.place * slots::LENGTH;
         let end = at + slots::LENGTH;
-        slots::write_record(&mut journal[at..end], records, kind, input);
-        return place as u64;
+        slots::write_record(&mut journal[at..end], room.records, kind, input);
+        return room.place as u64;
     }
-    slots::refuse(13)
+    Refusal::Journal.answer()
 }

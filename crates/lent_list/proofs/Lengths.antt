@@ -4,18 +4,23 @@ use mathlib.Core.Path.{◌≡◌, sym, ap, ◌∙◌}
 use mathlib.Core.Bool.{Bool, true, false, ◌&&◌, and-false}
 use mathlib.Core.List.{List}
 use native.Mathlib.Omega.{arith}
-use lib.ListN.{length, length-drop}
+use lib.ListN.{length, take, drop, length-drop}
+use lib.Seq.{take_all}
 use lib.Dec.{leb, eqb}
 use borrow.Author.Tests.{eqb-true, eq-eqb, ne_eqb, leb-true, le-leb, lt-leb}
 use Rattle.laws.proofs.Truths.{and_3, both}
 use Rattle.slots.specs.Slots.{slot_length}
 use Rattle.journal.specs.Journal.{slot_count}
-use Rattle.lent_list.specs.Lists.{head_length, most_slots, slots_in, has_length}
+use Rattle.lent_list.specs.Lists.{head_length, most_slots, records_in, slots_in, has_length}
 
 module _ (l : List ℕ) where
   pub slots_counted : (length l - head_length) / slot_length ≡ slots_in l
   unfolding slots_in slot_count
   slots_counted = ap (◌/ slot_length) (sym (length-drop head_length l))
+
+  -- what stands behind the head
+  pub behind_head : (n : ℕ) → n ≡ length l - head_length → take n (drop head_length l) ≡ records_in l
+  behind_head n e = take_all n (drop head_length l) (simp length-drop (omega arith))
 
   abbrev whole : Bool
   whole = eqb (length l) (head_length + slot_length * slots_in l)

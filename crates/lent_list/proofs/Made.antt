@@ -14,8 +14,7 @@ use Rattle.laws.proofs.Truths.{and_2, and_4}
 use Rattle.settings.specs.Made.{made, pick, size_from, settings_of}
 use Rattle.settings.specs.declared.Settings as declared
 use Rattle.settings.specs.declared.Size.TheVariants.{Small}
-use Rattle.settings.specs.declared.Made.{Made}
-use Rattle.settings.specs.declared.Made.TheVariants.{Good, Bad}
+use Rattle.std.specs.Prelude.{Option, Some, None}
 use Rattle.fields.specs.Places.{number}
 use Rattle.lent_list.specs.Lists.{settings_in}
 
@@ -27,15 +26,15 @@ module _ (n d own : ℕ) where
   abbrev given : declared.Settings
   given = record { n = n; delay = d; own = own; size = Small }
 
-  made_is : {t : Bool} → good_settings asked ≡ t → made n d own Small ≡ pick t (Good given) Bad
+  made_is : {t : Bool} → good_settings asked ≡ t → made n d own Small ≡ pick t (Some given) None
   unfolding made
-  made_is e = ap (λ (u : Bool). pick u (Good given) Bad) e
+  made_is e = ap (λ (u : Bool). pick u (Some given) None) e
 
-  pub made_good : {r : Made} {g : declared.Settings} → r ≡ made n d own Small → r ≡ Good g → good_settings asked ≡ true
+  pub made_good : {r : Option declared.Settings} {g : declared.Settings} → r ≡ made n d own Small → r ≡ Some g → good_settings asked ≡ true
   made_good e f =
       by_bool (good_settings asked) (λ t. t) (λ t. let m = made_is t in let z : ◌≡◌ {A = ℕ} 0 1 = cc in absurd (omega arith))
 
-  pub made_bad : {r : Made} → r ≡ made n d own Small → r ≡ Bad → good_settings asked ≡ false
+  pub made_bad : {r : Option declared.Settings} → r ≡ made n d own Small → r ≡ None → good_settings asked ≡ false
   made_bad e f =
       by_bool (good_settings asked) (λ t. let m = made_is t in let z : ◌≡◌ {A = ℕ} 0 1 = cc in absurd (omega arith)) (λ t. t)
 
@@ -45,14 +44,14 @@ module _ (l : List ℕ) where
   unfolding settings_in
   head_is p q r = λ i. record { n = p i; D = q i; own = r i; size = small }
 
-  module _ {g : declared.Settings} (e : settings_of g ≡ settings_in l) (z : g.size ≡ Small) {r : Made} (m : r ≡ made g.n g.delay g.own Small) where
+  module _ {g : declared.Settings} (e : settings_of g ≡ settings_in l) (z : g.size ≡ Small) {r : Option declared.Settings} (m : r ≡ made g.n g.delay g.own Small) where
     same : asked g.n g.delay g.own ≡ settings_in l
     same = ap (λ y. record { n = g.n; D = g.delay; own = g.own; size = size_from y }) (sym z) ∙ e
 
-    pub head_good : {h : declared.Settings} → r ≡ Good h → good_settings (settings_in l) ≡ true
+    pub head_good : {h : declared.Settings} → r ≡ Some h → good_settings (settings_in l) ≡ true
     head_good f = sym (ap good_settings same) ∙ made_good g.n g.delay g.own m f
 
-    pub head_bad : r ≡ Bad → good_settings (settings_in l) ≡ false
+    pub head_bad : r ≡ None → good_settings (settings_in l) ≡ false
     head_bad f = sym (ap good_settings same) ∙ made_bad g.n g.delay g.own m f
 
 -- good settings fit their places

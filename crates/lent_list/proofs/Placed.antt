@@ -5,9 +5,10 @@ use mathlib.Core.Bool.{Bool, true, false, ◌&&◌, and-false}
 use mathlib.Core.List.{List}
 use native.Mathlib.Omega.{arith}
 use native.Mathlib.Numerals.{add-one}
-use lib.ListN.{take, drop}
+use lib.ListN.{length, take, drop}
 use lib.Seq.{drop-drop}
 use lib.Dec.{leb, ltb, eqb}
+use denote.Bor.{Bor}
 use borrow.Author.Tests.{lt-ltb, le-ltb}
 use Rattle.rules.specs.Sizes.{good_settings}
 use Rattle.fields.specs.Places.{number}
@@ -18,47 +19,29 @@ use Rattle.slot_reader.specs.declared.Slot.{Slot}
 use Rattle.slot_reader.specs.declared.Slot.TheVariants.{Blank, Torn, Bad, Whole}
 use Rattle.journal.specs.Journal.{slot_count, slot_at, slots_from, slots_of}
 use Rattle.journal.proofs.Rooms.{slots_step, slots_end}
+use Rattle.lent_list.proofs.Lengths.{behind_head}
 use Rattle.lent_list.specs.Lists.{head_length, records_in, slots_in, settings_in, count_in, is_placed, are_placed, has_form}
 
--- a part of the list, as the code judged it, is what the slot of its place holds
-pub part_held : (l : List ℕ) (p m : ℕ) {r : Slot} → Judged (take m (drop (head_length + p * slot_length) l)) (judged (take m (drop (head_length + p * slot_length) l))) r → m ≡ slot_length
-    → slot_of (slot_at (records_in l) p) r ≡ judged (slot_at (records_in l) p)
-unfolding slot_at
-part_held l p m {r} h e =
-    let d : take m (drop (head_length + p * slot_length) l) ≡ slot_at (records_in l) p =
-    ap₂ (λ (i : ℕ) (y : List ℕ). take i y) e (sym (drop-drop (p * slot_length) head_length l)) in
-    subst (λ (y : List ℕ). slot_of y r ≡ judged y) d h.is
+-- one slot, as the code judged it behind the head
+module _ (l : List ℕ) (c p n : ℕ) {r : Slot} (h : Judged (judged (slot_at (take n (drop head_length l)) p)) r) (e : n ≡ length l - head_length) where
+  here : {x : slots.Slot} → slot_of r ≡ x → judged (slot_at (records_in l) p) ≡ x
+  here f = sym (h.is ∙ ap (λ (y : List ℕ). judged (slot_at y p)) (behind_head l n e)) ∙ f
 
--- one slot
-module _ (l : List ℕ) (c p m : ℕ) {r : Slot} (h : Judged (take m (drop (head_length + p * slot_length) l)) (judged (take m (drop (head_length + p * slot_length) l))) r) (e : m ≡ slot_length) where
-  abbrev s : List ℕ
-  s = slot_at (records_in l) p
-
-  here : {x : slots.Slot} → slot_of s r ≡ x → judged s ≡ x
-  here f = sym (part_held l p m h e) ∙ f
-
-  pub at_blank : r ≡ Blank → leb c p ≡ is_placed c p (judged s)
+  pub at_blank : r ≡ Blank → leb c p ≡ is_placed c p (judged (slot_at (records_in l) p))
   unfolding is_placed slot_of
-  at_blank f = ap (is_placed c p) (sym (here (ap (slot_of s) f)))
+  at_blank f = ap (is_placed c p) (sym (here (ap slot_of f)))
 
-  pub at_torn : r ≡ Torn → false ≡ is_placed c p (judged s)
+  pub at_torn : r ≡ Torn → false ≡ is_placed c p (judged (slot_at (records_in l) p))
   unfolding is_placed slot_of
-  at_torn f = ap (is_placed c p) (sym (here (ap (slot_of s) f)))
+  at_torn f = ap (is_placed c p) (sym (here (ap slot_of f)))
 
-  pub at_bad : r ≡ Bad → false ≡ is_placed c p (judged s)
+  pub at_bad : r ≡ Bad → false ≡ is_placed c p (judged (slot_at (records_in l) p))
   unfolding is_placed slot_of
-  at_bad f = ap (is_placed c p) (sym (here (ap (slot_of s) f)))
+  at_bad f = ap (is_placed c p) (sym (here (ap slot_of f)))
 
-  module _ {q k n : ℕ} (f : r ≡ Whole q k n) where
-    numbered : (b : Bool) → ltb p c ≡ b → (b && eqb q p) ≡ is_placed c p (judged s)
-    unfolding is_placed slot_of
-    numbered b u = sym (ap (◌&& eqb q p) u) ∙ ap (is_placed c p) (sym (here (ap (slot_of s) f)))
-
-    pub at_next : p < c → eqb q p ≡ is_placed c p (judged s)
-    at_next u = numbered true (lt-ltb p c u)
-
-    pub at_late : c ≤ p → false ≡ is_placed c p (judged s)
-    at_late u = numbered false (le-ltb p c u)
+  pub at_whole : {q k : ℕ} {i : Bor (List ℕ)} → r ≡ Whole q k i → (ltb p c && eqb q p) ≡ is_placed c p (judged (slot_at (records_in l) p))
+  unfolding is_placed slot_of
+  at_whole f = ap (is_placed c p) (sym (here (ap slot_of f)))
 
 -- all slots
 module _ (l : List ℕ) (c : ℕ) {n : ℕ} (e : n ≡ slots_in l) where

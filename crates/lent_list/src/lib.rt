@@ -9,7 +9,7 @@ ghost use Rattle.journal.specs.Journal.{slot_at, slots_of};
 ghost use Rattle.lent_list.specs.Lists.{records_in, slots_in, has_length, settings_in, is_placed, are_placed, has_form};
 ghost use Rattle.lent_list.specs.Meaning.{Stands};
 
-use settings::{Made, Settings, Size};
+use settings::{Settings, Size};
 use slot_reader::Slot;
 
 // The bytes of the head, and how many slots a list has at most.
@@ -57,18 +57,11 @@ fn is_placed(list: &[u8], records: u64, place: usize) -> bool
     ensures { result ≡ is_placed records place (judged (slot_at (records_in list.now) place)) }
 {
     let number = place as u64;
-    let at = HEAD + place * slots::LENGTH;
-    let end = at + slots::LENGTH;
-    match slot_reader::judge(&list[at..end]) {
+    match journal::judge_at(&list[HEAD..], place) {
         Slot::Blank => records <= number,
         Slot::Torn => false,
         Slot::Bad => false,
-        Slot::Whole { sequence, .. } => {
-            if number < records {
-                return sequence == number;
-            }
-            false
-        }
+        Slot::Whole { sequence, .. } => (number < records) & (sequence == number),
     }
 }
 
@@ -78,14 +71,12 @@ fn are_placed(list: &[u8], records: u64) -> bool
     ensures { result ≡ are_placed records 0 (slots_of (records_in list.now)) }
 {
     let count = (list.len() - HEAD) / slots::LENGTH;
-    let mut place: usize = 0;
-    while place < count {
+    for place in 0..count {
         if !is_placed(list, records, place) {
             return false;
         }
-        place += 1;
     }
-    records <= place as u64
+    records <= count as u64
 }
 
 // Whether a list has its form.
@@ -94,7 +85,7 @@ pub fn has_form(list: &[u8]) -> bool
     ensures { result ≡ has_form list.now }
 {
     let head = settings_in(list);
-    let Made::Good(_) = Settings::new(head.n, head.delay, head.own, Size::Small) else {
+    let Some(_) = Settings::new(head.n, head.delay, head.own, Size::Small) else {
         return false;
     };
     if fields::all_zero(list, 8, 8) {
@@ -104,28 +95,22 @@ pub fn has_form(list: &[u8]) -> bool
     false
 }
 
-// What the slot of a place holds: an input, or none.
+// The input of a record: its kind, and its bytes as they stand in the list.
 #[derive(Clone, Copy)]
-pub enum Held {
-    Input { kind: u64, start: usize, end: usize },
-    Nothing,
+pub struct Held<'a> {
+    pub kind: u64,
+    pub input: &'a [u8],
 }
 
-// The input in the slot of a place.
-pub fn held_at(list: &[u8], place: usize) -> Held
+// The input in the slot of a place, if it holds one.
+pub fn held_at(list: &[u8], place: usize) -> Option<Held<'_>>
     requires { (has_length list.now ≡ true) × (place < slots_in list.now) }
     ensures { Stands list.now place result }
 {
-    let at = HEAD + place * slots::LENGTH;
-    let after = at + slots::LENGTH;
-    match slot_reader::judge(&list[at..after]) {
-        Slot::Blank => Held::Nothing,
-        Slot::Torn => Held::Nothing,
-        Slot::Bad => Held::Nothing,
-        Slot::Whole { kind, length, .. } => {
-            let start = at + slots::INPUT;
-            let end = start + length;
-            Held::Input { kind, start, end }
-        }
+    match journal::judge_at(&list[HEAD..], place) {
+        Slot::Blank => None,
+        Slot::Torn => None,
+        Slot::Bad => None,
+        Slot::Whole { kind, input, .. } => Some(Held { kind, input }),
     }
 }

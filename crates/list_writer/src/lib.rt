@@ -6,6 +6,8 @@ ghost use Rattle.slots.specs.Slots.{is_input, is_kept};
 ghost use Rattle.lent_list.specs.Lists.{has_length, is_full, added};
 ghost use Rattle.lent_list.specs.Plain.{entering, Gives};
 
+use answer::Refusal;
+
 // Adds an input: its record behind the last one, and the number of records in the head.
 fn add(list: &mut [u8], kind: u64, input: &[u8])
     requires { (has_length list.old ≡ true) × (is_full list.old ≡ false) × (is_input kind input.now ≡ true) }
@@ -44,11 +46,11 @@ pub fn enter(
 {
     if slots::is_kept(number) {
         if is_full(list) {
-            return slots::refuse(13);
+            return Refusal::Journal.answer();
         }
         add(list, kind, input);
         slots::copy(out, 0, said);
-        return slots::refuse(number) + said.len() as u64;
+        return answer::refuse(number) + said.len() as u64;
     }
-    slots::refuse(number)
+    answer::refuse(number)
 }

@@ -5,6 +5,8 @@ ghost use Rattle.std.specs.Prelude.{◌≡◌, ◌≤◌, length};
 ghost use Rattle.fields.specs.Places.{put};
 ghost use Rattle.replay.specs.Replay.{has_lengths, replaying, replayed};
 
+use answer::Refusal;
+
 // Whether what was lent has the lengths for a replay.
 fn has_lengths(journal: &[u8], store: &[u8], out: &[u8], report: &[u8]) -> bool
     ensures { result ≡ has_lengths journal.now store.now out.now report.now }
@@ -47,11 +49,11 @@ pub extern "C" fn journal_replay(
             let end = slot_replay::replay_slots(journal, store, out, report);
             write_head(report, end.records, end.place as u64, end.torn as u64);
             if end.stopped {
-                return slots::refuse(13) + end.place as u64;
+                return Refusal::Journal.answer() + end.place as u64;
             }
             return end.records;
         }
-        return slots::refuse(2);
+        return Refusal::Malformed.answer();
     }
-    slots::refuse(1)
+    Refusal::Lengths.answer()
 }

@@ -1,9 +1,8 @@
 -- What the code's answers mean in the words of the request. Assumes nothing.
-use Rattle.slip.specs.Slips as slips
-use Rattle.slip.specs.Slips.{accepted, refused}
-use Rattle.slip.specs.declared.Verdict.{Verdict}
-use Rattle.slip.specs.declared.Verdict.TheVariants.{Accepted, Refused}
+use Rattle.std.specs.Prelude.{ℕ, Result, Ok, Err}
+use Rattle.slip.specs.Slips.{Verdict, accepted, refused}
+use Rattle.slip.specs.declared.Refused.{Refused}
 
-abbrev pub verdict_of : Verdict → slips.Verdict
-verdict_of (Accepted k) = accepted k
-verdict_of (Refused k) = refused k
+abbrev pub verdict_of : Result ℕ Refused → Verdict
+verdict_of (Ok k) = accepted k
+verdict_of (Err r) = refused r.place

@@ -6,16 +6,16 @@ ghost use Rattle.settings.specs.Made.{settings_of};
 ghost use Rattle.slip.specs.Slips.{name_end, top_height, judged, checked};
 ghost use Rattle.slip.specs.Meaning.{verdict_of};
 
-use settings::{Made, Settings};
-use slip_entries::{Entry, Link};
+use answer::Refusal;
+use settings::Settings;
 
 // The bytes of the name's field.
 const NAME: usize = 35;
 
-#[derive(Clone, Copy)]
-pub enum Verdict {
-    Accepted { entries: u64 },
-    Refused { place: u64 },
+// Why some bytes are no slip: the first bad place.
+#[derive(Clone, Copy, Debug, PartialEq, Eq)]
+pub struct Refused {
+    pub place: u64,
 }
 
 // The height that the top says.
@@ -24,43 +24,36 @@ fn top_height(slip: &[u8]) -> u32
     ensures { result ≡ top_height slip.now }
 {
     match slip_entries::entry_at(slip, NAME) {
-        Entry::Propose(x) => x.height,
-        Entry::Unread => 1,
+        Some(x) => x.height,
+        None => 1,
     }
 }
 
 // Whether some bytes are a slip: the number of its entries, or the first bad place.
-pub fn judge(settings: Settings, slip: &[u8]) -> Verdict
+pub fn judge(settings: Settings, slip: &[u8]) -> Result<u64, Refused>
     ensures { verdict_of result ≡ judged (settings_of settings) slip.now }
 {
     if slip.len() < NAME {
-        return Verdict::Refused { place: 0 };
+        return Err(Refused { place: 0 });
     }
     if fields::get(slip, 0, 3) != 0x40_0020 {
-        return Verdict::Refused { place: 0 };
+        return Err(Refused { place: 0 });
     }
     let mut name = fields::get_name(slip, 3);
-    let mut height = top_height(slip);
     let mut at: usize = NAME;
     let mut place: u64 = 0;
-    while 0 < height {
-        match slip_entries::parent_at(settings, slip, at, height, name) {
-            Link::Parent(parent) => {
-                name = parent;
-                height -= 1;
-                at += slip_entries::ENTRY;
-                place += 1;
-                continue;
-            }
-            Link::Broken => {
-                return Verdict::Refused { place };
-            }
-        }
+    for below in (0..top_height(slip)).rev() {
+        let Some(parent) = slip_entries::parent_at(settings, slip, at, below + 1, name) else {
+            return Err(Refused { place });
+        };
+        name = parent;
+        at += slip_entries::ENTRY;
+        place += 1;
     }
     if at == slip.len() {
-        return Verdict::Accepted { entries: place };
+        return Ok(place);
     }
-    Verdict::Refused { place }
+    Err(Refused { place })
 }
 
 // Checks a slip in a group of a kind with n stations: the number of its entries, or 15 and the first bad place.
@@ -68,11 +61,11 @@ pub fn judge(settings: Settings, slip: &[u8]) -> Verdict
 pub extern "C" fn slip_check(kind: u64, n: u64, slip: &[u8]) -> u64
     ensures { result ≡ checked kind n slip.now }
 {
-    let Made::Good(settings) = groups::group_of(kind, n) else {
-        return 10 << 32;
+    let Some(settings) = groups::group_of(kind, n) else {
+        return Refusal::BadSettings.answer();
     };
     match judge(settings, slip) {
-        Verdict::Accepted { entries } => entries,
-        Verdict::Refused { place } => (15 << 32) + place,
+        Ok(entries) => entries,
+        Err(refused) => Refusal::Slip.answer() + refused.place,
     }
 }

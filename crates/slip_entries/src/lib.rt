@@ -17,20 +17,6 @@ use wire::Statement;
 // The bytes of an entry's field.
 pub const ENTRY: usize = 100;
 
-// What stands at a place: a propose, or nothing that is one.
-#[derive(Clone, Copy)]
-pub enum Entry {
-    Propose(Statement),
-    Unread,
-}
-
-// What an entry leads to: its parent, where it is the block asked for and allowed.
-#[derive(Clone, Copy)]
-pub enum Link {
-    Parent(Name),
-    Broken,
-}
-
 // Whether the heads of a propose's fields stand in the room of an entry. Every one is looked at, without a branch for another.
 fn heads_stand(slip: &[u8], at: usize) -> bool
     requires { at + 100 ≤ length slip.now }
@@ -67,32 +53,35 @@ fn propose_at(slip: &[u8], at: usize) -> Statement
     }
 }
 
-// The entry that stands at a byte.
-pub fn entry_at(slip: &[u8], at: usize) -> Entry
+// The propose of the entry that stands at a byte, if one does.
+pub fn entry_at(slip: &[u8], at: usize) -> Option<Statement>
     requires { at ≤ length slip.now }
     ensures { entry_of result ≡ entry_at slip.now at }
 {
     if slip.len() - at < ENTRY {
-        return Entry::Unread;
+        return None;
     }
     if heads_stand(slip, at) {
-        return Entry::Propose(propose_at(slip, at));
+        return Some(propose_at(slip, at));
     }
-    Entry::Unread
+    None
 }
 
 // The parent of the entry at a byte, where that is the block of a height and a name, and is allowed.
-pub fn parent_at(settings: Settings, slip: &[u8], at: usize, height: u32, name: Name) -> Link
+pub fn parent_at(
+    settings: Settings,
+    slip: &[u8],
+    at: usize,
+    height: u32,
+    name: Name,
+) -> Option<Name>
     requires { at ≤ length slip.now }
     ensures { link_of result ≡ parent_in (settings_of settings) height (name_of name) (entry_at slip.now at) }
 {
-    let Entry::Propose(x) = entry_at(slip, at) else {
-        return Link::Broken;
-    };
-    let asked = name.same(x.name) & (height == x.height);
+    let x = entry_at(slip, at)?;
+    let asked = (name == x.name) & (height == x.height);
     if asked & allowed_statements::statement_allowed(settings, x) {
-        let parent = x.link;
-        return Link::Parent(parent);
+        return Some(x.link);
     }
-    Link::Broken
+    None
 }

@@ -20,8 +20,7 @@ use Rattle.outgoing.proofs.Writing.{wrote_prefix}
 use Rattle.store.specs.Layout.{store_length, size_in}
 use Rattle.store.specs.Decode.{statements, names, state_from, state_of, has_form, Form}
 use Rattle.store.specs.Searches.{first_from}
-use Rattle.store.specs.declared.Found.{Found}
-use Rattle.store.specs.declared.Found.TheVariants.{At, Nothing}
+use Rattle.std.specs.Prelude.{Option as Maybe, Some, None}
 use Rattle.formed.proofs.Whole.{formed_decoded, unformed_decoded}
 use Rattle.calls.specs.Calls.{refusal, Gives}
 use Rattle.slip.specs.Slips.{slip_bytes}
@@ -68,7 +67,7 @@ module _ (b name o : List ℕ) where
           handed = rw (proper, write_called, formed_decoded b w g (not-false w t))
 
           -- the name that was read is the one that was handed in
-          module _ {v : ℕ} (u : v ≡ number name 0 32) {f : Found} (e : f ≡ first_from (eqb v) 0 (names b)) where
+          module _ {v : ℕ} (u : v ≡ number name 0 32) {f : Maybe ℕ} (e : f ≡ first_from (eqb v) 0 (names b)) where
             named : v ≡ be name
             named = u ∙ ap (number name 0) (sym k) ∙ sym (be_number name)
 
@@ -77,12 +76,12 @@ module _ (b name o : List ℕ) where
             unfolding slip_of state_of state_from
             slip_is {r} d = ap (λ (z : ℕ). slip_of z (state_of b)) (sym named) ∙ rw (d, slip_of)
 
-            pub gives_unlogged : {r : ℕ} → r ≡ 15 * 2 ^ 32 → f ≡ Nothing → Gives (write_called b name o) r b o
+            pub gives_unlogged : {r : ℕ} → r ≡ 15 * 2 ^ 32 → f ≡ None → Gives (write_called b name o) r b o
             unfolding handed_over refusal
             gives_unlogged d z =
                 rw (handed, slip_is (name_missing b v e z)) (record { result = d; store = refl; out = refl })
 
-            pub gives_slip : {i : ℕ} → f ≡ At i → {h : ℕ} → h ≡ i + 1 → {o' : List ℕ} {r : ℕ} → Says o 0 (slip_bytes v (log_chain (statements b) (names b) h)) o' r → length (slip_bytes v (log_chain (statements b) (names b) h)) ≤ length o
+            pub gives_slip : {i : ℕ} → f ≡ Some i → {h : ℕ} → h ≡ i + 1 → {o' : List ℕ} {r : ℕ} → Says o 0 (slip_bytes v (log_chain (statements b) (names b) h)) o' r → length (slip_bytes v (log_chain (statements b) (names b) h)) ≤ length o
                 → Gives (write_called b name o) r b o'
             unfolding handed_over
             gives_slip {i} z {h} x p l =

@@ -27,8 +27,7 @@ use Rattle.outgoing.proofs.Writing.{says_none, says_both, put_says, field_says}
 use Rattle.store.specs.Layout.{statement_table, log_table, count_of}
 use Rattle.store.specs.Decode.{statement_at, name_at, statements, names}
 use Rattle.store.specs.Searches.{pick, first_from}
-use Rattle.store.specs.declared.Found.{Found}
-use Rattle.store.specs.declared.Found.TheVariants.{At, Nothing}
+use Rattle.std.specs.Prelude.{Option as Maybe, Some, None}
 use Rattle.store.proofs.Rows.{rows_at, rows_length}
 use Rattle.store.proofs.Searches.{found_within, found_matches, found_first, missing_first}
 use Rattle.linked.specs.Links.{is_link}
@@ -50,31 +49,31 @@ logged_is b {h} {n} z l e =
     e ∙ sym r ∙ sym (ap (logged_at (names b)) s)
 
 -- the height of a name that is found in the log, and of one that isn't
-Heights : ℕ → ℕ → List ℕ → Found → Type 0
-Heights b i l Nothing = height_from (suc i) b l ≡ none
-Heights b i l (At j) = (height_from (suc i) b l ≡ some (suc j)) × (j < i + length l)
+Heights : ℕ → ℕ → List ℕ → Maybe ℕ → Type 0
+Heights b i l None = height_from (suc i) b l ≡ none
+Heights b i l (Some j) = (height_from (suc i) b l ≡ some (suc j)) × (j < i + length l)
 
 heights : (b i : ℕ) (l : List ℕ) → Heights b i l (first_from (eqb b) i l)
 unfolding Heights height_from first_from
 heights b i [] = refl
 heights b i (c ∷ l) = go (eqb b c) (first_from (eqb b) (suc i) l) refl (heights b (suc i) l)
   where
-    go : (t : Bool) (r : Found) → eqb b c ≡ t → Heights b (suc i) l r → Heights b i (c ∷ l) (pick t (At i) r)
+    go : (t : Bool) (r : Maybe ℕ) → eqb b c ≡ t → Heights b (suc i) l r → Heights b i (c ∷ l) (pick t (Some i) r)
     go true r e h = (rw (e, height_from), omega arith)
-    go false Nothing e h = rw (e, height_from) h
-    go false (At j) e h = (rw (e, height_from) h.0, omega (arith, h.1))
+    go false None e h = rw (e, height_from) h
+    go false (Some j) e h = (rw (e, height_from) h.0, omega (arith, h.1))
 
-module _ (b : List ℕ) (n : ℕ) {r : Found} (e : r ≡ first_from (eqb n) 0 (names b)) where
+module _ (b : List ℕ) (n : ℕ) {r : Maybe ℕ} (e : r ≡ first_from (eqb n) 0 (names b)) where
   told : Heights n 0 (names b) r
   told = subst (Heights n 0 (names b)) (sym e) (heights n 0 (names b))
 
-  pub name_found : {j : ℕ} → r ≡ At j → (height_from 1 n (names b) ≡ some (suc j)) × (suc j ≤ count_of log_table b)
+  pub name_found : {j : ℕ} → r ≡ Some j → (height_from 1 n (names b) ≡ some (suc j)) × (suc j ≤ count_of log_table b)
   unfolding Heights names
   name_found {j} q =
       let t = subst (Heights n 0 (names b)) q told in
       (t.0, omega (arith, t.1, rows_length (name_at b) 0 (count_of log_table b)))
 
-  pub name_missing : r ≡ Nothing → height_from 1 n (names b) ≡ none
+  pub name_missing : r ≡ None → height_from 1 n (names b) ≡ none
   unfolding Heights
   name_missing q = subst (Heights n 0 (names b)) q told
 
@@ -131,7 +130,7 @@ module _ (b : List ℕ) where
       subst (λ (bs : List ℕ). Says o at bs o₁ next) (sym (append-nil g.done) ∙ ap (g.done ++◌) (sym q) ∙ g.rest) g.says
 
   -- a propose that is looked up at a height
-  module _ (left : ℕ) (p : 0 < left) {n m : ℕ} (u : n ≡ logged_at (names b) left) (v : m ≡ logged_at (names b) (left - 1)) {r : Found} (e : r ≡ first_from (is_link left n m) 0 (statements b)) where
+  module _ (left : ℕ) (p : 0 < left) {n m : ℕ} (u : n ≡ logged_at (names b) left) (v : m ≡ logged_at (names b) (left - 1)) {r : Maybe ℕ} (e : r ≡ first_from (is_link left n m) 0 (statements b)) where
     abbrev asked : Statement → Bool
     asked = is_link left n m
 
@@ -150,13 +149,13 @@ module _ (b : List ℕ) where
         go none k = rw (k, log_chain)
         go (some x) k = rw (k, log_chain)
 
-    pub far_missing : {height : ℕ} {o : List ℕ} {at : ℕ} {o₁ : List ℕ} {next : ℕ} → SoFar height o at left o₁ next → r ≡ Nothing → Says o at (entries height) o₁ next
+    pub far_missing : {height : ℕ} {o : List ℕ} {at : ℕ} {o₁ : List ℕ} {next : ℕ} → SoFar height o at left o₁ next → r ≡ None → Says o at (entries height) o₁ next
     unfolding statements
     far_missing {height} {o} {at} {o₁} {next} g q =
         let k = found_is (missing_first asked (statement_at b) (count_of statement_table b) r e q) in
         subst (λ (bs : List ℕ). Says o at bs o₁ next) (sym (append-nil g.done) ∙ ap (g.done ++◌) (sym k) ∙ g.rest) g.says
 
-    module _ {i : ℕ} (q : r ≡ At i) where
+    module _ {i : ℕ} (q : r ≡ Some i) where
       pub link_within : i < count_of statement_table b
       unfolding statements
       link_within = found_within asked (statement_at b) (count_of statement_table b) r e i q

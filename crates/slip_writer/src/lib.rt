@@ -15,25 +15,22 @@ ghost use Rattle.slip.specs.Slips.{entries_bytes, slip_bytes};
 ghost use Rattle.slip_writer.specs.Writer.{logged_at, log_chain};
 ghost use Rattle.slip_writer.specs.Called.{write_called};
 
+use answer::Refusal;
 use fields::Name;
-use store::{Found, Station};
+use store::Station;
 use wire::Message;
 
 // The place in the log of the first of these names.
-fn find_name(store: &[u8], logged: usize, name: Name) -> Found
+fn find_name(store: &[u8], logged: usize, name: Name) -> Option<usize>
     requires { (Form store.now) × (logged ≡ count_of log_table store.now) }
     ensures { result ≡ first_from (eqb (name_of name)) 0 (names store.now) }
 {
-    let mut i: usize = 0;
-    loop {
-        if logged <= i {
-            break Found::Nothing;
+    for i in 0..logged {
+        if name == store::name_at(store, i) {
+            return Some(i);
         }
-        if name.same(store::name_at(store, i)) {
-            break Found::At(i);
-        }
-        i += 1;
     }
+    None
 }
 
 // The name logged at a height; below the first stands genesis.
@@ -48,20 +45,16 @@ fn logged_at(store: &[u8], height: usize) -> Name
 }
 
 // The place of the first stored propose of a height, a name and a parent.
-fn find_link(store: &[u8], stored: usize, height: u32, name: Name, parent: Name) -> Found
+fn find_link(store: &[u8], stored: usize, height: u32, name: Name, parent: Name) -> Option<usize>
     requires { (Form store.now) × (stored ≡ count_of statement_table store.now) }
     ensures { result ≡ first_from (is_link height (name_of name) (name_of parent)) 0 (statements store.now) }
 {
-    let mut i: usize = 0;
-    loop {
-        if stored <= i {
-            break Found::Nothing;
-        }
+    for i in 0..stored {
         if linked::links(store, i, height, name, parent) {
-            break Found::At(i);
+            return Some(i);
         }
-        i += 1;
     }
+    None
 }
 
 // Tag 41: a stored propose.
@@ -79,16 +72,15 @@ fn write_chain(store: &[u8], stored: usize, height: usize, out: &mut [u8], at: u
     requires { (Form store.now) × (stored ≡ count_of statement_table store.now) × (height ≤ count_of log_table store.now) × (at + 100 * height ≤ length out.old) }
     ensures { Says out.old at (entries_bytes (log_chain (statements store.now) (names store.now) height)) out.new result }
 {
-    let mut left = height;
     let mut next = at;
-    while 0 < left {
+    for below in (0..height).rev() {
+        let left = below + 1;
         let name = logged_at(store, left);
-        let parent = logged_at(store, left - 1);
-        let Found::At(i) = find_link(store, stored, left as u32, name, parent) else {
+        let parent = logged_at(store, below);
+        let Some(i) = find_link(store, stored, left as u32, name, parent) else {
             return next;
         };
         next = write_entry(store, i, out, next);
-        left -= 1;
     }
     next
 }
@@ -109,21 +101,21 @@ pub extern "C" fn slip_write(store: &[u8], name: &[u8], out: &mut [u8]) -> u64
     ensures { Gives (write_called store.now name.now out.old) result store.now out.new }
 {
     if !store::is_whole(store) {
-        return 1 << 32;
+        return Refusal::Lengths.answer();
     }
     if name.len() != 32 {
-        return 1 << 32;
+        return Refusal::Lengths.answer();
     }
     if out.len() < store::least_out_in(store) {
-        return 1 << 32;
+        return Refusal::Lengths.answer();
     }
     if !formed::well_formed(store) {
-        return 2 << 32;
+        return Refusal::Malformed.answer();
     }
     let station = Station::load(store);
     let wanted = fields::get_name(name, 0);
-    let Found::At(i) = find_name(store, station.logged, wanted) else {
-        return 15 << 32;
+    let Some(i) = find_name(store, station.logged, wanted) else {
+        return Refusal::Slip.answer();
     };
     write_slip(store, station.statements, i + 1, wanted, out) as u64
 }

@@ -7,6 +7,7 @@ use native.Mathlib.Omega.{arith}
 use lib.ListN.{length, take, drop, get_or, length-take, length-drop}
 use lib.Seq.{drop-cons}
 use lib.Dec.{eqb}
+use denote.Bor.{Bor}
 use borrow.Author.Tests.{eq-eqb, ne_eqb}
 use Rattle.fields.specs.Places.{number}
 use Rattle.slots.specs.Slots as slots
@@ -29,12 +30,12 @@ unfolding record_in is_record
 no_record s e =
     ap (λ (b : Bool). chosen s (b && eqb (number s 0 slot_length) (number (record_bytes (sequence_in s) (kind_in s) (input_in s)) 0 slot_length))) e
 
-judged_bad : {s : List ℕ} {held : slots.Slot} → held ≡ bad → Judged s held Bad
+judged_bad : {held : slots.Slot} → held ≡ bad → Judged held Bad
 unfolding slot_of
 judged_bad e = record { is = sym e; within = tt }
 
 -- a length of 0 leaves no kind
-pub no_kind : (s : List ℕ) {z : ℕ} → z ≡ number s 8 2 → z ≡ 0 → Judged s (record_in s) Bad
+pub no_kind : (s : List ℕ) {z : ℕ} → z ≡ number s 8 2 → z ≡ 0 → Judged (record_in s) Bad
 unfolding kind_in value_in
 no_kind s e d =
     let n : number s 8 2 ≡ 0 = sym e ∙ d in
@@ -42,7 +43,7 @@ no_kind s e d =
     judged_bad (no_record s (ap (λ (x : ℕ). is_input x (input_in s)) k ∙ sym (other_input 0 (input_in s) (λ p. omega arith) (λ p. omega arith) (λ p. omega arith))))
 
 -- a length that the slot has no room for
-pub no_room : (s : List ℕ) → length s ≡ slot_length → {z : ℕ} → z ≡ number s 8 2 → most_input < z - 1 → Judged s (record_in s) Bad
+pub no_room : (s : List ℕ) → length s ≡ slot_length → {z : ℕ} → z ≡ number s 8 2 → most_input < z - 1 → Judged (record_in s) Bad
 unfolding input_in value_in
 no_room s n {z} e h =
     let v = take (number s 8 2) (drop 10 s) in
@@ -82,7 +83,7 @@ module _ (s : List ℕ) (n : length s ≡ slot_length) {z k m : ℕ} {i : Bool} 
   test : is_input (number s 10 1) (take (z - 1) (drop input_place s)) ≡ i
   test = ap₂ (λ (x y : ℕ). is_input x (take y (drop input_place s))) (sym f) (sym g) ∙ sym t
 
-  pub no_input : i ≡ false → Judged s (record_in s) Bad
+  pub no_input : i ≡ false → Judged (record_in s) Bad
   no_input u = judged_bad (no_record s (ap₂ is_input (kind_is s n (z - 1) size) (input_is s n (z - 1) size) ∙ test ∙ u))
 
   module _ {q j : ℕ} {r : Bool} (o : q ≡ number s 3 4) (w : r ≡ eqb (number s 0 slot_length) (number (record_bytes q k (take j (drop input_place s))) 0 slot_length)) (c : j ≡ z - 1) (u : i ≡ true) where
@@ -92,16 +93,20 @@ module _ (s : List ℕ) (n : length s ≡ slot_length) {z k m : ℕ} {i : Bool} 
         ∙ ap₂ (λ (x y : Bool). x && y) (test ∙ u)
         (ap₂ (λ (x y : ℕ). eqb (number s 0 slot_length) (number (record_bytes q x (take y (drop input_place s))) 0 slot_length)) (sym f) (sym c) ∙ sym w)
 
-    pub not_same : r ≡ false → Judged s (record_in s) Bad
+    pub not_same : r ≡ false → Judged (record_in s) Bad
     unfolding record_in
     not_same v = judged_bad (ap (chosen s) (compared ∙ v))
 
-    pub is_whole : r ≡ true → z - 1 ≤ most_input → q < 2 ^ 32 → Judged s (record_in s) (Whole q k (z - 1))
+    pub is_whole : {i : Bor (List ℕ)} → i.now ≡ take j (drop input_place s) → r ≡ true → z - 1 ≤ most_input → q < 2 ^ 32 → Judged (record_in s) (Whole q k i)
     unfolding record_in slot_of sequence_in
-    is_whole v h b =
+    is_whole p v h b =
+        let same = p ∙ ap (λ (x : ℕ). take x (drop input_place s)) c in
         let parts : whole q k (take (z - 1) (drop input_place s)) ≡ whole (sequence_in s) (kind_in s) (input_in s) =
         ap₂ (λ (x : ℕ) (y : List ℕ). whole x k y) o (sym (input_is s n (z - 1) size)) ∙ ap (λ (x : ℕ). whole (number s 3 4) x (input_in s)) (f ∙ sym (kind_is s n (z - 1) size)) in
-        record { is = parts ∙ sym (ap (chosen s) (compared ∙ v)); within = (h, b) }
+        record {
+          is = ap (whole q k) same ∙ parts ∙ sym (ap (chosen s) (compared ∙ v));
+          within = (omega (arith, ap length same, length-take (z - 1) (drop input_place s)), b);
+        }
 
 -- the whole slot
 module _ (s : List ℕ) {r : Bool} (e : r ≡ eqb (number s 0 slot_length) 0) where
@@ -109,14 +114,14 @@ module _ (s : List ℕ) {r : Bool} (e : r ≡ eqb (number s 0 slot_length) 0) wh
   unfolding is_blank
   blank_test = sym e
 
-  pub is_blank_lem : r ≡ true → Judged s (judged s) Blank
+  pub is_blank_lem : r ≡ true → Judged (judged s) Blank
   unfolding judged slot_of
   is_blank_lem t = record { is = sym (ap (λ (b : Bool). sorted s b (is_ended s)) (blank_test ∙ t)); within = tt }
 
-  pub is_torn : r ≡ false → (get_or s 127 0 ≡ 0x5A → ⊥) → Judged s (judged s) Torn
+  pub is_torn : r ≡ false → (get_or s 127 0 ≡ 0x5A → ⊥) → Judged (judged s) Torn
   unfolding judged is_ended slot_of
   is_torn t d = record { is = sym (ap₂ (sorted s) (blank_test ∙ t) (ne_eqb (get_or s 127 0) 0x5A d)); within = tt }
 
-  pub is_ended_lem : {x : Slot} → r ≡ false → get_or s 127 0 ≡ 0x5A → Judged s (record_in s) x → Judged s (judged s) x
+  pub is_ended_lem : {x : Slot} → r ≡ false → get_or s 127 0 ≡ 0x5A → Judged (record_in s) x → Judged (judged s) x
   unfolding judged is_ended
   is_ended_lem t d j = record { is = j.is ∙ sym (ap₂ (sorted s) (blank_test ∙ t) (eq-eqb (get_or s 127 0) 0x5A d)); within = j.within }

@@ -1,2 +1,3 @@
+mod Same
 pub mod Judging
 pub mod OneForm

@@ -1,5 +1,5 @@
--- What the code's answer on a slot means, and that the input it points at lies within the slot. Assumes nothing.
-use Rattle.std.specs.Prelude.{ℕ, ◌^◌, ◌<◌, ◌≤◌, List, ◌≡◌, take, drop}
+-- What the code's answer on a slot means, and that its input is as short as a slot has room for. Assumes nothing.
+use Rattle.std.specs.Prelude.{ℕ, ◌^◌, ◌<◌, ◌≤◌, ◌≡◌, length}
 use Rattle.slots.specs.Slots as slots
 use Rattle.slots.specs.Slots.{most_input}
 use Rattle.slot_reader.specs.declared.Slot.{Slot}
@@ -9,19 +9,19 @@ use Rattle.slot_reader.specs.declared.Slot.TheVariants.{Blank, Torn, Bad, Whole}
 abbrev pub input_place : ℕ
 input_place = 11
 
-unfoldable pub slot_of : List ℕ → Slot → slots.Slot
-slot_of s Blank = slots.blank
-slot_of s Torn = slots.torn
-slot_of s Bad = slots.bad
-slot_of s (Whole q k l) = slots.whole q k (take l (drop input_place s))
+unfoldable pub slot_of : Slot → slots.Slot
+slot_of Blank = slots.blank
+slot_of Torn = slots.torn
+slot_of Bad = slots.bad
+slot_of (Whole q k i) = slots.whole q k i.now
 
 abbrev pub Within : Slot → Type 0
 Within Blank = Unit
 Within Torn = Unit
 Within Bad = Unit
-Within (Whole q k l) = (l ≤ most_input) × (q < 2 ^ 32)
+Within (Whole q k i) = (length i.now ≤ most_input) × (q < 2 ^ 32)
 
 -- the code's answer is what the slot holds
-pub record Judged (s : List ℕ) (held : slots.Slot) (r : Slot) : Type 0 where
-  pub is : slot_of s r ≡ held
+pub record Judged (held : slots.Slot) (r : Slot) : Type 0 where
+  pub is : slot_of r ≡ held
   pub within : Within r

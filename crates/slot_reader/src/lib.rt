@@ -6,16 +6,16 @@ ghost use Rattle.fields.specs.Places.{number};
 ghost use Rattle.slots.specs.Slots.{record_bytes, record_in, judged};
 ghost use Rattle.slot_reader.specs.Meaning.{Judged};
 
-// What a slot holds. Of a whole record its number, its kind, and the length of its input, which begins at `slots::INPUT`.
+// What a slot holds. Of a whole record its number, its kind and its input, a part of the slot.
 #[derive(Clone, Copy)]
-pub enum Slot {
+pub enum Slot<'a> {
     Blank,
     Torn,
     Bad,
     Whole {
         sequence: u64,
         kind: u64,
-        length: usize,
+        input: &'a [u8],
     },
 }
 
@@ -26,13 +26,13 @@ fn is_record(slot: &[u8], sequence: u64, kind: u64, input: &[u8]) -> bool
 {
     let mut copy = [0u8; slots::LENGTH];
     slots::write_record(&mut copy, sequence, kind, input);
-    fields::same(slot, 0, &copy, 0, slots::LENGTH)
+    slot == copy.as_slice()
 }
 
 // The record that a slot holds, if it is one.
-fn read_record(slot: &[u8]) -> Slot
+fn read_record(slot: &[u8]) -> Slot<'_>
     requires { length slot.now ≡ 128 }
-    ensures { Judged slot.now (record_in slot.now) result }
+    ensures { Judged (record_in slot.now) result }
 {
     let size = fields::get(slot, 8, 2);
     if size == 0 {
@@ -42,26 +42,26 @@ fn read_record(slot: &[u8]) -> Slot
     if slots::MOST_INPUT < length {
         return Slot::Bad;
     }
-    let end = slots::INPUT + length;
     let kind = fields::get(slot, 10, 1);
-    if slots::is_input(kind, &slot[slots::INPUT..end]) {
-        let sequence = fields::get(slot, 3, 4);
-        if is_record(slot, sequence, kind, &slot[slots::INPUT..end]) {
-            return Slot::Whole {
-                sequence,
-                kind,
-                length,
-            };
-        }
+    let input = &slot[slots::INPUT..slots::INPUT + length];
+    if !slots::is_input(kind, input) {
         return Slot::Bad;
     }
-    Slot::Bad
+    let sequence = fields::get(slot, 3, 4);
+    if !is_record(slot, sequence, kind, input) {
+        return Slot::Bad;
+    }
+    Slot::Whole {
+        sequence,
+        kind,
+        input,
+    }
 }
 
 // What a slot holds.
-pub fn judge(slot: &[u8]) -> Slot
+pub fn judge(slot: &[u8]) -> Slot<'_>
     requires { length slot.now ≡ 128 }
-    ensures { Judged slot.now (judged slot.now) result }
+    ensures { Judged (judged slot.now) result }
 {
     if fields::all_zero(slot, 0, slots::LENGTH) {
         return Slot::Blank;

@@ -9,6 +9,7 @@ use native.Mathlib.Numerals.{add-one}
 use lib.ListN.{length, take, drop}
 use lib.Seq.{take-add, take_all, drop_at, take-take, drop-drop, length-take-le}
 use lib.Dec.{leb, eqb}
+use denote.Bor.{Bor}
 use borrow.Author.Tests.{eq-eqb, ne_eqb, leb-true, leb-false}
 use Rattle.rules.specs.Lists.{unbe}
 use Rattle.laws.proofs.Bytes.{length_unbe}
@@ -26,7 +27,7 @@ use Rattle.journal.proofs.Rooms.{slots_step, slots_end, slot_count_lem}
 use Rattle.keeping.specs.Taken.{is_taken}
 use Rattle.slot_replay.specs.Handed.{handed}
 use Rattle.slot_replay.specs.Fold.{Replay, ends, skipping, replay_from, places_bytes}
-use Rattle.slot_replay.specs.Meaning.{Hands, Ended, ended, end_of}
+use Rattle.slot_replay.specs.Meaning.{Hands, Ended, Bounded, ended, end_of}
 use Rattle.slot_replay.specs.declared.Ending.{Ending}
 
 abbrev ending : Bool → ℕ → ℕ → ℕ → Ending
@@ -49,20 +50,9 @@ at_skip p n t v h =
     ap₂ (λ (l : List ℕ) (x : ℕ). wrote l x ps) (put_wrote t (12 + 4 * n) 4 p h) place ∙ sym (wrote_append t (12 + 4 * n) (unbe 4 p) ps) in
     ap₂ (λ (x : ℕ) (l : List ℕ). record { stopped = v.stopped; records = v.records; place = v.place; torn = x; store = v.store; out = v.out; report = l }) count bytes
 
--- the input of a whole record, in its slot and in the journal
-pub input_part : (j : List ℕ) (p l m : ℕ) → l ≤ most_input → m ≡ l → take l (drop input_place (slot_at j p)) ≡ take m (drop (p * slot_length + input_place) j)
-unfolding slot_at
-input_part j p l m h e =
-    let xs = drop (p * slot_length) j in
-    rw e (drop_take 11 117 xs l (omega arith) ∙ ap (take l) (drop-drop input_place (p * slot_length) j))
-  where
-    drop_take : (a c : ℕ) (xs : List ℕ) (l : ℕ) → l ≤ c → take l (drop a (take (a + c) xs)) ≡ take l (drop a xs)
-    drop_take a c xs l h =
-        by_bool (leb a (length xs))
-        (λ u.
-        let f = length-take-le a xs (leb-true a (length xs) u) in
-        ap (λ (y : List ℕ). take l (drop a y)) (take-add a c xs) ∙ ap (take l) (drop_at (take a xs) (take c (drop a xs)) a f) ∙ take-take l c (drop a xs) h)
-        (λ u. ap (λ (y : List ℕ). take l (drop a y)) (take_all (a + c) xs (omega (arith, leb-false a (length xs) u))))
+-- an ending within the journal
+pub bounded_at : (j : List ℕ) {stop : Bool} {c p k : ℕ} → c ≤ p → k ≤ p → p ≤ length j / slot_length → Bounded j (ending stop c p k)
+bounded_at j h l m = record { records = h; torn = l; place = omega (arith, slot_count_lem j) }
 
 pub at_start : (j b o t : List ℕ) → end_of 0 t (replay_from 0 0 b o (slots_from j 0 (length j / slot_length - 0))) ≡ end_of 0 t (replay_from 0 0 b o (slots_of j))
 unfolding slots_of
@@ -70,32 +60,32 @@ at_start j b o t = let e : length j / slot_length - 0 ≡ slot_count j = omega (
 
 -- one slot: what a replay from it on will have come to is what one from the next on will, or it ends here
 module _ (j : List ℕ) (w : Ended) (c p n k : ℕ) (b o t : List ℕ) (i : end_of k t (replay_from c p b o (slots_from j p (n - p))) ≡ w) where
-  pub at_end : n ≤ p → ended (ending false c p k) b o t ≡ w
+  pub at_end : n ≡ p → ended (ending false c n k) b o t ≡ w
   unfolding replay_from
-  at_end h = at_rest false c p k b o t ∙ sym (ap (λ l. end_of k t (replay_from c p b o l)) (slots_end j p n h)) ∙ i
+  at_end e = rw e (at_rest false c p k b o t ∙ sym (ap (λ l. end_of k t (replay_from c p b o l)) (slots_end j p n (omega arith))) ∙ i)
 
-  module _ (h : p < n) (r : Slot) (s : slot_of (slot_at j p) r ≡ judged (slot_at j p)) where
+  module _ (h : p < n) (r : Slot) (s : slot_of r ≡ judged (slot_at j p)) where
     abbrev rest : List slots.Slot
     rest = slots_from j (p + 1) (n - (p + 1))
 
-    here : {x : slots.Slot} → slot_of (slot_at j p) r ≡ x → end_of k t (replay_from c p b o (x ∷ rest)) ≡ w
+    here : {x : slots.Slot} → slot_of r ≡ x → end_of k t (replay_from c p b o (x ∷ rest)) ≡ w
     here e = sym (ap (λ l. end_of k t (replay_from c p b o l)) (slots_step j p n h ∙ ap (◌∷ rest) (sym s ∙ e))) ∙ i
 
     pub at_blank : r ≡ Blank → ended (ending false c p k) b o t ≡ w
     unfolding replay_from slot_of
-    at_blank e = at_rest false c p k b o t ∙ here (ap (slot_of (slot_at j p)) e)
+    at_blank e = at_rest false c p k b o t ∙ here (ap slot_of e)
 
     pub at_torn : {t' : List ℕ} → r ≡ Torn → p < 2 ^ 32 → t' ≡ put t (12 + 4 * k) 4 p → end_of (k + 1) t' (replay_from c (p + 1) b o rest) ≡ w
     unfolding replay_from slot_of
-    at_torn e l u = ap (λ (x : List ℕ). end_of (k + 1) x (replay_from c (p + 1) b o rest)) u ∙ at_skip p k t (replay_from c (p + 1) b o rest) l ∙ ap (λ (x : ℕ). end_of k t (skipping p (replay_from c x b o rest))) (add-one p) ∙ here (ap (slot_of (slot_at j p)) e)
+    at_torn e l u = ap (λ (x : List ℕ). end_of (k + 1) x (replay_from c (p + 1) b o rest)) u ∙ at_skip p k t (replay_from c (p + 1) b o rest) l ∙ ap (λ (x : ℕ). end_of k t (skipping p (replay_from c x b o rest))) (add-one p) ∙ here (ap slot_of e)
 
     pub at_bad : r ≡ Bad → ended (ending true c p k) b o t ≡ w
     unfolding replay_from slot_of
-    at_bad e = at_rest true c p k b o t ∙ here (ap (slot_of (slot_at j p)) e)
+    at_bad e = at_rest true c p k b o t ∙ here (ap slot_of e)
 
-    module _ {q f l : ℕ} (e : r ≡ Whole q f l) where
+    module _ {q f : ℕ} {i₀ : Bor (List ℕ)} (e : r ≡ Whole q f i₀) where
       abbrev input : List ℕ
-      input = take l (drop input_place (slot_at j p))
+      input = i₀.now
 
       -- a whole record, by whether its number is the next and its input is taken
       abbrev goes : Bool → Replay
@@ -103,14 +93,14 @@ module _ (j : List ℕ) (w : Ended) (c p n k : ℕ) (b o t : List ℕ) (i : end_
 
       numbered : (x : Bool) → (eqb q c && is_taken (handed f input b o).result) ≡ x → end_of k t (goes x) ≡ w
       unfolding replay_from slot_of
-      numbered x d = sym (ap (λ y. end_of k t (goes y)) d) ∙ here (ap (slot_of (slot_at j p)) e)
+      numbered x d = sym (ap (λ y. end_of k t (goes y)) d) ∙ here (ap slot_of e)
 
       pub at_other : (q ≡ c → ⊥) → ended (ending true c p k) b o t ≡ w
       at_other d = at_rest true c p k b o t ∙ numbered false (ap (◌&& is_taken (handed f input b o).result) (ne_eqb q c d))
 
-      module _ {bs b' o' : List ℕ} {a : ℕ} (g : Hands f bs b o a b' o') (d : q ≡ c) (m : input ≡ bs) where
+      module _ {b' o' : List ℕ} {a : ℕ} (g : Hands f i₀.now b o a b' o') (d : q ≡ c) where
         taken_is : is_taken (handed f input b o).result ≡ is_taken a
-        taken_is = ap (λ (x : List ℕ). is_taken (handed f x b o).result) m ∙ ap is_taken (sym g.gives.result)
+        taken_is = ap is_taken (sym g.gives.result)
 
         test : (x : Bool) → is_taken a ≡ x → (eqb q c && is_taken (handed f input b o).result) ≡ x
         test x u = ap₂ (λ (y z : Bool). y && z) (eq-eqb q c d) (taken_is ∙ u)
@@ -124,9 +114,4 @@ module _ (j : List ℕ) (w : Ended) (c p n k : ℕ) (b o t : List ℕ) (i : end_
         at_taken v u =
             ap₂ (λ (x y : ℕ). end_of k t (replay_from x y b' o' rest)) (add-one c) (add-one p)
             ∙ ap₂ (λ (x y : List ℕ). end_of k t (replay_from (suc c) (suc p) x y rest)) g.gives.store g.gives.out
-            ∙ ap (λ (x : List ℕ). end_of k t (replay_from (suc c) (suc p) (handed f x b o).store (handed f x b o).out rest)) (sym m)
             ∙ numbered true (test true (sym v ∙ u))
-
--- the input of a whole record lies within its slot
-pub whole_within : {r : Slot} {q f l : ℕ} → Within r → r ≡ Whole q f l → l ≤ most_input
-whole_within {q = q} {f = f} {l = l} w e = let v : Within (Whole q f l) = subst Within e w in v.0

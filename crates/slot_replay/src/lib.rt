@@ -8,7 +8,8 @@ ghost use Rattle.slot_replay.specs.Meaning.{Hands, Replays};
 
 use slot_reader::Slot;
 
-// Where a replay ended: whether it was stopped, the records handed over, the place, and how many torn slots are before it.
+// Where a replay ended: whether it was stopped, the records handed over, the place, and how many torn slots are before it. A Result
+// would say the same three numbers on both sides.
 #[derive(Clone, Copy)]
 pub struct Ending {
     pub stopped: bool,
@@ -21,13 +22,11 @@ pub struct Ending {
 fn hand(kind: u64, input: &[u8], store: &mut [u8], out: &mut [u8]) -> u64
     ensures { Hands kind input.now store.old out.old result store.new out.new }
 {
-    if kind == 1 {
-        return station::station_tick(store, out);
+    match kind {
+        1 => station::station_tick(store, out),
+        2 => station::station_offer(store, input, out),
+        _ => station::station_step(store, input, out),
     }
-    if kind == 2 {
-        return station::station_offer(store, input, out);
-    }
-    station::station_step(store, input, out)
 }
 
 // Replays a journal from its first slot on, and reports the torn places behind the first 12 bytes.
@@ -37,9 +36,8 @@ pub fn replay_slots(journal: &[u8], store: &mut [u8], out: &mut [u8], report: &m
 {
     let count = journal.len() / slots::LENGTH;
     let mut records: u64 = 0;
-    let mut place: usize = 0;
     let mut torn: usize = 0;
-    while place < count {
+    for place in 0..count {
         match journal::judge_at(journal, place) {
             Slot::Blank => {
                 return Ending {
@@ -52,8 +50,6 @@ pub fn replay_slots(journal: &[u8], store: &mut [u8], out: &mut [u8], report: &m
             Slot::Torn => {
                 fields::put(report, 12 + 4 * torn, 4, place as u64);
                 torn += 1;
-                place += 1;
-                continue;
             }
             Slot::Bad => {
                 return Ending {
@@ -66,7 +62,7 @@ pub fn replay_slots(journal: &[u8], store: &mut [u8], out: &mut [u8], report: &m
             Slot::Whole {
                 sequence,
                 kind,
-                length,
+                input,
             } => {
                 if sequence != records {
                     return Ending {
@@ -76,27 +72,23 @@ pub fn replay_slots(journal: &[u8], store: &mut [u8], out: &mut [u8], report: &m
                         torn,
                     };
                 }
-                let from = place * slots::LENGTH + slots::INPUT;
-                let to = from + length;
-                let answer = hand(kind, &journal[from..to], store, out);
-                if keeping::is_taken(answer) {
-                    records += 1;
-                    place += 1;
-                    continue;
+                let answer = hand(kind, input, store, out);
+                if !keeping::is_taken(answer) {
+                    return Ending {
+                        stopped: true,
+                        records,
+                        place,
+                        torn,
+                    };
                 }
-                return Ending {
-                    stopped: true,
-                    records,
-                    place,
-                    torn,
-                };
+                records += 1;
             }
         }
     }
     Ending {
         stopped: false,
         records,
-        place,
+        place: count,
         torn,
     }
 }

@@ -4,6 +4,8 @@
 ghost use Rattle.std.specs.Prelude.{◌≡◌, length};
 ghost use Rattle.slots.specs.Slots.{written, may_put, putting};
 
+use answer::Refusal;
+
 // Whether a record may go into a slot.
 fn may_put(slot: &[u8], sequence: u64, kind: u64, input: &[u8]) -> bool
     requires { length slot.now ≡ 128 }
@@ -24,11 +26,11 @@ pub extern "C" fn journal_put(slot: &mut [u8], sequence: u64, kind: u64, input: 
     ensures { written result slot.new ≡ putting slot.old sequence kind input.now }
 {
     if slot.len() != slots::LENGTH {
-        return slots::refuse(1);
+        return Refusal::Lengths.answer();
     }
     if may_put(slot, sequence, kind, input) {
         slots::write_record(slot, sequence, kind, input);
         return slots::LENGTH as u64;
     }
-    slots::refuse(13)
+    Refusal::Journal.answer()
 }

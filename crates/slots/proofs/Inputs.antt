@@ -16,16 +16,15 @@ use Rattle.laws.proofs.Tests.{by_bool, and_left, and_right}
 use Rattle.outgoing.proofs.Writing.{length_write_most}
 use Rattle.wire.specs.Meaning.{read_of, message_of}
 use Rattle.wire.specs.declared.Message.{Message}
-use Rattle.wire.specs.declared.Read.{Read}
-use Rattle.wire.specs.declared.Read.TheVariants.{Readable, Unreadable}
+use Rattle.std.specs.Prelude.{Option, Some, None}
 use Rattle.slots.specs.Slots.{most_input, is_readable, is_input}
 
-module _ {r : Read} (bs : List ℕ) (e : read_of r ≡ read bs) where
-  pub unreadable : r ≡ Unreadable → false ≡ is_readable bs
+module _ {r : Option Message} (bs : List ℕ) (e : read_of r ≡ read bs) where
+  pub unreadable : r ≡ None → false ≡ is_readable bs
   unfolding is_readable read_of
   unreadable t = let q : read bs ≡ none = sym e ∙ ap read_of t in rw (q, is_readable)
 
-  pub readable : {m : Message} → r ≡ Readable m → true ≡ is_readable bs
+  pub readable : {m : Message} → r ≡ Some m → true ≡ is_readable bs
   unfolding is_readable read_of
   readable {m} t = let q : read bs ≡ some (message_of m) = sym e ∙ ap read_of t in rw (q, is_readable)
 

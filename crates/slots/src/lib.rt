@@ -5,8 +5,6 @@ ghost use Rattle.std.specs.Prelude.{◌≡◌, ◌+◌, ◌*◌, ◌^◌, ◌≤
 ghost use Rattle.outgoing.specs.Wrote.{wrote};
 ghost use Rattle.slots.specs.Slots.{is_input, is_readable, is_kept, record_bytes};
 
-use wire::Read;
-
 // The bytes of a slot, of an input at most, and before an input.
 pub const LENGTH: usize = 128;
 
@@ -18,7 +16,7 @@ pub const INPUT: usize = 11;
 pub fn is_readable(input: &[u8]) -> bool
     ensures { result ≡ is_readable input.now }
 {
-    let Read::Readable(_) = reading::read_message(input) else {
+    let Some(_) = reading::read_message(input) else {
         return false;
     };
     true
@@ -31,16 +29,12 @@ pub fn is_input(kind: u64, input: &[u8]) -> bool
     if MOST_INPUT < input.len() {
         return false;
     }
-    if kind == 1 {
-        return input.len() == 0;
+    match kind {
+        1 => input.is_empty(),
+        2 => input.len() == 32,
+        3 => is_readable(input),
+        _ => false,
     }
-    if kind == 2 {
-        return input.len() == 32;
-    }
-    if kind == 3 {
-        return is_readable(input);
-    }
-    false
 }
 
 // Copies bytes to a place.
@@ -48,11 +42,7 @@ pub fn copy(slot: &mut [u8], at: usize, input: &[u8])
     requires { at + length input.now ≤ length slot.old }
     ensures { slot.new ≡ wrote slot.old at input.now }
 {
-    let mut k: usize = 0;
-    while k < input.len() {
-        slot[at + k] = input[k];
-        k += 1;
-    }
+    slot[at..at + input.len()].copy_from_slice(input);
 }
 
 // Writes the record of a number and an input over a slot.
@@ -74,22 +64,5 @@ pub fn write_record(slot: &mut [u8], sequence: u64, kind: u64, input: &[u8])
 pub fn is_kept(number: u64) -> bool
     ensures { result ≡ is_kept number }
 {
-    if number == 0 {
-        return true;
-    }
-    if number == 6 {
-        return true;
-    }
-    if number == 7 {
-        return true;
-    }
-    number == 8
-}
-
-// What a host is told of a refusal: its number times 2^32, and no count.
-pub fn refuse(number: u64) -> u64
-    requires { number < 2 ^ 32 }
-    ensures { result ≡ number * 2 ^ 32 }
-{
-    number << 32
+    [0, 6, 7, 8].contains(&number)
 }

@@ -2,8 +2,6 @@
 use mathlib.Core.Path.{refl}
 use native.Mathlib.Omega.{arith}
 use Rattle.bundle.proofs.Totals.{total_starts, total_ends, total_not, total_next, total_over}
-use mathlib.Core.Path.{ap}
-use mathlib.Core.Bool.{not}
 use Rattle.bundle.proofs.total_of.Goals as goal
 
 pub loop-k-init : goal.loop-k-init

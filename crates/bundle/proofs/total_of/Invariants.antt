@@ -11,6 +11,3 @@ use Rattle.bundle.proofs.total_of.Given as goal
 abbrev pub invariant-loop-k : goal.invariant-loop-k
 invariant-loop-k l =
     (l.k ≤ l.count) × (l.count ≡ length l.list / 8) × (l.total ≤ most_bytes) × (weighed l.total (gathered l.bytes (places_from l.list l.k (l.count - l.k))) ≡ total_of (bundled l.bytes l.list))
-
-abbrev pub decreases-loop-k : goal.decreases-loop-k
-decreases-loop-k l = l.count - l.k

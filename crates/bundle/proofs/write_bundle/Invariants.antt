@@ -1,5 +1,5 @@
 -- `bundle::write_bundle` meets its contract: what is left of the messages, and of their items. Assumes nothing.
-use Prim.Native.Nat.{◌-◌, ◌/◌, ◌≤◌}
+use Prim.Native.Nat.{◌/◌, ◌≤◌}
 use mathlib.Core.Path.{◌≡◌}
 use lib.ListN.{length}
 use Rattle.bundle.proofs.Written.{Left}
@@ -8,6 +8,3 @@ use Rattle.bundle.proofs.write_bundle.Given as goal
 abbrev pub invariant-loop-k : goal.invariant-loop-k
 invariant-loop-k l =
     (l.k ≤ l.count) × (l.count ≡ length l.list / 8) × Left l.bytes l.list l.initial.out l.count l.at l.k l.out
-
-abbrev pub decreases-loop-k : goal.decreases-loop-k
-decreases-loop-k l = l.count - l.k

@@ -17,15 +17,16 @@ returns-then-most-height c = let a = c.args in kept_outside c.requires (asked a.
 
 pub reached_at-requires : goal.reached_at-requires
 reached_at-requires c =
-    (form_long _ c.requires, omega (arith, place_within c.args.store.now _ c.find_tally.ensures _ c.in-At.is, form_tallies _ c.requires))
+    (form_long _ c.requires, omega (arith, place_within c.args.store.now _ c.find_tally.ensures _ c.in_ok-i.was, form_tallies _ c.requires))
 
-pub returns-in-At : goal.returns-in-At
+pub returns-in_err-i : goal.returns-in_err-i
 unfolding block_of
-returns-in-At c =
+returns-in_err-i c =
     let a = c.args in
-    c.reached_at.ensures ∙ kept_there a.store.now (asked a.view a.height (name_of a.name)) c.find_tally.ensures _ c.in-At.is
+    rw c.from_residual.ensures (kept_missing a.store.now (asked a.view a.height (name_of a.name)) c.find_tally.ensures c.in_err-i.was)
 
-pub returns-in-Nothing : goal.returns-in-Nothing
+pub returns : goal.returns
 unfolding block_of
-returns-in-Nothing c =
-    let a = c.args in kept_missing a.store.now (asked a.view a.height (name_of a.name)) c.find_tally.ensures c.in-Nothing.is
+returns c =
+    let a = c.args in
+    c.reached_at.ensures ∙ kept_there a.store.now (asked a.view a.height (name_of a.name)) c.find_tally.ensures _ c.in_ok-i.was

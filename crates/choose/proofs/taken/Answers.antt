@@ -12,4 +12,4 @@ returns-in_default c =
 pub returns : goal.returns
 returns c =
     let a = c.args in
-    c.decide.ensures ∙ group_good a.kind a.n a.first.now a.second.now _ (sym c.group_of.ensures ∙ ap made_of c.in-Good.is)
+    c.decide.ensures ∙ group_good a.kind a.n a.first.now a.second.now _ (sym c.group_of.ensures ∙ ap made_of c.in-Some.is)

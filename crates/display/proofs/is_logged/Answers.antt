@@ -18,4 +18,4 @@ name_at-requires c =
 pub returns : goal.returns
 returns c =
     let pre = c.requires in
-    logged_at_lem _ _ _ c.if-at-eq0.false (omega (arith, pre.1, c.if-logged-at.false)) c.name_at.ensures c.same.ensures
+    logged_at_lem _ _ _ c.if-at-eq0.false (omega (arith, pre.1, c.if-logged-at.false)) c.name_at.ensures c.eq.ensures

@@ -9,4 +9,4 @@ pub returns : goal.returns
 returns c =
     let a = c.args in
     shown_says a.out.now a.at a.height (name_of a.name) a.left (omega arith) (name_lt a.name (omega (arith, c.well_formed)) (omega (arith, c.well_formed)) (omega (arith, c.well_formed)) (omega (arith, c.well_formed))) (omega arith)
-    c.put.ensures c.put-2.ensures c.put_name.ensures c.put-3.ensures
+    c.put.ensures (rw c.from.ensures at c.put-2.ensures) c.put_name.ensures c.put-3.ensures

@@ -42,16 +42,6 @@ show_one-next-requires c =
     let i = c.loop-i-test.true in
     (pre.0, load.ensures, ap course_of c.in-InView.is, omega (arith, i, loaded_statements _ _ load.ensures), omega (arith, pre.1, inv.1.few, i, loaded_statements _ _ load.ensures, form_statements _ pre.0, display_fits (size_in args.store.now), says_length inv.1.says))
 
-pub overflow_add-i : goal.overflow_add-i
-overflow_add-i c =
-    let pre = c.requires in
-    let load = c.load-station in let if1 = c.loop-i-test in
-    omega (arith, if1.true, loaded_statements _ _ load.ensures, form_statements _ pre.0)
-
-pub loop-i-smaller : goal.loop-i-smaller
-loop-i-smaller c =
-    omega (arith, c.loop-i-test.true)
-
 pub loop-i-preserved : goal.loop-i-preserved
 loop-i-preserved c =
     (omega (arith, c.loop-i-test.true), far_more c.loop-i.invariant.1 c.show_one-next.ensures)

@@ -3,16 +3,18 @@ use native.Mathlib.Omega.{arith}
 use Rattle.store.proofs.Forms.{form_long, form_statements}
 use Rattle.store.proofs.Loaded.{loaded_logged}
 use Rattle.glance.proofs.Seeing.{delay_short}
+use Rattle.glance.proofs.Voting.{vote_missing, vote_given}
+use mathlib.Core.Path.{refl}
 use Rattle.display.proofs.Bytes.{one_unvoted, one_logged, one_shown}
 use Rattle.display.proofs.show_one.Goals as goal
 
-pub vote_in-vote-requires : goal.vote_in-vote-requires
-vote_in-vote-requires c =
+pub vote_in-requires : goal.vote_in-requires
+vote_in-requires c =
     let pre = c.requires in (form_long _ pre.0, omega (arith, pre.3, form_statements _ pre.0))
 
-pub returns-then-vote-eq0 : goal.returns-then-vote-eq0
-returns-then-vote-eq0 c =
-    let pre = c.requires in one_unvoted _ _ pre.1 pre.2 _ _ _ c.vote_in-vote.ensures c.if-vote-eq0.true
+pub returns-in_default : goal.returns-in_default
+returns-in_default c =
+    let pre = c.requires in one_unvoted _ _ pre.1 pre.2 _ _ _ refl (vote_missing _ _ c.vote_in.result c.vote_in.ensures c.in_default.is)
 
 pub statement_at-x-requires : goal.statement_at-x-requires
 statement_at-x-requires c =
@@ -35,12 +37,14 @@ pub overflow_add-due : goal.overflow_add-due
 overflow_add-due c =
     let pre = c.requires in omega (arith, delay_short _ _ pre.1 pre.0.bytes)
 
+pub overflow_add-due-2 : goal.overflow_add-due-2
+overflow_add-due-2 c =
+    let pre = c.requires in omega (arith, delay_short _ _ pre.1 pre.0.bytes)
+
 pub returns : goal.returns
 returns c =
     let pre = c.requires in
-    let vote-in = c.vote_in-vote in
-    let if1 = c.if-vote-eq0 in
     let statement-at = c.statement_at-x in
     let is-logged = c.is_logged in
     let if2 = c.if-is_logged in let ticks-left = c.ticks_left-left in
-    one_shown _ _ pre.1 pre.2 _ _ statement-at.ensures is-logged.ensures _ _ vote-in.ensures if1.false if2.false ticks-left.ensures c.show.ensures
+    one_shown _ _ pre.1 pre.2 _ _ statement-at.ensures is-logged.ensures _ _ (vote_given _ _ c.vote_in.result c.vote_in.ensures _ c.in-Some.is) (λ e. absurd (omega arith)) if2.false (rw (c.from.ensures, c.from-2.ensures) at ticks-left.ensures) c.show.ensures

@@ -7,11 +7,11 @@ use Rattle.display.proofs.station_display.Goals as goal
 
 pub returns-then-not-is_whole : goal.returns-then-not-is_whole
 returns-then-not-is_whole c =
-    refused_store _ _ refl c.is_whole.ensures (ap not c.if-not-is_whole.true)
+    rw c.answer.ensures (refused_store _ _ refl c.is_whole.ensures (ap not c.if-not-is_whole.true))
 
 pub returns-then-out-least_out_in : goal.returns-then-out-least_out_in
 returns-then-out-least_out_in c =
-    refused_out _ _ refl (omega (arith, c.if-out-least_out_in.true, c.least_out_in.ensures))
+    rw c.answer-then-out-least_out_in.ensures (refused_out _ _ refl (omega (arith, c.if-out-least_out_in.true, c.least_out_in.ensures)))
 
 pub well_formed-requires : goal.well_formed-requires
 well_formed-requires c =
@@ -22,7 +22,7 @@ returns-then-not-well_formed c =
     let a = c.args in
     let is_whole = c.is_whole in
     let least-out-in = c.least_out_in in
-    refused_formless a.store.now a.out.now is_whole.ensures (ap not c.if-not-is_whole.false) (omega (arith, c.if-out-least_out_in.false, least-out-in.ensures)) c.well_formed-2.ensures refl (ap not c.if-not-well_formed.true)
+    rw c.answer-then-not-well_formed.ensures (refused_formless a.store.now a.out.now is_whole.ensures (ap not c.if-not-is_whole.false) (omega (arith, c.if-out-least_out_in.false, least-out-in.ensures)) c.well_formed-2.ensures refl (ap not c.if-not-well_formed.true))
 
 pub show_all-requires : goal.show_all-requires
 show_all-requires c =

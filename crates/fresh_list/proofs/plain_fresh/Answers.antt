@@ -10,7 +10,7 @@ pub returns-in_default : goal.returns-in_default
 returns-in_default c =
     let args = c.args in let has-length = c.has_length in
     let if1 = c.if-has_length in let made = c.new in
-    settings_refused args.list.now args.n args.d args.own (sym has-length.ensures ∙ if1.true) (made_bad args.n args.d args.own made.ensures.0 c.in_default.is) c.refuse.ensures
+    settings_refused args.list.now args.n args.d args.own (sym has-length.ensures ∙ if1.true) (made_bad args.n args.d args.own made.ensures.0 c.in_default.is) c.answer.ensures
 
 pub put-requires : goal.put-requires
 put-requires c = omega (arith, (lengths c.args.list.now (sym c.has_length.ensures ∙ c.if-has_length.true)).0)
@@ -55,7 +55,7 @@ returns-then-has_length c =
     let made = c.new in
     let put = c.put in
     let put2 = c.put-then-has_length in let put3 = c.put-then-has_length-2 in
-    is_fresh args.list.now args.n args.d args.own (sym has-length.ensures ∙ if1.true) (made_good args.n args.d args.own made.ensures.0 c.in-Good.is) put.ensures put2.ensures put3.ensures refl c.clear.ensures
+    is_fresh args.list.now args.n args.d args.own (sym has-length.ensures ∙ if1.true) (made_good args.n args.d args.own made.ensures.0 c.in-Some.is) put.ensures put2.ensures put3.ensures refl c.clear.ensures
 
 pub returns : goal.returns
-returns c = let a = c.args in length_refused a.list.now a.n a.d a.own (sym c.has_length.ensures ∙ c.if-has_length.false) c.refuse-2.ensures
+returns c = let a = c.args in length_refused a.list.now a.n a.d a.own (sym c.has_length.ensures ∙ c.if-has_length.false) c.answer-2.ensures

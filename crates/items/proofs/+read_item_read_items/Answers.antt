@@ -35,17 +35,17 @@ read_item-read_items-requires t c =
     let n : length (take ((3 + c.get-size.result) - 3) (drop 3 s)) ≡ c.get-size.result = simp (length-take, length-drop) (omega arith) in
     (let e = c.decreases in omega arith, tt)
 
-pub read_item-returns-in_default : goal.read_item-returns-in_default
-read_item-returns-in_default t c =
+pub read_item-returns-in_err-count : goal.read_item-returns-in_err-count
+read_item-returns-in_err-count t c =
     let more = c.if-depth-eq0.false in
     let e : (3 + c.get-size.result) - 3 ≡ c.get-size.result = omega arith in
-    first_broken _ _ c.get-size.ensures.0 (let h = c.if-s-size.false in omega arith) e c.if-tag-ne-ENVELOPE_TAG.false (omega arith) c.read_items.ensures c.in_default.is
+    rw c.from_residual.ensures (first_broken _ _ c.get-size.ensures.0 (let h = c.if-s-size.false in omega arith) e c.if-tag-ne-ENVELOPE_TAG.false (omega arith) c.read_items.ensures c.in_err-count.was)
 
 pub read_item-returns : goal.read_item-returns
 read_item-returns t c =
     let more = c.if-depth-eq0.false in
     let e : (3 + c.get-size.result) - 3 ≡ c.get-size.result = omega arith in
-    first_envelope _ _ c.get-size.ensures.0 (let h = c.if-s-size.false in omega arith) e c.if-tag-ne-ENVELOPE_TAG.false (omega arith) c.read_items.ensures c.in-All.is
+    first_envelope _ _ c.get-size.ensures.0 (let h = c.if-s-size.false in omega arith) e c.if-tag-ne-ENVELOPE_TAG.false (omega arith) c.read_items.ensures c.in_ok-count.was
 
 pub read_items-loop-at-init : goal.read_items-loop-at-init
 read_items-loop-at-init t c = (omega arith, omega arith, count_starts _)
@@ -55,19 +55,19 @@ read_items-read_item-requires t c =
     let n : length (take (length c.args.s.now - c.loop-at.at) (drop c.loop-at.at c.args.s.now)) ≤ length c.args.s.now = simp (length-take, length-drop) (omega arith) in
     (let e = c.decreases in omega arith, tt)
 
-pub read_items-returns-in_default : goal.read_items-returns-in_default
-read_items-returns-in_default t c =
-    items_bad _ _ _ _ c.loop-at.invariant.2 c.loop-at-test.true refl c.read_item.ensures c.in_default.is
+pub read_items-returns-in_err-item : goal.read_items-returns-in_err-item
+read_items-returns-in_err-item t c =
+    rw c.from_residual.ensures (items_bad _ _ _ _ c.loop-at.invariant.2 c.loop-at-test.true refl c.read_item.ensures c.in_err-item.was)
 
 pub read_items-overflow_add-messages : goal.read_items-overflow_add-messages
 read_items-overflow_add-messages t c =
-    let w = item_within _ _ _ _ c.loop-at.invariant.2 c.loop-at-test.true refl c.read_item.ensures c.in-Good.is in
+    let w = item_within _ _ _ _ c.loop-at.invariant.2 c.loop-at-test.true refl c.read_item.ensures c.in_ok-item.was in
     omega arith
 
 pub read_items-loop-at-preserved : goal.read_items-loop-at-preserved
 read_items-loop-at-preserved t c =
-    let w = item_within _ _ _ _ c.loop-at.invariant.2 c.loop-at-test.true refl c.read_item.ensures c.in-Good.is in
-    (omega arith, omega arith, items_next _ _ _ _ c.loop-at.invariant.2 c.loop-at-test.true refl c.read_item.ensures c.in-Good.is)
+    let w = item_within _ _ _ _ c.loop-at.invariant.2 c.loop-at-test.true refl c.read_item.ensures c.in_ok-item.was in
+    (omega arith, omega arith, items_next _ _ _ _ c.loop-at.invariant.2 c.loop-at-test.true refl c.read_item.ensures c.in_ok-item.was)
 
 pub read_items-returns : goal.read_items-returns
 read_items-returns t c = items_end _ _ _ _ c.loop-at.invariant.2 c.loop-at-test.false (omega arith)

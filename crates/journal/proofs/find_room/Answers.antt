@@ -3,6 +3,7 @@ use native.Mathlib.Omega.{arith}
 use Rattle.journal.proofs.Rooms.{slot_count_lem, room_starts, room_ends, at_blank, at_torn, at_bad, at_other, at_next}
 use borrow.Author.Rules.{rules}
 use Rattle.journal.proofs.find_room.Goals as goal
+use Rattle.journal.proofs.find_room.Goals.{in-Torn, in-Whole+else-sequence-records}
 
 pub loop-place-init : goal.loop-place-init
 loop-place-init c =
@@ -17,13 +18,6 @@ returns-in-Blank c =
     let l = c.loop-place in
     let s = c.judge_at.ensures.is in
     at_blank j l.records l.place _ l.invariant.3 c.loop-place-test.true _ s c.in-Blank.is l.invariant.2 l.invariant.1
-
-pub loop-place-preserved-in-Torn : goal.loop-place-preserved-in-Torn
-loop-place-preserved-in-Torn c =
-    let j = c.args.journal.now in
-    let l = c.loop-place in
-    let s = c.judge_at.ensures.is in
-    (omega arith, omega arith, l.invariant.2, at_torn j l.records l.place _ l.invariant.3 c.loop-place-test.true _ s c.in-Torn.is)
 
 pub returns-in-Bad : goal.returns-in-Bad
 returns-in-Bad c =
@@ -44,7 +38,15 @@ loop-place-preserved c =
     let j = c.args.journal.now in
     let l = c.loop-place in
     let s = c.judge_at.ensures.is in
-    (omega arith, omega arith, l.invariant.2, at_next j l.records l.place _ l.invariant.3 c.loop-place-test.true _ s c.in-Whole.is c.if-sequence-records.false)
+    elim c.match-judge_at.branch [
+      | in-Torn w ↦ (omega arith, rw w.records-is (omega arith), l.invariant.2, rw w.records-is (at_torn j l.records l.place _ l.invariant.3 c.loop-place-test.true _ s w.in-Torn.is))
+      | in-Whole+else-sequence-records w ↦ (
+        omega arith,
+        rw w.records-is (omega arith),
+        l.invariant.2,
+        rw w.records-is (at_next j l.records l.place _ l.invariant.3 c.loop-place-test.true _ s w.in-Whole.is w.if-sequence-records.false),
+      )
+    ]
 
 pub returns : goal.returns
 returns c =

@@ -7,6 +7,3 @@ use Rattle.journal.proofs.find_room.Given as goal
 abbrev pub invariant-loop-place : goal.invariant-loop-place
 invariant-loop-place l =
     (l.place ≤ l.count) × (l.records ≤ l.place) × (l.count ≡ slot_count l.journal) × (room_from l.records l.place (slots_from l.journal l.place (l.count - l.place)) ≡ room_in l.journal)
-
-abbrev pub decreases-loop-place : goal.decreases-loop-place
-decreases-loop-place l = l.count - l.place

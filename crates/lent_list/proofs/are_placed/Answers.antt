@@ -2,8 +2,10 @@
 use native.Mathlib.Omega.{arith}
 use Rattle.lent_list.proofs.Lengths.{lengths, slots_counted}
 use Rattle.lent_list.proofs.Placed.{placed_starts, placed_ends, placed_next, placed_stops}
-use mathlib.Core.Path.{ap}
-use mathlib.Core.Bool.{not}
+use Prim.Native.Nat.{◌-◌, ◌/◌}
+use mathlib.Core.Path.{◌≡◌, ap, ◌∙◌}
+use lib.ListN.{length}
+use lib.Dec.{leb}
 use Rattle.lent_list.proofs.are_placed.Goals as goal
 
 pub overflow_sub-count : goal.overflow_sub-count
@@ -24,4 +26,7 @@ loop-place-preserved c =
     (omega arith, loop.invariant.1, placed_next _ _ loop.invariant.1 _ loop.invariant.2 c.loop-place-test.true c.is_placed.ensures c.if-not-is_placed.false)
 
 pub returns : goal.returns
-returns c = placed_ends _ _ c.loop-place.invariant.1 _ c.loop-place.invariant.2 c.loop-place-test.false
+returns c =
+    let l = c.loop-place in
+    let e : (length c.args.list.now - 16) / 128 ≡ l.place = omega arith in
+    ap (leb c.args.records) e ∙ placed_ends _ _ l.invariant.1 _ l.invariant.2 c.loop-place-test.false

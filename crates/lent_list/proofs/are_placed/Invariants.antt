@@ -8,6 +8,3 @@ use Rattle.lent_list.proofs.are_placed.Given as goal
 abbrev pub invariant-loop-place : goal.invariant-loop-place
 invariant-loop-place l =
     (l.place ≤ l.count) × (l.count ≡ slots_in l.list) × (are_placed l.records l.place (slots_from (records_in l.list) l.place (l.count - l.place)) ≡ are_placed l.records 0 (slots_of (records_in l.list)))
-
-abbrev pub decreases-loop-place : goal.decreases-loop-place
-decreases-loop-place l = l.count - l.place

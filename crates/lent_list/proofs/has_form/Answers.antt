@@ -21,7 +21,7 @@ returns-then-all_zero c =
     let args = c.args in
     let settings-in = c.settings_in-head in let made = c.new in
     let all-zero = c.all_zero in
-    let l = args.list.now in by_slots l all-zero.ensures (head_good l settings-in.ensures.0 settings-in.ensures.1 made.ensures.0 c.in-Good.is) c.if-all_zero.true c.get-records.ensures.0 c.are_placed.ensures
+    let l = args.list.now in by_slots l all-zero.ensures (head_good l settings-in.ensures.0 settings-in.ensures.1 made.ensures.0 c.in-Some.is) c.if-all_zero.true c.get-records.ensures.0 c.are_placed.ensures
 
 pub returns : goal.returns
 returns c = not_zero c.args.list.now c.all_zero.ensures c.if-all_zero.false

@@ -9,7 +9,7 @@ pub returns-then-is_full : goal.returns-then-is_full
 returns-then-is_full c =
     let args = c.args in let is-kept = c.is_kept in
     let if1 = c.if-is_kept in
-    no_slot args.kind args.input.now args.number args.said.now args.list.now args.out.now is-kept.ensures if1.true c.is_full.ensures c.if-is_full.true c.refuse.ensures
+    no_slot args.kind args.input.now args.number args.said.now args.list.now args.out.now is-kept.ensures if1.true c.is_full.ensures c.if-is_full.true c.answer.ensures
 
 pub add-requires : goal.add-requires
 add-requires c =
@@ -25,7 +25,7 @@ returns-then-is_kept c =
     let is-full = c.is_full in
     let if2 = c.if-is_full in let add = c.add in
     let copy = c.copy in
-    is_entered args.kind args.input.now args.number args.said.now args.list.now args.out.now is-kept.ensures if1.true is-full.ensures if2.false (ap (λ (n : ℕ). n + length args.said.now) c.refuse-then-is_kept.ensures) add.ensures copy.ensures pre.number_bound.2
+    is_entered args.kind args.input.now args.number args.said.now args.list.now args.out.now is-kept.ensures if1.true is-full.ensures if2.false (ap (λ (n : ℕ). n + length args.said.now) c.refuse.ensures) add.ensures copy.ensures pre.number_bound.2
 
 pub returns : goal.returns
 returns c =

@@ -28,7 +28,7 @@ overflow_add-result c =
     let args = c.args in
     let has-lengths = c.has_lengths in
     let replay-slots = c.replay_slots-end in
-    let p = lengths_parts args.journal.now args.store.now args.out.now args.report.now has-lengths.ensures c.if-has_lengths.true in omega (arith, c.refuse.ensures, replay-slots.ensures.bounded.place, p.1)
+    let p = lengths_parts args.journal.now args.store.now args.out.now args.report.now has-lengths.ensures c.if-has_lengths.true in omega (arith, c.answer.ensures, replay-slots.ensures.bounded.place, p.1)
 
 pub returns-then-end : goal.returns-then-end
 returns-then-end c =
@@ -49,7 +49,7 @@ returns-then-end c =
     replay-slots.ensures
     write-head.ensures
     c.if-end.true
-    (ap (λ (x : ℕ). x + c.replay_slots-end.result.place) c.refuse.ensures)
+    (ap (λ (x : ℕ). x + c.replay_slots-end.result.place) c.answer.ensures)
 
 pub returns-then-well_formed : goal.returns-then-well_formed
 returns-then-well_formed c =
@@ -64,9 +64,9 @@ pub returns-then-has_lengths : goal.returns-then-has_lengths
 returns-then-has_lengths c =
     let args = c.args in
     let has-lengths = c.has_lengths in
-    no_form args.journal.now args.store.now args.out.now args.report.now has-lengths.ensures c.if-has_lengths.true c.well_formed-then-has_lengths.ensures c.if-well_formed.false c.refuse-then-has_lengths.ensures
+    no_form args.journal.now args.store.now args.out.now args.report.now has-lengths.ensures c.if-has_lengths.true c.well_formed-then-has_lengths.ensures c.if-well_formed.false c.answer-then-has_lengths.ensures
 
 pub returns : goal.returns
 returns c =
     let args = c.args in
-    no_lengths args.journal.now args.store.now args.out.now args.report.now c.has_lengths.ensures c.if-has_lengths.false c.refuse-2.ensures
+    no_lengths args.journal.now args.store.now args.out.now args.report.now c.has_lengths.ensures c.if-has_lengths.false c.answer-2.ensures

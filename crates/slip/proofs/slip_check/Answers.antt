@@ -10,22 +10,22 @@ use Rattle.slip.proofs.slip_check.Goals as goal
 
 pub returns-in_default : goal.returns-in_default
 returns-in_default c =
-    group_bad c.args.kind c.args.n c.args.slip.now (sym c.group_of.ensures ∙ ap made_of c.in_default.is)
+    c.answer.ensures ∙ group_bad c.args.kind c.args.n c.args.slip.now (sym c.group_of.ensures ∙ ap made_of c.in_default.is)
 
 pub overflow_add-result : goal.overflow_add-result
 overflow_add-result c =
-    let m = judged_most (settings_of c.in-Good.settings) c.args.slip.now in
-    let e : c.in-Refused.place ≡ count_of (judged _ _) = ap count_of (sym (ap verdict_of c.in-Refused.is) ∙ c.judge.ensures) in
+    let m = judged_most (settings_of c.in-Some.settings) c.args.slip.now in
+    let e : c.in-Err.refused.place ≡ count_of (judged _ _) = ap count_of (sym (ap verdict_of c.in-Err.is) ∙ c.judge.ensures) in
     search (rules, m, e)
 
-pub returns-in-Accepted : goal.returns-in-Accepted
+pub returns-in-Ok : goal.returns-in-Ok
 unfolding answer_of
-returns-in-Accepted c =
-    group_good c.args.kind c.args.n c.args.slip.now (sym c.group_of.ensures ∙ ap made_of c.in-Good.is)
-    (sym (ap verdict_of c.in-Accepted.is) ∙ c.judge.ensures)
+returns-in-Ok c =
+    group_good c.args.kind c.args.n c.args.slip.now (sym c.group_of.ensures ∙ ap made_of c.in-Some.is)
+    (sym (ap verdict_of c.in-Ok.is) ∙ c.judge.ensures)
 
-pub returns-in-Refused : goal.returns-in-Refused
+pub returns-in-Err : goal.returns-in-Err
 unfolding answer_of
-returns-in-Refused c =
-    group_good c.args.kind c.args.n c.args.slip.now (sym c.group_of.ensures ∙ ap made_of c.in-Good.is)
-    (sym (ap verdict_of c.in-Refused.is) ∙ c.judge.ensures)
+returns-in-Err c =
+    rw c.answer-in-Err.ensures (group_good c.args.kind c.args.n c.args.slip.now (sym c.group_of.ensures ∙ ap made_of c.in-Some.is)
+    (sym (ap verdict_of c.in-Err.is) ∙ c.judge.ensures))

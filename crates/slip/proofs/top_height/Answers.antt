@@ -5,11 +5,11 @@ use Rattle.slip_entries.specs.Meaning.{entry_of}
 use Rattle.slip.proofs.Judging.{top_here, top_unread}
 use Rattle.slip.proofs.top_height.Goals as goal
 
-pub returns-in-Propose : goal.returns-in-Propose
+pub returns-in-Some : goal.returns-in-Some
 unfolding statement_of
-returns-in-Propose c =
-    top_here _ (sym c.entry_at.ensures ∙ ap entry_of c.in-Propose.is)
+returns-in-Some c =
+    top_here _ (sym c.entry_at.ensures ∙ ap entry_of c.in-Some.is)
 
-pub returns-in-Unread : goal.returns-in-Unread
-returns-in-Unread c =
-    top_unread _ (sym c.entry_at.ensures ∙ ap entry_of c.in-Unread.is)
+pub returns-in-None : goal.returns-in-None
+returns-in-None c =
+    top_unread _ (sym c.entry_at.ensures ∙ ap entry_of c.in-None.is)

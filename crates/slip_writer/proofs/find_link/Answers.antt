@@ -16,13 +16,7 @@ loop-i-init c = (omega arith, rw (c.requires.1, sub-zero))
 pub links-requires : goal.links-requires
 links-requires c =
     let pre = c.requires in
-    (form_long _ pre.0, omega (arith, pre.1, form_statements _ pre.0, c.if-stored-i.false))
-
-pub overflow_add-i : goal.overflow_add-i
-overflow_add-i c = omega arith
-
-pub loop-i-smaller : goal.loop-i-smaller
-loop-i-smaller c = omega arith
+    (form_long _ pre.0, omega (arith, pre.1, form_statements _ pre.0, c.loop-i-test.true))
 
 pub loop-i-preserved : goal.loop-i-preserved
 loop-i-preserved c =
@@ -30,8 +24,8 @@ loop-i-preserved c =
     let l = c.loop-i in
     (omega arith, l.invariant.1 ∙ find_next (statement_at a.store.now) (is_link a.height (name_of a.name) (name_of a.parent)) _ l.i (omega arith) (sym c.links.ensures ∙ c.if-links.false))
 
-pub returns-then-stored-i : goal.returns-then-stored-i
-returns-then-stored-i c =
+pub returns : goal.returns
+returns c =
     let a = c.args in
     let l = c.loop-i in
     sym (l.invariant.1 ∙ find_none (statement_at a.store.now) (is_link a.height (name_of a.name) (name_of a.parent)) _ l.i (omega arith))

@@ -11,6 +11,3 @@ abbrev pub invariant-loop-i : goal.invariant-loop-i
 invariant-loop-i l =
     (l.i ≤ l.stored)
     × (first_from (is_link l.height (name_of l.name) (name_of l.parent)) 0 (statements l.store) ≡ first_from (is_link l.height (name_of l.name) (name_of l.parent)) l.i (rows (statement_at l.store) l.i (l.stored - l.i)))
-
-abbrev pub decreases-loop-i : goal.decreases-loop-i
-decreases-loop-i l = l.stored - l.i

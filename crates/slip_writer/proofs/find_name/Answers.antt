@@ -16,28 +16,22 @@ loop-i-init c = (omega arith, rw (c.requires.1, sub-zero))
 pub name_at-requires : goal.name_at-requires
 name_at-requires c =
     let pre = c.requires in
-    (form_long _ pre.0, omega (arith, pre.1, form_log _ pre.0, c.if-logged-i.false))
-
-pub overflow_add-i : goal.overflow_add-i
-overflow_add-i c = omega arith
-
-pub loop-i-smaller : goal.loop-i-smaller
-loop-i-smaller c = omega arith
+    (form_long _ pre.0, omega (arith, pre.1, form_log _ pre.0, c.loop-i-test.true))
 
 pub loop-i-preserved : goal.loop-i-preserved
 loop-i-preserved c =
     let a = c.args in
     let l = c.loop-i in
-    (omega arith, l.invariant.1 ∙ find_next (name_at a.store.now) (eqb (name_of a.name)) _ l.i (omega arith) (ap (eqb (name_of a.name)) (sym c.name_at.ensures) ∙ sym c.same.ensures ∙ c.if-same.false))
+    (omega arith, l.invariant.1 ∙ find_next (name_at a.store.now) (eqb (name_of a.name)) _ l.i (omega arith) (ap (eqb (name_of a.name)) (sym c.name_at.ensures) ∙ sym c.eq.ensures ∙ c.if-eq.false))
 
-pub returns-then-logged-i : goal.returns-then-logged-i
-returns-then-logged-i c =
+pub returns : goal.returns
+returns c =
     let a = c.args in
     let l = c.loop-i in
     sym (l.invariant.1 ∙ find_none (name_at a.store.now) (eqb (name_of a.name)) _ l.i (omega arith))
 
-pub returns-then-same : goal.returns-then-same
-returns-then-same c =
+pub returns-then-eq : goal.returns-then-eq
+returns-then-eq c =
     let a = c.args in
     let l = c.loop-i in
-    sym (l.invariant.1 ∙ find_here (name_at a.store.now) (eqb (name_of a.name)) _ l.i (omega arith) (ap (eqb (name_of a.name)) (sym c.name_at.ensures) ∙ sym c.same.ensures ∙ c.if-same.true))
+    sym (l.invariant.1 ∙ find_here (name_at a.store.now) (eqb (name_of a.name)) _ l.i (omega arith) (ap (eqb (name_of a.name)) (sym c.name_at.ensures) ∙ sym c.eq.ensures ∙ c.if-eq.true))

@@ -10,6 +10,3 @@ use Rattle.slip_writer.proofs.find_name.Given as goal
 abbrev pub invariant-loop-i : goal.invariant-loop-i
 invariant-loop-i l =
     (l.i ≤ l.logged) × (first_from (eqb (name_of l.name)) 0 (names l.store) ≡ first_from (eqb (name_of l.name)) l.i (rows (name_at l.store) l.i (l.logged - l.i)))
-
-abbrev pub decreases-loop-i : goal.decreases-loop-i
-decreases-loop-i l = l.logged - l.i

@@ -11,6 +11,3 @@ abbrev pub invariant-loop-place : goal.invariant-loop-place
 invariant-loop-place l =
     (l.place ≤ l.count) × (l.records ≤ l.place) × (l.torn ≤ l.place) × (length l.store ≡ length l.initial.store) × (length l.out ≡ length l.initial.out) × (length l.report ≡ length l.initial.report)
     × (end_of l.torn l.report (replay_from l.records l.place l.store l.out (slots_from l.journal l.place (l.count - l.place))) ≡ end_of 0 l.initial.report (replay_from 0 0 l.initial.store l.initial.out (slots_of l.journal)))
-
-abbrev pub decreases-loop-place : goal.decreases-loop-place
-decreases-loop-place l = l.count - l.place

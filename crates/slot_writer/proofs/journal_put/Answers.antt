@@ -4,7 +4,7 @@ use Rattle.slot_writer.proofs.journal_put.Goals as goal
 
 pub returns-then-slot-ne-LENGTH : goal.returns-then-slot-ne-LENGTH
 returns-then-slot-ne-LENGTH c =
-    not_slot _ _ _ _ c.if-slot-ne-LENGTH.true c.refuse.ensures
+    not_slot _ _ _ _ c.if-slot-ne-LENGTH.true c.answer.ensures
 
 pub write_record-requires : goal.write_record-requires
 write_record-requires c =
@@ -16,4 +16,4 @@ returns-then-may_put c =
 
 pub returns : goal.returns
 returns c =
-    not_put _ _ _ _ c.if-slot-ne-LENGTH.false c.may_put.ensures c.if-may_put.false c.refuse-2.ensures
+    not_put _ _ _ _ c.if-slot-ne-LENGTH.false c.may_put.ensures c.if-may_put.false c.answer-2.ensures

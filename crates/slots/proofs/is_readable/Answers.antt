@@ -6,4 +6,4 @@ pub returns-in_default : goal.returns-in_default
 returns-in_default c = unreadable _ c.read_message.ensures c.in_default.is
 
 pub returns : goal.returns
-returns c = readable _ c.read_message.ensures c.in-Readable.is
+returns c = readable _ c.read_message.ensures c.in-Some.is
