@@ -4,6 +4,7 @@
 ghost use Rattle.std.specs.Prelude.{◌≡◌};
 ghost use Rattle.lent_list.specs.Plain.{plain_step, plain_tick, plain_offer, Gives as Answers, left, plain_log};
 
+use answer::Refusal;
 use plain_answers::answered;
 
 // A tick.
@@ -28,7 +29,7 @@ pub extern "C" fn plain_offer(list: &mut [u8], name: &[u8], out: &mut [u8]) -> u
     ensures { Answers (plain_offer name.now list.old out.old) result list.new out.new }
 {
     if name.len() != 32 {
-        return slots::refuse(1);
+        return Refusal::Lengths.answer();
     }
     answered(list, out, 2, name)
 }

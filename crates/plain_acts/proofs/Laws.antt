@@ -27,6 +27,7 @@ use Rattle.plain_tallies.specs.declared.Tallies.{Tallies}
 use Rattle.plain_tallies.specs.Meaning as tally_room
 use Rattle.plain_tallies.specs.Meaning.{tallies}
 use Rattle.plain_tables.specs.declared.Cause.{Cause}
+use Rattle.plain_tables.specs.declared.Phase.{Phase}
 use Rattle.plain_tables.specs.declared.Phase.TheVariants.{InView, Waiting, Stopped}
 use Rattle.plain_tables.specs.declared.Engine.{Engine}
 use Rattle.plain_tables.specs.Meaning.{state, Sized, Gives, phased, tabled, blaming}
@@ -40,13 +41,21 @@ module _ (e : Engine) (v : ℕ) where
   unfolding inputs.is_in state
   in_view_lem p = rw (p, inputs.is_in)
 
-  pub in_waiting : (q : ℕ) → e.phase ≡ Waiting q → false ≡ inputs.is_in v (state e)
+  in_waiting : (q : ℕ) → e.phase ≡ Waiting q → false ≡ inputs.is_in v (state e)
   unfolding inputs.is_in state
   in_waiting q p = rw (p, inputs.is_in)
 
-  pub in_stopped : (c : Cause) → e.phase ≡ Stopped c → false ≡ inputs.is_in v (state e)
+  in_stopped : (c : Cause) → e.phase ≡ Stopped c → false ≡ inputs.is_in v (state e)
   unfolding inputs.is_in state
   in_stopped c p = rw (p, inputs.is_in)
+
+  pub in_other : (e.phase ≡ InView → ⊥) → false ≡ inputs.is_in v (state e)
+  in_other n = go e.phase refl
+    where
+      go : (p : Phase) → e.phase ≡ p → false ≡ inputs.is_in v (state e)
+      go InView q = absurd (n q)
+      go (Waiting w) q = in_waiting w q
+      go (Stopped c) q = in_stopped c q
 
 -- ---- a change of the station
 

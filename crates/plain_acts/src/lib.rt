@@ -18,9 +18,8 @@ ghost use Rattle.plain_tallies.specs.Meaning.{opener_of, moment_of};
 ghost use Rattle.plain_tables.specs.Meaning.{state, Sized, Gives};
 ghost use Rattle.plain_acts.specs.Works.{Worked};
 
-use plain_statements::Statements;
 use plain_tables::{Engine, Phase};
-use plain_tallies::{Moment, Opener, Tallies};
+use plain_tallies::Moment;
 use plain_words::Certificate;
 use wire::{Message, Statement};
 
@@ -35,11 +34,9 @@ pub struct Work {
 pub fn is_in(e: Engine, view: u32) -> bool
     ensures { result ≡ inputs.is_in view (state e) }
 {
-    let phase = e.phase;
-    match phase {
+    match e.phase {
         Phase::InView => view == e.view,
-        Phase::Waiting(_) => false,
-        Phase::Stopped(_) => false,
+        _ => false,
     }
 }
 
@@ -52,12 +49,11 @@ pub fn quit(e: Engine) -> Engine
 }
 
 // What the station tells a joining: its settings and its clock.
-pub fn moment_of(e: Engine, opener: Opener) -> Moment
+pub fn moment_of(e: Engine, opener: Option<u8>) -> Moment
     ensures { moment_of result ≡ words.moment (opener_of opener) (state e) }
 {
-    let settings = e.settings;
     Moment {
-        settings,
+        settings: e.settings,
         clock: e.clock,
         opener,
     }
@@ -68,22 +64,17 @@ fn below_lock(e: Engine, x: Statement) -> bool
     requires { Certifies (statement_of x none) }
     ensures { result ≡ inputs.below_lock (statement_of x none) (state e) }
 {
-    let lock = e.lock;
-    let certificate = plain_words::certificate_of(x);
-    let below = plain_words::below(certificate, lock);
-    x.is_new_view & below
+    x.is_new_view & plain_words::below(plain_words::certificate_of(x), e.lock)
 }
 
 // "Vote, status join their tally, opened if missing".
-pub fn tallied(e: Engine, opener: Opener, t: Certificate) -> Engine
+pub fn tallied(e: Engine, opener: Option<u8>, t: Certificate) -> Engine
     requires { (Sized e) × (e.tallies.count < tally_room.room) }
     ensures { Gives result (inputs.tallied (opener_of opener) (certificate_of t) (state e)).now }
 {
     let moment = moment_of(e, opener);
-    let statements = e.statements;
-    let tallies = e.tallies;
-    let now = tallies.join_certificate(moment, t);
-    e.with_tables(statements, now)
+    let now = e.tallies.join_certificate(moment, t);
+    e.with_tables(e.statements, now)
 }
 
 // "Its certificate mask joins its tally".
@@ -91,12 +82,10 @@ pub fn certificate_joined(e: Engine, x: Statement) -> Engine
     requires { (Sized e) × (e.tallies.count < tally_room.room) × (Certifies (statement_of x none)) }
     ensures { Gives result (inputs.certificate_joined (statement_of x none) (state e)) }
 {
-    let moment = moment_of(e, Opener::Nobody);
+    let moment = moment_of(e, None);
     let certificate = plain_words::certificate_of(x);
-    let statements = e.statements;
-    let tallies = e.tallies;
-    let now = tallies.join_certificate(moment, certificate);
-    e.with_tables(statements, now)
+    let now = e.tallies.join_certificate(moment, certificate);
+    e.with_tables(e.statements, now)
 }
 
 // "If new, it is stored with the mask as received, and tallies exist from now on for its certified block and its own block".
@@ -104,13 +93,11 @@ pub fn stored(e: Engine, x: Statement) -> Engine
     requires { (Sized e) × (e.statements.count < statement_room.room) × (e.tallies.count + 1 < tally_room.room) × (Certifies (statement_of x none)) }
     ensures { Gives result (inputs.stored (statement_of x none) (state e)) }
 {
-    let moment = moment_of(e, Opener::Nobody);
+    let moment = moment_of(e, None);
     let certificate = plain_words::certificate_of(x);
     let block = plain_words::own_block(x, 0);
-    let statements = e.statements;
-    let tallies = e.tallies;
-    let more = statements.push(x);
-    let certified = tallies.join_certificate(moment, certificate);
+    let more = e.statements.push(x);
+    let certified = e.tallies.join_certificate(moment, certificate);
     let opened = certified.join(moment, block);
     e.with_tables(more, opened)
 }
@@ -128,13 +115,10 @@ fn voted_for(e: Engine, x: Statement) -> Engine
     requires { (Sized e) × (e.tallies.count < tally_room.room) }
     ensures { Gives result (inputs.voted_for (statement_of x none) (state e)) }
 {
-    let settings = e.settings;
-    let moment = moment_of(e, Opener::Nobody);
-    let block = plain_words::own_block(x, mask_of(settings.own));
-    let statements = e.statements;
-    let tallies = e.tallies;
-    let noted = statements.noted(x, e.clock);
-    let joined = tallies.join(moment, block);
+    let moment = moment_of(e, None);
+    let block = plain_words::own_block(x, mask_of(e.settings.own));
+    let noted = e.statements.noted(x, e.clock);
+    let joined = e.tallies.join(moment, block);
     e.with_tables(noted, joined)
 }
 
@@ -143,13 +127,11 @@ fn ballot(e: Engine, x: Statement, out: &mut [u8], at: usize) -> usize
     requires { (Sized e) × (Linked x) × (at + 200 ≤ length out.old) }
     ensures { Says out.old at (outgoing (inputs.ballot (statement_of x none) (state e))) out.new result }
 {
-    let settings = e.settings;
-    let own = settings.own as u8;
-    let name = x.name;
+    let own = e.settings.own as u8;
     let vote = Message::Vote {
         view: x.view,
         height: x.height,
-        name,
+        name: x.name,
         author: own,
     };
     let next = effects::to_all(out, at, Message::Stated(x));
@@ -174,8 +156,7 @@ pub fn blames_of(e: Engine, view: u32) -> u16
     requires { view ≤ last_view_small }
     ensures { result ≡ inputs.blames_of view (state e) }
 {
-    let v = view as usize;
-    e.blames[v]
+    e.blames[view as usize]
 }
 
 // "Blame, blame set join the view's mask".
@@ -183,9 +164,8 @@ pub fn blamed(e: Engine, view: u32, mask: u16) -> Engine
     requires { (Sized e) × (view ≤ last_view_small) }
     ensures { Gives result (inputs.blamed view mask (state e)) }
 {
-    let v = view as usize;
     let mut blames = e.blames;
-    blames[v] = blames[v] | mask;
+    blames[view as usize] |= mask;
     e.with_blames(blames)
 }
 
@@ -194,8 +174,7 @@ pub fn blame_full(e: Engine, view: u32) -> bool
     requires { view ≤ last_view_small }
     ensures { result ≡ inputs.blame_full view (state e) }
 {
-    let settings = e.settings;
-    settings.quorum(plain_words::wide(blames_of(e, view)))
+    e.settings.quorum(u64::from(blames_of(e, view)))
 }
 
 // "At f+1, while the station is in that view, it sends the set (the mask now held) and quits. Otherwise they are only kept".

@@ -25,12 +25,13 @@ use Rattle.plain_tables.specs.Meaning.{state}
 use Rattle.plain_messages.specs.Whole.{Whole}
 use Rattle.plain_turns.specs.Turns.{Answered}
 use Rattle.plain_answers.specs.Meaning.{FoldedTo}
-use Rattle.plain_answers.specs.declared.Folded.{Folded}
+use Rattle.std.specs.Prelude as code
+use Rattle.std.specs.Prelude.{Some, None}
 use Rattle.plain_turns.specs.declared.Turn.{Turn}
 use Rattle.plain_tables.specs.declared.Engine.{Engine}
 use Rattle.plain_lists.specs.Meaning.{bar}
 use Rattle.plain_lists.proofs.Bars.{bar_form, bar_short, not_barred, open_list, open_out}
-use Rattle.plain_answers.proofs.Folding.{formless, came}
+use Rattle.plain_answers.proofs.Folding.{formless, came_none, came_some, came_whole}
 
 -- the bytes of a slice, as a list's
 pub plain_bytes : (s : List ℕ) → Bytes s → bytes.Bytes s
@@ -68,14 +69,14 @@ module _ (l o : List ℕ) where
         (λ f. refused_by 2 (plain_by p ∙ ap looked (formless l f)) (d ∙ ap (◌* 2 ^ 32) (e ∙ bar_form l o p f))))
         (λ p. refused_by 1 (plain_by p) (d ∙ ap (◌* 2 ^ 32) (e ∙ bar_short l o p)))
 
-    module _ {q : ℕ} (e : q ≡ bar l o) (z : q ≡ 0) {f : Folded} (g : FoldedTo (held l) f) where
+    module _ {q : ℕ} (e : q ≡ bar l o) (z : q ≡ 0) {f : code.Option Engine} (g : FoldedTo (held l) f) where
       passes : lengths_good ≡ true
       passes = (not_barred l o (sym e ∙ z)).0
 
-      pub no_state : {r : ℕ} → f.good ≡ false → r ≡ 2 * 2 ^ 32 → Gives (plainly x l o) r l o
-      no_state u d = refused_by 2 (plain_by passes ∙ ap looked (sym (came g u))) d
+      pub no_state : {r : ℕ} → f ≡ None → r ≡ 2 * 2 ^ 32 → Gives (plainly x l o) r l o
+      no_state u d = refused_by 2 (plain_by passes ∙ ap looked (sym (came_none g u))) d
 
-      module _ (u : f.good ≡ true) {t : Turn} {o₁ : List ℕ} (y : Answered (answer_to x (state f.engine)) t o₁) where
+      module _ {s : Engine} (u : f ≡ Some s) {t : Turn} {o₁ : List ℕ} (y : Answered (answer_to x (state s)) t o₁) where
         said_is : take (t.count - 0) o₁ ≡ take t.count o₁
         said_is = let n : t.count - 0 ≡ t.count = omega arith in ap (λ (i : ℕ). take i o₁) n
 
@@ -83,18 +84,18 @@ module _ (l o : List ℕ) where
             → Gives (entering k bs t.number said l o) r l' o' → Gives (plainly x l o) r l' o'
         unfolding kept
         answered_by {k} {bs} {said} {r} {l'} {o'} a b c h =
-            let s : said ≡ outgoing (answer_to x (state f.engine)).out = c ∙ said_is ∙ y.turned.out in
+            let w : said ≡ outgoing (answer_to x (state s)).out = c ∙ said_is ∙ y.turned.out in
             let i : entering k bs t.number said l o ≡ plainly x l o =
-            (λ j. entering (a j) (b j) (y.turned.number j) (s j) l o) ∙ sym (plain_by passes ∙ ap looked (sym (came g u))) in
+            (λ j. entering (a j) (b j) (y.turned.number j) (w j) l o) ∙ sym (plain_by passes ∙ ap looked (sym (came_some g u))) in
             subst (λ (v : Answer). Gives v r l' o') i h
 
         module _ (whole : length o₁ ≡ least_out_small) where
           count_few : t.count ≤ least_out_small
           unfolding least_out
           count_few =
-              let m : length (outgoing (answer_to x (state f.engine)).out) ≤ least_out small =
-              subst (λ (v : Size). length (outgoing (answer_to x (state f.engine)).out) ≤ least_out v) (small_group g.whole)
-              (answer_room (state f.engine) g.whole.formed x) in
+              let m : length (outgoing (answer_to x (state s)).out) ≤ least_out small =
+              subst (λ (v : Size). length (outgoing (answer_to x (state s)).out) ≤ least_out v) (small_group (came_whole g u))
+              (answer_room (state s) (came_whole g u).formed x) in
               omega (arith, y.turned.count, m)
 
           pub count_fits : t.count ≤ length o₁
@@ -110,10 +111,10 @@ module _ (l o : List ℕ) where
           may_enter {k} {bs} a d b n = (
             (
               (open_list l o e z).0,
-              λ m. ap₂ is_input a d ∙ kept_input (state f.engine) x (subst bytes.Bytes d b) n (ap is_kept (sym y.turned.number) ∙ m),
+              λ m. ap₂ is_input a d ∙ kept_input (state s) x (subst bytes.Bytes d b) n (ap is_kept (sym y.turned.number) ∙ m),
             ),
             (
-              omega (arith, most_number (state f.engine) x, y.turned.number),
+              omega (arith, most_number (state s) x, y.turned.number),
               omega (arith, part_length, count_few),
               omega (arith, part_length, count_few, open_out l o e z),
             ),

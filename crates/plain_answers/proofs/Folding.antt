@@ -22,26 +22,30 @@ use Rattle.journal.specs.Journal.{slots_of}
 use Rattle.lent_list.specs.Lists as lists
 use Rattle.lent_list.specs.Lists.{records_in, slots_in, has_form, settings_in, count_in, are_placed, input_of, inputs_of, inputs_after}
 use Rattle.lent_list.specs.Plain.{answer_to, folded, held}
-use Rattle.lent_list.specs.Meaning.{part, held_of, Within, Stands}
+use Rattle.lent_list.specs.Meaning.{held_of, Within, Stands}
 use Rattle.lent_list.specs.declared.Held.{Held}
-use Rattle.lent_list.specs.declared.Held.TheVariants.{Input, Nothing}
+use Rattle.std.specs.Prelude.{Option as Maybe, Some, None}
 use Rattle.lent_list.proofs.Standing.{after_first, after_last}
 use Rattle.plain_tables.specs.Meaning.{state, Gives}
 use Rattle.plain_messages.specs.Whole.{Whole}
 use Rattle.plain_turns.specs.Turns.{Answered}
 use Rattle.plain_answers.specs.Meaning.{fold_of, FoldedTo}
 use Rattle.plain_tables.specs.declared.Engine.{Engine}
-use Rattle.plain_answers.specs.declared.Folded.{Folded}
+use Rattle.std.specs.Prelude as code
+use Rattle.std.specs.Prelude.{Some, None}
 use Rattle.plain_turns.specs.declared.Turn.{Turn}
 
-module _ {s : Option State} {f : Folded} (g : FoldedTo s f) where
-  abbrev fold_to : Bool → Option State
-  fold_to w = elim w [ true ↦ some (state f.engine) | false ↦ none ]
+module _ {s : Option State} {f : code.Option Engine} (g : FoldedTo s f) where
+  -- what a fold came to
+  pub came_none : f ≡ None → none ≡ s
+  came_none u = sym (ap fold_of u) ∙ g.is
 
-  -- what a fold came to, by whether it is good
-  pub came : {w : Bool} → f.good ≡ w → fold_to w ≡ s
-  unfolding fold_of
-  came u = sym (ap fold_to u) ∙ g.is
+  module _ {e : Engine} (u : f ≡ Some e) where
+    pub came_some : some (state e) ≡ s
+    came_some = sym (ap fold_of u) ∙ g.is
+
+    pub came_whole : Whole e
+    came_whole = rw u at g.whole
 
 module _ (l : List ℕ) where
   pub good_head : (g : Settings) → has_form l ≡ true → settings_of g ≡ settings_in l → good_settings (settings_of g) ≡ true
@@ -64,25 +68,25 @@ module _ (l : List ℕ) where
       ap₂ folded (k.is ∙ ap words.fresh h) (after_first l) ∙ sym (ap gives f)
 
   module _ (p : ℕ) (e : Engine) (i : folded (state e) (inputs_after l p) ≡ held l) where
-    pub fold_ends : Whole e → slots_in l ≤ p → FoldedTo (held l) (record { good = true; engine = e })
-    unfolding fold_of folded
+    pub fold_ends : Whole e → slots_in l ≤ p → FoldedTo (held l) (Some e)
+    unfolding folded
     fold_ends w h = record { is = sym (ap (folded (state e)) (after_last l p h)) ∙ i; whole = w }
 
-    module _ {r : Held} (s : Stands l p r) where
-      pub fold_skips : r ≡ Nothing → folded (state e) (inputs_after l (p + 1)) ≡ held l
+    module _ {r : Maybe Held} (s : Stands l p r) where
+      pub fold_skips : r ≡ None → folded (state e) (inputs_after l (p + 1)) ≡ held l
       unfolding held_of
-      fold_skips f = sym (ap (folded (state e)) (s.is ∙ ap (λ (y : Held). held_of l y ++ inputs_after l (p + 1)) f)) ∙ i
+      fold_skips f = sym (ap (folded (state e)) (s.is ∙ ap (λ (y : Maybe Held). held_of y ++ inputs_after l (p + 1)) f)) ∙ i
 
-      module _ {k a b : ℕ} (f : r ≡ Input k a b) where
+      module _ {h : Held} (f : r ≡ Some h) where
         abbrev x : lists.Input
-        x = input_of k (part l a b)
+        x = input_of h.kind h.input.now
 
         abbrev goes : Bool → Option State
         goes z = elim z [ true ↦ folded (answer_to x (state e)).next (inputs_after l (p + 1)) | false ↦ none ]
 
         stepped : {z : Bool} → is_kept (answer_to x (state e)).number ≡ z → goes z ≡ held l
         unfolding held_of folded
-        stepped u = sym (ap goes u) ∙ sym (ap (folded (state e)) (s.is ∙ ap (λ (y : Held). held_of l y ++ inputs_after l (p + 1)) f)) ∙ i
+        stepped u = sym (ap goes u) ∙ sym (ap (folded (state e)) (s.is ∙ ap (λ (y : Maybe Held). held_of y ++ inputs_after l (p + 1)) f)) ∙ i
 
         module _ {t : Turn} {o : List ℕ} (y : Answered (answer_to x (state e)) t o) {z : Bool} (d : z ≡ is_kept t.number) where
           known : {w : Bool} → z ≡ w → is_kept (answer_to x (state e)).number ≡ w
@@ -91,13 +95,12 @@ module _ (l : List ℕ) where
           pub fold_next : z ≡ true → folded (state t.engine) (inputs_after l (p + 1)) ≡ held l
           fold_next u = ap (λ (v : State). folded v (inputs_after l (p + 1))) y.turned.next.is ∙ stepped (known u)
 
-          pub fold_stops : Whole e → z ≡ false → FoldedTo (held l) (record { good = false; engine = e })
-          unfolding fold_of
-          fold_stops w u = record { is = stepped (known u); whole = w }
+          pub fold_stops : z ≡ false → FoldedTo (held l) None
+          fold_stops u = record { is = stepped (known u); whole = tt }
 
 -- what a held input is
-pub held_input : {l : List ℕ} {p : ℕ} {r : Held} → Stands l p r → (k a b : ℕ) → r ≡ Input k a b → (a ≤ b) × (b ≤ length l) × (is_input k (part l a b) ≡ true)
-held_input {l = l} s k a b f = subst (Within l) f s.within
+pub held_input : {l : List ℕ} {p : ℕ} {r : Maybe Held} → Stands l p r → (h : Held) → r ≡ Some h → is_input h.kind h.input.now ≡ true
+held_input s h f = subst Within f s.within
 
 pub name_long : (k : ℕ) (bs : List ℕ) → is_input k bs ≡ true → k ≡ 2 → length bs ≡ 32
 name_long k bs i e = eqb-true (length bs) 32 (offer_input k bs (input_fits k bs i).1 e ∙ i)

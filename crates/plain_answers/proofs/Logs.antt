@@ -19,8 +19,10 @@ use Rattle.plain_lists.specs.Meaning.{bar}
 use Rattle.plain_lists.proofs.Bars.{bar_form, bar_short, not_barred, open_out}
 use Rattle.plain_names.proofs.Writing.{log_long}
 use Rattle.plain_answers.specs.Meaning.{FoldedTo}
-use Rattle.plain_answers.specs.declared.Folded.{Folded}
-use Rattle.plain_answers.proofs.Folding.{formless, came}
+use Rattle.plain_tables.specs.declared.Engine.{Engine}
+use Rattle.std.specs.Prelude as code
+use Rattle.std.specs.Prelude.{Some, None}
+use Rattle.plain_answers.proofs.Folding.{formless, came_none, came_some, came_whole}
 
 module _ (l o : List ℕ) where
   abbrev lengths_good : Bool
@@ -44,21 +46,21 @@ module _ (l o : List ℕ) where
       (λ f. ap (λ (k : ℕ). left k o) (d ∙ ap (◌* 2 ^ 32) (e ∙ bar_form l o p f)) ∙ sym (ap looked (formless l f)) ∙ log_by p))
       (λ p. ap (λ (k : ℕ). left k o) (d ∙ ap (◌* 2 ^ 32) (e ∙ bar_short l o p)) ∙ log_by p)
 
-  module _ {q : ℕ} (e : q ≡ bar l o) (z : q ≡ 0) {f : Folded} (g : FoldedTo (held l) f) where
+  module _ {q : ℕ} (e : q ≡ bar l o) (z : q ≡ 0) {f : code.Option Engine} (g : FoldedTo (held l) f) where
     passes : lengths_good ≡ true
     passes = (not_barred l o (sym e ∙ z)).0
 
-    pub log_none : {r : ℕ} → f.good ≡ false → r ≡ 2 * 2 ^ 32 → left r o ≡ plain_log l o
-    log_none u d = ap (λ (k : ℕ). left k o) d ∙ ap looked (came g u) ∙ log_by passes
+    pub log_none : {r : ℕ} → f ≡ None → r ≡ 2 * 2 ^ 32 → left r o ≡ plain_log l o
+    log_none u d = ap (λ (k : ℕ). left k o) d ∙ ap looked (came_none g u) ∙ log_by passes
 
     -- the log fits the least out buffer
     pub log_fits : 32 * room ≤ length o
     log_fits = omega (arith, open_out l o e z)
 
-    pub log_told : {r : ℕ} {o' : List ℕ} → f.good ≡ true → o' ≡ wrote o 0 (log_bytes (names f.engine.log)) → r ≡ length (log_bytes (names f.engine.log)) → left r o' ≡ plain_log l o
+    pub log_told : {s : Engine} {r : ℕ} {o' : List ℕ} → f ≡ Some s → o' ≡ wrote o 0 (log_bytes (names s.log)) → r ≡ length (log_bytes (names s.log)) → left r o' ≡ plain_log l o
     unfolding logged state
-    log_told u p d =
-        let bs = log_bytes (names f.engine.log) in
-        let w = g.whole.sized.log in
-        let h : length bs ≤ length o = omega (arith, log_long f.engine.log w, w.most, log_fits) in
-        ap₂ left d (p ∙ wrote_prefix o bs h) ∙ ap looked (came g u) ∙ log_by passes
+    log_told {s} u p d =
+        let bs = log_bytes (names s.log) in
+        let w = (came_whole g u).sized.log in
+        let h : length bs ≤ length o = omega (arith, log_long s.log w, w.most, log_fits) in
+        ap₂ left d (p ∙ wrote_prefix o bs h) ∙ ap looked (came_some g u) ∙ log_by passes

@@ -1,19 +1,21 @@
 -- What a fold over a list leaves, and how an input comes to it. Assumes nothing.
-use Rattle.std.specs.Prelude.{ℕ, ◌≡◌, true, false, List, length}
+use Rattle.std.specs.Prelude.{ℕ, ◌≡◌, List, length, Some, None, IfSome}
+use Rattle.std.specs.Prelude as code
 use Rattle.std.proofs.Math.Option.{Option, none, some}
 use Rattle.rules.specs.Words.{State}
 use Rattle.lent_list.specs.Lists.{kind_of, bytes_of, input_of}
+use Rattle.plain_tables.specs.declared.Engine.{Engine}
 use Rattle.plain_tables.specs.Meaning.{state}
 use Rattle.plain_messages.specs.Whole.{Whole}
-use Rattle.plain_answers.specs.declared.Folded.{Folded}
 
 -- the state that a fold came to, or none
-unfoldable pub fold_of : Folded → Option State
-fold_of r = elim r.good [ true ↦ some (state r.engine) | false ↦ none ]
+abbrev pub fold_of : code.Option Engine → Option State
+fold_of (Some e) = some (state e)
+fold_of None = none
 
-pub record FoldedTo (x : Option State) (r : Folded) : Type 0 where
+pub record FoldedTo (x : Option State) (r : code.Option Engine) : Type 0 where
   pub is : fold_of r ≡ x
-  pub whole : Whole r.engine
+  pub whole : IfSome r (λ e. Whole e)
 
 -- an input by its kind and its bytes, as a record holds them: a tick has none, a name 32
 pub record Comes (k : ℕ) (bs : List ℕ) : Type 0 where

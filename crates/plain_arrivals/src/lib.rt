@@ -11,7 +11,6 @@ ghost use Rattle.plain_acts.specs.Works.{Worked};
 ghost use Rattle.plain_arrivals.specs.Votable.{Votables, votes_long, OneFree};
 
 use plain_acts::Work;
-use plain_pairs::Two;
 use plain_statements::Statements;
 use plain_tables::Engine;
 use wire::Message;
@@ -21,14 +20,10 @@ fn voting_all(xs: Statements, e: Engine, out: &mut [u8], at: usize) -> Work
     requires { (Within room xs.items xs.count) × (Sized e) × (e.tallies.count < tally_room.room) × (Votables (state e).tallies (statements xs)) × (at + 160 * xs.count + 40 ≤ length out.old) }
     ensures { Worked (inputs.voting_all (statements xs) (state e)) out.old at result out.new }
 {
-    let n = xs.count;
-    let mut i: usize = 0;
     let mut engine = e;
     let mut next = at;
-    while i < n {
-        let x = xs.items[i];
-        i += 1;
-        let w = plain_acts::voting(engine, x.statement, out, next);
+    for i in 0..xs.count {
+        let w = plain_acts::voting(engine, xs.items[i].statement, out, next);
         engine = w.engine;
         next = w.at;
     }
@@ -48,16 +43,14 @@ fn arrive(e: Engine, out: &mut [u8], at: usize) -> Work
         let engine = plain_acts::quit(e);
         return Work { engine, at: next };
     }
-    let statements = e.statements;
-    let current = plain_orders::current(view, statements);
-    let two = plain_pairs::pair(current);
-    match two {
-        Two::Both(x, y) => {
+    let current = plain_orders::current(view, e.statements);
+    match plain_pairs::pair(current) {
+        Some((x, y)) => {
             let next = plain_messages::both(x.statement, y.statement, out, at);
             let engine = plain_acts::quit(e);
             Work { engine, at: next }
         }
-        Two::Neither => {
+        None => {
             let order = plain_orders::in_order(current);
             voting_all(order, e, out, at)
         }

@@ -1,28 +1,34 @@
 -- One commit from a chain, and the commits in turn. Assumes nothing.
 use Prim.Native.Nat.{ℕ, ◌+◌, ◌<◌, ◌≤◌}
 use mathlib.Core.Path.{◌≡◌, sym, ap, ◌∙◌}
-use mathlib.Core.Bool.{true, false}
 use mathlib.Core.List.{List, ◌∷◌}
 use mathlib.Core.Option.{Option, none, some}
 use lib.ListN.{length, get_or, drop}
 use Rattle.rules.specs.Words.{Statement}
 use Rattle.rules.specs.Inputs.{chain, merge, commit, commits}
-use Rattle.plain_words.specs.Places.{firsts}
+use Rattle.plain_words.specs.Places.{firsts, Within}
 use Rattle.plain_words.proofs.Firsts.{firsts_next, firsts_done}
 use Rattle.plain_statements.specs.Meaning.{held_of}
 use Rattle.plain_statements.specs.declared.Held.{Held}
-use Rattle.plain_tables.specs.Meaning.{names}
+use Rattle.plain_tables.specs.Meaning.{names, room}
 use Rattle.plain_chains.specs.Meaning.{maybe_of, Gives}
-use Rattle.plain_chains.specs.declared.Maybe.{Maybe}
+use Rattle.plain_tables.specs.declared.Names.{Names}
+use Rattle.std.specs.Prelude as code
+use Rattle.std.specs.Prelude.{Some, None}
 
-module _ {m : Maybe} {o : Option (List ℕ)} (g : Gives m o) where
-  pub gives_none : m.some ≡ false → o ≡ none
-  unfolding maybe_of
-  gives_none e = sym g.is ∙ rw (e, maybe_of)
+pub gives_nothing : {m : code.Option Names} {o : Option (List ℕ)} → m ≡ None → none ≡ o → Gives m o
+gives_nothing e q = record { within = rw e tt; is = ap maybe_of e ∙ q }
 
-  pub gives_some : m.some ≡ true → o ≡ some (names m.names)
-  unfolding maybe_of
-  gives_some e = sym g.is ∙ rw (e, maybe_of)
+module _ {m : code.Option Names} {o : Option (List ℕ)} (g : Gives m o) where
+  pub gives_none : m ≡ None → o ≡ none
+  gives_none e = sym g.is ∙ ap maybe_of e
+
+  module _ (t : Names) (e : m ≡ Some t) where
+    pub gives_some : o ≡ some (names t)
+    gives_some = sym g.is ∙ ap maybe_of e
+
+    pub gives_within : Within room t.items t.count
+    gives_within = rw e at g.within
 
 module _ (xs : List Statement) where
   pub commit_passed : (x : Statement) (l : List ℕ) → chain xs x ≡ none → commit xs x l ≡ some l

@@ -11,150 +11,91 @@ ghost use Rattle.plain_tables.specs.Meaning.{names, room};
 ghost use Rattle.plain_chains.specs.Meaning.{Gives};
 
 use fields::Name;
-use plain_statements::{Found, Held, Statements};
+use plain_statements::{Held, Statements};
 use plain_tables::{NAMES, Names};
-
-// Names, or none.
-#[derive(Clone, Copy)]
-pub struct Maybe {
-    pub some: bool,
-    pub names: Names,
-}
 
 // "A stored propose of that name", at a height.
 fn is_block(height: u32, name: Name, x: Held) -> bool
     ensures { result ≡ inputs.is_block height (name_of name) (held_of x) }
 {
     let s = x.statement;
-    let same = name.same(s.name);
-    !s.is_new_view & (height == s.height) & same
+    !s.is_new_view & (height == s.height) & (name == s.name)
 }
 
 // "The first stored propose of that name", at a height, "of any view".
-fn first_block(xs: Statements, height: u32, name: Name) -> Found
+fn first_block(xs: Statements, height: u32, name: Name) -> Option<Held>
     requires { Within room xs.items xs.count }
     ensures { found_of result ≡ first (inputs.is_block height (name_of name)) (statements xs) }
 {
-    let n = xs.count;
-    let mut i: usize = 0;
-    while i < n {
-        let x = xs.items[i];
-        if is_block(height, name, x) {
-            return Found::Here(x);
-        }
-        i += 1;
-    }
-    Found::Nowhere
+    xs.items[..xs.count]
+        .iter()
+        .find(|x| is_block(height, name, **x))
+        .copied()
 }
 
 // One height lower.
 fn lower(height: u32) -> usize
     ensures { result ≡ height - 1 }
 {
-    if height == 0 {
-        return 0;
-    }
-    (height - 1) as usize
+    height.saturating_sub(1) as usize
 }
 
 // "A block's chain runs from it to height 1"; none where "an ancestor is not stored".
-fn chain(xs: Statements, x: Held) -> Maybe
+fn chain(xs: Statements, x: Held) -> Option<Names>
     requires { (Within room xs.items xs.count) × (xs.count < room) }
     ensures { Gives result (inputs.chain (statements xs) (held_of x)) }
 {
-    let s = x.statement;
-    let mut k = lower(s.height);
-    let blank = Names::none();
-    if NAMES <= k {
-        return Maybe {
-            some: false,
-            names: blank,
-        };
+    let top = lower(x.statement.height);
+    if NAMES <= top {
+        return None;
     }
-    let mut items = blank.items;
-    let count = k + 1;
-    let name = s.name;
-    items[k] = name;
-    let mut link = s.link;
-    while 0 < k {
-        let Found::Here(y) = first_block(xs, k as u32, link) else {
-            return Maybe {
-                some: false,
-                names: blank,
-            };
-        };
-        k -= 1;
+    let mut items = Names::none().items;
+    let count = top + 1;
+    items[top] = x.statement.name;
+    let mut link = x.statement.link;
+    for k in (0..top).rev() {
+        let y = first_block(xs, k as u32 + 1, link)?;
         items[k] = link;
-        let parent = y.statement;
-        link = parent.link;
+        link = y.statement.link;
     }
-    let names = Names { items, count };
-    Maybe { some: true, names }
+    Some(Names { items, count })
 }
 
 // A chain joins the log: the longer of both, or none where "any chain name differs from the log's at its height".
-fn merge(chain: Names, log: Names) -> Maybe
+fn merge(chain: Names, log: Names) -> Option<Names>
     requires { (Within room chain.items chain.count) × (Within room log.items log.count) }
     ensures { Gives result (inputs.merge (names chain) (names log)) }
 {
-    let mut k: usize = 0;
-    loop {
-        if chain.count <= k {
-            return Maybe {
-                some: true,
-                names: log,
-            };
-        }
+    for k in 0..chain.count {
         if log.count <= k {
-            return Maybe {
-                some: true,
-                names: chain,
-            };
+            return Some(chain);
         }
-        let own = chain.items[k];
-        let old = log.items[k];
-        if !own.same(old) {
-            return Maybe {
-                some: false,
-                names: log,
-            };
+        if chain.items[k] != log.items[k] {
+            return None;
         }
-        k += 1;
     }
+    Some(log)
 }
 
 // "A block with an ancestor not stored is passed over".
-fn commit(xs: Statements, x: Held, log: Names) -> Maybe
+fn commit(xs: Statements, x: Held, log: Names) -> Option<Names>
     requires { (Within room xs.items xs.count) × (xs.count < room) × (Within room log.items log.count) }
     ensures { Gives result (inputs.commit (statements xs) (held_of x) (names log)) }
 {
-    let own = chain(xs, x);
-    if !own.some {
-        return Maybe {
-            some: true,
-            names: log,
-        };
+    match chain(xs, x) {
+        Some(own) => merge(own, log),
+        None => Some(log),
     }
-    let names = own.names;
-    merge(names, log)
 }
 
 // The due ones in turn, each against "the log as it then stands".
-pub fn commits(xs: Statements, due: Statements, log: Names) -> Maybe
+pub fn commits(xs: Statements, due: Statements, log: Names) -> Option<Names>
     requires { (Within room xs.items xs.count) × (xs.count < room) × (Within room due.items due.count) × (Within room log.items log.count) }
     ensures { Gives result (inputs.commits (statements xs) (statements due) (names log)) }
 {
-    let n = due.count;
     let mut names = log;
-    let mut i: usize = 0;
-    while i < n {
-        let x = due.items[i];
-        let next = commit(xs, x, names);
-        if !next.some {
-            return Maybe { some: false, names };
-        }
-        names = next.names;
-        i += 1;
+    for i in 0..due.count {
+        names = commit(xs, due.items[i], names)?;
     }
-    Maybe { some: true, names }
+    Some(names)
 }

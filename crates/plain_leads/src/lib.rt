@@ -18,11 +18,9 @@ fn leads_now(e: Engine) -> bool
     requires { Sized e }
     ensures { result ≡ inputs.leads_now (state e) }
 {
-    let settings = e.settings;
     let leading = plain_offers::leads(e);
-    let due = e.entry as u64 + 2 * settings.delay + 1;
-    let now = e.clock as u64;
-    leading & (now == due)
+    let due = u64::from(e.entry) + 2 * e.settings.delay + 1;
+    leading & (u64::from(e.clock) == due)
 }
 
 // "A new-view from the highest certificate of an earlier view".
@@ -30,26 +28,21 @@ fn own_new_view(e: Engine) -> Message
     requires { Sized e }
     ensures { message_of result ≡ inputs.own_new_view (state e) }
 {
-    let settings = e.settings;
-    let tallies = e.tallies;
-    let best = tallies.highest(settings, e.view);
-    let name = best.name;
-    let link = Name {
-        first: 0,
-        second: 0,
-        third: 0,
-        fourth: best.view as u64,
-    };
-    let statement = Statement {
+    let best = e.tallies.highest(e.settings, e.view);
+    Message::Stated(Statement {
         is_new_view: true,
         view: e.view,
         height: best.height,
-        name,
-        link,
+        name: best.name,
+        link: Name {
+            first: 0,
+            second: 0,
+            third: 0,
+            fourth: u64::from(best.view),
+        },
         mask: best.mask,
-        author: settings.own as u8,
-    };
-    Message::Stated(statement)
+        author: e.settings.own as u8,
+    })
 }
 
 // The leader makes its new-view, and handles it as one that came.

@@ -12,21 +12,16 @@ ghost use Rattle.plain_acts.specs.Works.{Worked};
 ghost use Rattle.plain_logs.specs.Parts.{logged};
 
 use plain_acts::Work;
-use plain_chains::Maybe;
 use plain_tables::{Engine, Names};
 
 // "Commit every propose of this view voted for at least 2D+1 ticks ago": the log that the due ones make, or none.
-pub fn commits(e: Engine) -> Maybe
+pub fn commits(e: Engine) -> Option<Names>
     requires { (Sized e) × (e.statements.count < room) }
     ensures { Gives result (inputs.commits (state e).statements (inputs.due (state e)) (state e).log) }
 {
-    let settings = e.settings;
-    let phase = e.phase;
-    let statements = e.statements;
-    let log = e.log;
-    let wait = 2 * settings.delay + 1;
-    let due = plain_orders::due(phase, e.view, wait, e.clock, statements);
-    plain_chains::commits(statements, due, log)
+    let wait = 2 * e.settings.delay + 1;
+    let due = plain_orders::due(e.phase, e.view, wait, e.clock, e.statements);
+    plain_chains::commits(e.statements, due, e.log)
 }
 
 // The names that the log gained, by ascending height: "each reported once".
@@ -34,13 +29,9 @@ fn reports(log: Names, from: usize, out: &mut [u8], at: usize) -> usize
     requires { (Within room log.items log.count) × (from ≤ log.count) × (at + 39 * (log.count - from) ≤ length out.old) }
     ensures { Says out.old at (outgoing (inputs.reports (suc from) (drop from (names log)))) out.new result }
 {
-    let n = log.count;
-    let mut k = from;
     let mut next = at;
-    while k < n {
-        let name = log.items[k];
-        k += 1;
-        next = effects::committed(out, next, k as u32, name);
+    for k in from..log.count {
+        next = effects::committed(out, next, k as u32 + 1, log.items[k]);
     }
     next
 }
@@ -58,8 +49,7 @@ pub fn logging(e: Engine, log: Names, out: &mut [u8], at: usize) -> Work
     requires { (Sized e) × (Within room log.items log.count) × (e.log.count ≤ log.count) × (at + 39 * (log.count - e.log.count) ≤ length out.old) }
     ensures { Worked (inputs.logging (names log) (state e)) out.old at result out.new }
 {
-    let old = e.log;
-    let next = reports(log, old.count, out, at);
+    let next = reports(log, e.log.count, out, at);
     let engine = with_log(e, log);
     Work { engine, at: next }
 }

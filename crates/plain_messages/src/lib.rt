@@ -13,9 +13,7 @@ ghost use Rattle.plain_acts.specs.Works.{Worked};
 ghost use Rattle.plain_messages.specs.Whole.{Whole};
 
 use plain_acts::Work;
-use plain_statements::Found;
 use plain_tables::Engine;
-use plain_tallies::Opener;
 use plain_words::Certificate;
 use wire::{Message, Statement};
 
@@ -33,8 +31,7 @@ pub fn statement(e: Engine, x: Statement, out: &mut [u8], at: usize) -> Work
     requires { (Whole e) × (allowed (state e).settings (said (statement_of x none)) ≡ true) × (at + 200 ≤ length out.old) }
     ensures { Worked (inputs.statement (statement_of x none) (state e)) out.old at result out.new }
 {
-    let statements = e.statements;
-    if statements.any_same(x) {
+    if e.statements.any_same(x) {
         let engine = plain_acts::certificate_joined(e, x);
         return Work { engine, at };
     }
@@ -42,14 +39,13 @@ pub fn statement(e: Engine, x: Statement, out: &mut [u8], at: usize) -> Work
     if !plain_acts::is_in(e, x.view) {
         return Work { engine: now, at };
     }
-    let found = statements.first_conflict(x);
-    match found {
-        Found::Here(held) => {
+    match e.statements.first_conflict(x) {
+        Some(held) => {
             let engine = plain_acts::quit(now);
             let next = both(held.statement, x, out, at);
             Work { engine, at: next }
         }
-        Found::Nowhere => plain_acts::voting(now, x, out, at),
+        None => plain_acts::voting(now, x, out, at),
     }
 }
 
@@ -66,20 +62,20 @@ pub fn handled(e: Engine, message: Message, out: &mut [u8], at: usize) -> Work
             name,
             author,
         } => {
-            let mask = plain_acts::mask_of(author as u64);
+            let mask = plain_acts::mask_of(u64::from(author));
             let t = Certificate {
                 view,
                 height,
                 name,
                 mask,
             };
-            let engine = plain_acts::tallied(e, Opener::Author(author), t);
+            let engine = plain_acts::tallied(e, Some(author), t);
             Work { engine, at }
         }
         Message::Blame { view, author } => plain_acts::blaming(
             e,
             view,
-            plain_acts::mask_of(author as u64),
+            plain_acts::mask_of(u64::from(author)),
             out,
             at,
         ),
@@ -96,7 +92,7 @@ pub fn handled(e: Engine, message: Message, out: &mut [u8], at: usize) -> Work
                 name,
                 mask,
             };
-            let engine = plain_acts::tallied(e, Opener::Nobody, t);
+            let engine = plain_acts::tallied(e, None, t);
             Work { engine, at }
         }
     }

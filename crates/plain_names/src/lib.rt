@@ -26,11 +26,9 @@ pub fn write_log(log: Names, out: &mut [u8]) -> usize
     ensures { (out.new ≡ wrote out.old 0 (log_bytes (names log))) × (result ≡ length (log_bytes (names log))) }
 {
     let n = log.count;
-    let mut k: usize = 0;
-    while k < n {
+    for k in 0..n {
         let name = log.items[k];
         write_name(out, 32 * k, name);
-        k += 1;
     }
     32 * n
 }

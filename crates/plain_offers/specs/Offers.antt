@@ -6,12 +6,13 @@ use Rattle.rules.specs.Words.{Statement, State}
 use Rattle.rules.specs.Inputs as inputs
 use Rattle.wire.specs.Meaning.{message_of}
 use Rattle.wire.specs.declared.Message.TheVariants.{Stated}
-use Rattle.plain_offers.specs.declared.Made.{Made}
-use Rattle.plain_offers.specs.declared.Made.TheVariants.{Propose, Nothing}
+use Rattle.std.specs.Prelude as code
+use Rattle.std.specs.Prelude.{Some, None}
+use Rattle.wire.specs.declared.Statement as wire
 
-abbrev pub offer_of : Made → Option messages.Message
-offer_of (Propose x) = some (message_of (Stated x))
-offer_of Nothing = none
+abbrev pub offer_of : code.Option wire.Statement → Option messages.Message
+offer_of (Some x) = some (message_of (Stated x))
+offer_of None = none
 
 -- "is in a view, leads it, has a new-view of that view stored", and the name is fresh
 abbrev pub may_offer : ℕ → State → Bool

@@ -13,28 +13,19 @@ ghost use Rattle.plain_turns.specs.Turns.{Answered};
 ghost use Rattle.plain_offers.specs.Offers.{offer_of, may_offer, extension};
 
 use fields::Name;
-use plain_statements::Found;
 use plain_tables::Engine;
 use plain_turns::Turn;
 use settings::Settings;
 use wire::{Message, Statement};
-
-// What an offer makes, if it is to be taken: a propose.
-#[derive(Clone, Copy)]
-pub enum Made {
-    Propose(Statement),
-    Nothing,
-}
 
 // "Is in a view, leads it".
 pub fn leads(e: Engine) -> bool
     requires { Sized e }
     ensures { result ≡ inputs.leads (state e) }
 {
-    let settings = e.settings;
     let inside = plain_acts::is_in(e, e.view);
-    let leader = settings.leader(e.view as u64);
-    inside & (leader == settings.own)
+    let leader = e.settings.leader(u64::from(e.view));
+    inside & (leader == e.settings.own)
 }
 
 // The station leads a view that is opened, and the name is neither zero nor used.
@@ -42,52 +33,45 @@ fn may_offer(e: Engine, name: Name) -> bool
     requires { Sized e }
     ensures { result ≡ may_offer (name_of name) (state e) }
 {
-    let statements = e.statements;
     let leading = leads(e);
-    let opened = statements.is_opened(e.view);
+    let opened = e.statements.is_opened(e.view);
     let zero = name.is_zero();
-    let used = statements.is_used(name);
+    let used = e.statements.is_used(name);
     leading & opened & !zero & !used
 }
 
 // "The propose above that one, with the tally's mask", if it "is certified in this view, that height is below 65,535".
-fn extended(e: Engine, x: Statement, name: Name) -> Made
+fn extended(e: Engine, x: Statement, name: Name) -> Option<Statement>
     requires { Sized e }
     ensures { offer_of result ≡ extension (statement_of x none) (name_of name) (state e) }
 {
-    let settings = e.settings;
-    let tallies = e.tallies;
-    let mask = tallies.voters(plain_words::own_block(x, 0));
-    let certified = settings.quorum(plain_words::wide(mask));
+    let mask = e.tallies.voters(plain_words::own_block(x, 0));
+    let certified = e.settings.quorum(u64::from(mask));
     if certified & ((x.height as u64) < Settings::LAST_HEIGHT) {
-        let link = x.name;
-        let author = settings.own as u8;
-        return Made::Propose(Statement {
+        return Some(Statement {
             is_new_view: false,
             view: e.view,
             height: x.height + 1,
             name,
-            link,
+            link: x.name,
             mask,
-            author,
+            author: e.settings.own as u8,
         });
     }
-    Made::Nothing
+    None
 }
 
 // What an offer makes, if it is to be taken.
-fn offered(e: Engine, name: Name) -> Made
+fn offered(e: Engine, name: Name) -> Option<Statement>
     requires { Sized e }
     ensures { offer_of result ≡ inputs.offered (name_of name) (state e) }
 {
     if !may_offer(e, name) {
-        return Made::Nothing;
+        return None;
     }
-    let statements = e.statements;
-    let found = statements.top(e.view);
-    match found {
-        Found::Nowhere => Made::Nothing,
-        Found::Here(held) => extended(e, held.statement, name),
+    match e.statements.top(e.view) {
+        Some(held) => extended(e, held.statement, name),
+        None => None,
     }
 }
 
@@ -99,12 +83,11 @@ pub fn offer(e: Engine, name: Name, out: &mut [u8]) -> Turn
     if !plain_turns::running(e) {
         return plain_turns::refused(3, e);
     }
-    let made = offered(e, name);
-    match made {
-        Made::Nothing => plain_turns::refused(9, e),
-        Made::Propose(x) => {
+    match offered(e, name) {
+        Some(x) => {
             let w = plain_messages::handled(e, Message::Stated(x), out, 0);
             plain_turns::if_room(e, w)
         }
+        None => plain_turns::refused(9, e),
     }
 }

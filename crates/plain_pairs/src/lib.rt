@@ -11,47 +11,30 @@ ghost use Rattle.plain_words.specs.Places.{Within};
 ghost use Rattle.plain_statements.specs.Meaning.{statements, found_of, room};
 ghost use Rattle.plain_pairs.specs.Pairs.{two_of};
 
-use plain_statements::{Found, Held, Statements};
+use plain_statements::{Held, Statements};
 use wire::Statement;
 
-// Two statements that conflict, if there are.
-#[derive(Clone, Copy)]
-pub enum Two {
-    Both(Held, Held),
-    Neither,
-}
-
 // The first that conflicts, from a place on.
-fn conflict_from(xs: Statements, from: usize, x: Statement) -> Found
+fn conflict_from(xs: Statements, from: usize, x: Statement) -> Option<Held>
     requires { (Within room xs.items xs.count) × (from ≤ xs.count) }
     ensures { found_of result ≡ first (words.conflict (statement_of x none)) (drop from (statements xs)) }
 {
-    let n = xs.count;
-    let mut i = from;
-    while i < n {
-        let y = xs.items[i];
-        if plain_words::conflict(x, y.statement) {
-            return Found::Here(y);
-        }
-        i += 1;
-    }
-    Found::Nowhere
+    xs.items[from..xs.count]
+        .iter()
+        .find(|y| plain_words::conflict(x, y.statement))
+        .copied()
 }
 
 // "Two stored statements of it conflict (least place of the earlier, then of the later)".
-pub fn pair(xs: Statements) -> Two
+pub fn pair(xs: Statements) -> Option<(Held, Held)>
     requires { Within room xs.items xs.count }
     ensures { two_of result ≡ inputs.pair (statements xs) }
 {
-    let n = xs.count;
-    let mut i: usize = 0;
-    while i < n {
+    for i in 0..xs.count {
         let x = xs.items[i];
-        i += 1;
-        let found = conflict_from(xs, i, x.statement);
-        if let Found::Here(y) = found {
-            return Two::Both(x, y);
+        if let Some(y) = conflict_from(xs, i + 1, x.statement) {
+            return Some((x, y));
         }
     }
-    Two::Neither
+    None
 }

@@ -1,7 +1,7 @@
 -- No vote matters to a search of the statements; a vote that is noted; the step of the search for the top one. Assumes nothing.
 use Prim.Native.Nat.{ℕ, ◌<◌, ◌≤◌}
 use mathlib.Core.Path.{◌≡◌, refl}
-use mathlib.Core.List.{List, ◌∷◌}
+use mathlib.Core.List.{List, [], ◌∷◌}
 use mathlib.Core.Option.{Option, none, some}
 use borrow.Author.Tests.{eq-eqb, ne_eqb, lt-ltb, le-ltb}
 use Rattle.rules.specs.Words as words
@@ -9,16 +9,16 @@ use Rattle.rules.specs.Inputs as inputs
 use Rattle.wire.specs.Meaning.{statement_of}
 use Rattle.wire.specs.declared.Statement as wire
 use Rattle.plain_words.specs.Meaning.{noted_of}
-use Rattle.plain_words.specs.declared.Noted.TheVariants.{At}
+use Rattle.std.specs.Prelude as code
+use Rattle.std.specs.Prelude.{Some, None}
+use Rattle.plain_words.proofs.Searches.{meant}
 use Rattle.plain_words.proofs.Statements.{same_unvoted, conflict_unvoted}
-use Rattle.plain_statements.specs.declared.Ask.{Ask}
-use Rattle.plain_statements.specs.declared.Ask.TheVariants.{Same, Conflict, Opens, Uses}
 use Rattle.plain_statements.specs.declared.Held.{Held}
-use Rattle.plain_statements.specs.Meaning.{held_of, asked, over}
+use Rattle.plain_statements.specs.Meaning.{held_of, found_of, opens, uses, over}
 
 -- no vote matters to a search
 module _ (x : wire.Statement) (h : Held) where
-  same_held : words.same_statement (statement_of x none) (held_of h) ≡ words.same_statement (statement_of x none) (statement_of h.statement none)
+  pub same_held : words.same_statement (statement_of x none) (held_of h) ≡ words.same_statement (statement_of x none) (statement_of h.statement none)
   unfolding held_of
   same_held = same_unvoted x h.statement (noted_of h.voted)
 
@@ -26,19 +26,29 @@ module _ (x : wire.Statement) (h : Held) where
   unfolding held_of
   conflict_held = conflict_unvoted x h.statement (noted_of h.voted)
 
-pub asked_held : (a : Ask) (h : Held) → asked a (held_of h) ≡ asked a (statement_of h.statement none)
+pub opens_held : (v : ℕ) (h : Held) → opens v (held_of h) ≡ opens v (statement_of h.statement none)
 unfolding held_of statement_of
-asked_held (Same x) h = same_held x h
-asked_held (Conflict x) h = conflict_held x h
-asked_held (Opens v) h = refl
-asked_held (Uses b) h = refl
+opens_held v h = refl
+
+pub uses_held : (b : ℕ) (h : Held) → uses b (held_of h) ≡ uses b (statement_of h.statement none)
+unfolding held_of statement_of
+uses_held b h = refl
+
+-- what a search found
+pub found_meant : (o : code.Option Held) → found_of o ≡ meant held_of o
+found_meant None = refl
+found_meant (Some h) = refl
 
 -- a vote that is noted
-pub noted_held : (clock : ℕ) (h : Held) → held_of (record { statement = h.statement; voted = At clock }) ≡ inputs.noted clock (held_of h)
+pub noted_held : (clock : ℕ) (h : Held) → held_of (record { statement = h.statement; voted = Some clock }) ≡ inputs.noted clock (held_of h)
 unfolding held_of inputs.noted statement_of
 noted_held clock h = refl
 
--- the step of `top`
+-- the steps of `top`
+pub top_none : (v : ℕ) → none ≡ inputs.top v []
+unfolding inputs.top
+top_none v = refl
+
 module _ (v : ℕ) (x : words.Statement) where
   pub over_other : (o : Option words.Statement) → (x.view ≡ v → ⊥) → o ≡ over v x o
   unfolding over

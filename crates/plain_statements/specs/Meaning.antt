@@ -1,19 +1,14 @@
 -- What the table of statements means in the words of the rules. Assumes nothing.
-use Rattle.std.specs.Prelude.{ℕ, ◌+◌, ◌≡◌, Bool, true, false, not, ◌&&◌, ◌||◌, List, ltb, eqb}
+use Rattle.std.specs.Prelude.{ℕ, ◌+◌, ◌≡◌, Bool, true, false, not, ◌&&◌, ◌||◌, List, ltb, eqb, Some, None}
+use Rattle.std.specs.Prelude as code
 use Rattle.std.proofs.Math.Option.{Option, none, some}
 use Rattle.rules.specs.Limits.{most_statements_small}
 use Rattle.rules.specs.Words as words
 use Rattle.wire.specs.Meaning.{statement_of}
 use Rattle.plain_words.specs.Meaning.{noted_of}
-use Rattle.plain_words.specs.declared.Noted.TheVariants.{Never}
 use Rattle.plain_words.specs.Places.{firsts, Within}
-use Rattle.fields.specs.Names.{name_of}
-use Rattle.plain_statements.specs.declared.Ask.{Ask}
-use Rattle.plain_statements.specs.declared.Ask.TheVariants.{Same, Conflict, Opens, Uses}
 use Rattle.plain_statements.specs.declared.Held.{Held}
 use Rattle.plain_statements.specs.declared.Statements.{Statements}
-use Rattle.plain_statements.specs.declared.Found.{Found}
-use Rattle.plain_statements.specs.declared.Found.TheVariants.{Here, Nowhere}
 
 -- a stored statement, with the clock of its vote
 unfoldable pub held_of : Held → words.Statement
@@ -33,13 +28,13 @@ blank =
         mask = 0;
         author = 0;
       };
-      voted = Never;
+      voted = None;
     }
 
 -- what a search found
-abbrev pub found_of : Found → Option words.Statement
-found_of (Here h) = some (held_of h)
-found_of Nowhere = none
+abbrev pub found_of : code.Option Held → Option words.Statement
+found_of (Some h) = some (held_of h)
+found_of None = none
 
 -- the first so many items of the array
 unfoldable pub statements : Statements → List words.Statement
@@ -61,13 +56,6 @@ opens v x = x.is_new_view && eqb x.view v
 
 abbrev pub uses : ℕ → words.Statement → Bool
 uses b x = eqb b x.name || not x.is_new_view && eqb b x.link
-
--- what a search asks of a statement
-abbrev pub asked : Ask → words.Statement → Bool
-asked (Same x) = words.same_statement (statement_of x none)
-asked (Conflict x) = words.conflict (statement_of x none)
-asked (Opens v) = opens v
-asked (Uses b) = uses (name_of b)
 
 -- the step of `top`: a statement, and the top of those behind it
 unfoldable pub over : ℕ → words.Statement → Option words.Statement → Option words.Statement

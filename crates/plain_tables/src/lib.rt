@@ -60,9 +60,10 @@ impl Names {
     pub fn none() -> Names
         ensures { Holds result [] }
     {
-        let name = Name::zero();
-        let items = [name; NAMES];
-        Names { items, count: 0 }
+        Names {
+            items: [Name::zero(); NAMES],
+            count: 0,
+        }
     }
 }
 
@@ -72,47 +73,26 @@ impl Engine {
         requires { (settings.size ≡ Small) × (good_settings (settings_of settings) ≡ true) }
         ensures { Gives result (words.fresh (settings_of settings)) }
     {
-        let lock = plain_words::genesis();
-        let statements = Statements::none();
-        let tallies = Tallies::none();
-        let blames = [0u16; VIEWS];
-        let log = Names::none();
         Engine {
             settings,
             phase: Phase::InView,
             view: Settings::FIRST_VIEW as u32,
             entry: 0,
             clock: 0,
-            lock,
-            statements,
-            tallies,
-            blames,
-            log,
+            lock: plain_words::genesis(),
+            statements: Statements::none(),
+            tallies: Tallies::none(),
+            blames: [0; VIEWS],
+            log: Names::none(),
         }
     }
 
     // The station with another phase.
-    pub fn with_phase(self, phase: Phase) -> Engine
+    pub fn with_phase(mut self, phase: Phase) -> Engine
         ensures { result ≡ phased phase self }
     {
-        let settings = self.settings;
-        let lock = self.lock;
-        let statements = self.statements;
-        let tallies = self.tallies;
-        let blames = self.blames;
-        let log = self.log;
-        Engine {
-            settings,
-            phase,
-            view: self.view,
-            entry: self.entry,
-            clock: self.clock,
-            lock,
-            statements,
-            tallies,
-            blames,
-            log,
-        }
+        self.phase = phase;
+        self
     }
 
     // The station with other tables.

@@ -20,7 +20,12 @@ use Rattle.plain_words.proofs.Firsts.{firsts_more}
 use Rattle.plain_words.proofs.Tables.{counted, inside, outside, item, changed}
 use Rattle.plain_tallies.specs.declared.Tally.{Tally}
 use Rattle.plain_tallies.specs.declared.Tallies.{Tallies}
-use Rattle.plain_tallies.specs.Meaning.{tally_of, blank, tallies, room, Holds, best_of}
+use Rattle.std.specs.Prelude as code
+use Rattle.std.specs.Prelude.{Some, None, position}
+use Rattle.std.specs.Option.{option_eq}
+use Rattle.std.specs.Bool.{then_some}
+use Rattle.plain_words.specs.Meaning.{noted_of}
+use Rattle.plain_tallies.specs.Meaning.{opener_of, tally_of, blank, tallies, room, Holds, best_of}
 
 -- ---- over lists
 
@@ -55,42 +60,48 @@ module _ (t : Certificate) where
 
 -- ---- over the table
 
-module _ (t : Certificate) (u : Tallies) (w : Within room u.items u.count) (i : ℕ) (e : i ≡ place (of_block t) (tallies u)) where
-  pub joined_here : (k : Moment) (x : Tally) → i < u.count → tally_of x ≡ grown k (tally_of (get_or u.items i blank)) t.mask
-      → firsts tally_of (set u.items i x) u.count ≡ join k t (tallies u)
-  unfolding tallies
-  joined_here k x h q =
-      changed tally_of blank room u.items u.count w (of_block t) i e x (grown k (get_or (tallies u) (place (of_block t) (tallies u)) (tally_of blank)) t.mask) h
-      (q ∙ ap (λ (z : words.Tally). grown k z t.mask) (sym (item tally_of blank room u.items u.count w (of_block t) i e h)))
-      ∙ sym (join_at t k (tally_of blank) (tallies u) (inside tally_of blank room u.items u.count w (of_block t) i e h))
+module _ (t : Certificate) (u : Tallies) (w : Within room u.items u.count) where
+  -- where the block has a tally
+  module _ (i : ℕ) (e : position (of_block t) (tallies u) ≡ Some i) where
+    pub joined_here : (k : Moment) (x : Tally) → tally_of x ≡ grown k (tally_of (get_or u.items i blank)) t.mask
+        → firsts tally_of (set u.items i x) u.count ≡ join k t (tallies u)
+    unfolding tallies
+    joined_here k x q =
+        changed tally_of blank room u.items u.count w (of_block t) i e x (grown k (get_or (tallies u) (place (of_block t) (tallies u)) (tally_of blank)) t.mask)
+        (q ∙ ap (λ (z : words.Tally). grown k z t.mask) (sym (item tally_of blank room u.items u.count w (of_block t) i e)))
+        ∙ sym (join_at t k (tally_of blank) (tallies u) (inside tally_of blank room u.items u.count w (of_block t) i e))
 
-  pub joined_new : (k : Moment) (x : Tally) → u.count < room → u.count ≤ i → tally_of x ≡ opened k t
-      → firsts tally_of (set u.items u.count x) (u.count + 1) ≡ join k t (tallies u)
-  unfolding tallies
-  joined_new k x r h q =
-      firsts_more tally_of u.items u.count x (omega (arith, w.long)) ∙ ap (λ (z : words.Tally). tallies u ++ z ∷ []) q
-      ∙ sym (join_nowhere t k (tallies u) (outside tally_of blank room u.items u.count w (of_block t) i e h))
+    pub voters_here : (tally_of (get_or u.items i blank)).mask ≡ voters t (tallies u)
+    unfolding tallies
+    voters_here =
+        ap (λ (z : words.Tally). z.mask) (sym (item tally_of blank room u.items u.count w (of_block t) i e))
+        ∙ sym (voters_at t (tally_of blank) (tallies u) (inside tally_of blank room u.items u.count w (of_block t) i e))
 
-  pub voters_here : i < u.count → (tally_of (get_or u.items i blank)).mask ≡ voters t (tallies u)
-  unfolding tallies
-  voters_here h =
-      ap (λ (z : words.Tally). z.mask) (sym (item tally_of blank room u.items u.count w (of_block t) i e h))
-      ∙ sym (voters_at t (tally_of blank) (tallies u) (inside tally_of blank room u.items u.count w (of_block t) i e h))
+  -- where it has none
+  module _ (e : position (of_block t) (tallies u) ≡ None) where
+    pub joined_new : (k : Moment) (x : Tally) → u.count < room → tally_of x ≡ opened k t
+        → firsts tally_of (set u.items u.count x) (u.count + 1) ≡ join k t (tallies u)
+    unfolding tallies
+    joined_new k x r q =
+        firsts_more tally_of u.items u.count x (omega (arith, w.long)) ∙ ap (λ (z : words.Tally). tallies u ++ z ∷ []) q
+        ∙ sym (join_nowhere t k (tallies u) (outside tally_of blank room u.items u.count w (of_block t) e))
 
-  pub voters_none : u.count ≤ i → 0 ≡ voters t (tallies u)
-  unfolding tallies
-  voters_none h = sym (voters_nowhere t (tallies u) (outside tally_of blank room u.items u.count w (of_block t) i e h))
+    pub voters_none : 0 ≡ voters t (tallies u)
+    unfolding tallies
+    voters_none = sym (voters_nowhere t (tallies u) (outside tally_of blank room u.items u.count w (of_block t) e))
 
--- ---- the two counts, as a loop downward meets them
+-- ---- who opened a tally
 
-module _ (a : ℕ) (x : words.Tally) (us : List words.Tally) where
-  pub opened_one : is_author a x.opener ≡ true → opened_by a us + 1 ≡ opened_by a (x ∷ us)
-  unfolding opened_by keep
-  opened_one q = rw (q, keep) (add-one (opened_by a us))
+pub author_is : (a : ℕ) (o : code.Option ℕ) → option_eq eqb (Some a) o ≡ is_author a (opener_of o)
+unfolding is_author
+author_is a None = refl
+author_is a (Some b) = refl
 
-  pub opened_other : is_author a x.opener ≡ false → opened_by a us ≡ opened_by a (x ∷ us)
-  unfolding opened_by keep
-  opened_other q = rw (q, keep)
+-- ---- the highest, as a fold from the end on meets it
+
+pub highest_none : (g : Settings) (v : ℕ) → words.genesis ≡ highest g v []
+unfolding highest
+highest_none g v = refl
 
 pub highest_best : (g : Settings) (v : ℕ) (x : words.Tally) (us : List words.Tally) → highest g v (x ∷ us) ≡ best_of g v x (highest g v us)
 unfolding highest best_of
@@ -99,13 +110,23 @@ highest_best g v x us = refl
 -- ---- the clock that a tally keeps
 
 module _ (k : Moment) (m : ℕ) where
-  pub reached_now : quorum k.settings m ≡ true → some k.clock ≡ reached_at k none m
+  reached_now : quorum k.settings m ≡ true → some k.clock ≡ reached_at k none m
   unfolding reached_at
   reached_now q = rw (q, reached_at)
 
-  pub reached_not : quorum k.settings m ≡ false → none ≡ reached_at k none m
+  reached_not : quorum k.settings m ≡ false → none ≡ reached_at k none m
   unfolding reached_at
   reached_not q = rw (q, reached_at)
+
+  pub reached_some : (o : code.Option ℕ) (c : ℕ) → o ≡ Some c → noted_of o ≡ reached_at k (noted_of o) m
+  unfolding reached_at
+  reached_some None c e = absurd cc
+  reached_some (Some b) c e = refl
+
+  pub reached_none : (o : code.Option ℕ) → o ≡ None → (b : Bool) → b ≡ quorum k.settings m → noted_of (then_some b k.clock) ≡ reached_at k (noted_of o) m
+  reached_none None e true q = reached_now (sym q)
+  reached_none None e false q = reached_not (sym q)
+  reached_none (Some c) e b q = absurd cc
 
 -- ---- the better of a tally and a certificate
 

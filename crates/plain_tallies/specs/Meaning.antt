@@ -1,5 +1,5 @@
 -- What the table of tallies means in the words of the rules. Assumes nothing.
-use Rattle.std.specs.Prelude.{ℕ, ◌+◌, ◌≡◌, true, false, ◌&&◌, List, ltb}
+use Rattle.std.specs.Prelude.{ℕ, ◌+◌, ◌≡◌, true, false, ◌&&◌, List, ltb, Option, Some, None}
 use Rattle.std.proofs.Math.Option.{none, some}
 use Rattle.fields.specs.Names.{name_of}
 use Rattle.rules.specs.Limits.{most_tallies_small}
@@ -7,17 +7,14 @@ use Rattle.rules.specs.Sizes.{Settings}
 use Rattle.rules.specs.Words as words
 use Rattle.settings.specs.Made.{settings_of}
 use Rattle.plain_words.specs.Meaning.{noted_of}
-use Rattle.plain_words.specs.declared.Noted.TheVariants.{Never}
 use Rattle.plain_words.specs.Places.{firsts, Within}
-use Rattle.plain_tallies.specs.declared.Opener.{Opener}
-use Rattle.plain_tallies.specs.declared.Opener.TheVariants.{Nobody, Author}
 use Rattle.plain_tallies.specs.declared.Moment.{Moment}
 use Rattle.plain_tallies.specs.declared.Tally.{Tally}
 use Rattle.plain_tallies.specs.declared.Tallies.{Tallies}
 
-abbrev pub opener_of : Opener → words.Opener
-opener_of Nobody = none
-opener_of (Author a) = some a
+abbrev pub opener_of : Option ℕ → words.Opener
+opener_of None = none
+opener_of (Some a) = some a
 
 -- what a joining is told
 abbrev pub moment_of : Moment → words.Moment
@@ -29,7 +26,7 @@ tally_of t = record { view = t.view; height = t.height; name = name_of t.name; m
 
 -- what stands in an item that was never written
 abbrev pub blank : Tally
-blank = record { view = 0; height = 0; name = record { first = 0; second = 0; third = 0; fourth = 0 }; mask = 0; opener = Nobody; reached = Never }
+blank = record { view = 0; height = 0; name = record { first = 0; second = 0; third = 0; fourth = 0 }; mask = 0; opener = None; reached = None }
 
 -- the first so many items of the array
 unfoldable pub tallies : Tallies → List words.Tally

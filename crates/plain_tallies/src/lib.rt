@@ -2,37 +2,30 @@
 // two, and a joining asks for a free place. So a rule runs first, and its tables are measured afterwards, as the definitions have it.
 #![tactic(auto)]
 
-ghost use Rattle.std.specs.Prelude.{◌≡◌, [], ◌<◌};
+ghost use Rattle.std.specs.Prelude.{◌≡◌, [], ◌<◌, IfSome, position};
 ghost use Rattle.rules.specs.Lists.{any};
 ghost use Rattle.rules.specs.Words as words;
 ghost use Rattle.settings.specs.Made.{settings_of};
 ghost use Rattle.plain_words.specs.Meaning.{certificate_of, noted_of};
-ghost use Rattle.plain_words.specs.Places.{Within, place};
+ghost use Rattle.plain_words.specs.Places.{Within};
 ghost use Rattle.plain_tallies.specs.Meaning.{opener_of, moment_of, tally_of, tallies, room, Holds, best_of};
 
 use fields::Name;
-use plain_words::{Certificate, Noted};
+use plain_words::Certificate;
 use settings::Settings;
 
 // The room of the table.
 pub const ROOM: usize = Settings::MOST_TALLIES + 3;
 
-// Who opened a tally: nobody, or the author of a vote.
-#[derive(Clone, Copy)]
-pub enum Opener {
-    Nobody,
-    Author(u8),
-}
-
-// A tally, with who opened it, and the clock at which it first reached a quorum.
+// A tally, with the author of the vote that opened it, if one did, and the clock at which it first reached a quorum.
 #[derive(Clone, Copy)]
 pub struct Tally {
     pub view: u32,
     pub height: u32,
     pub name: Name,
     pub mask: u16,
-    pub opener: Opener,
-    pub reached: Noted,
+    pub opener: Option<u8>,
+    pub reached: Option<u32>,
 }
 
 #[derive(Clone, Copy)]
@@ -46,22 +39,19 @@ pub struct Tallies {
 pub struct Moment {
     pub settings: Settings,
     pub clock: u32,
-    pub opener: Opener,
+    pub opener: Option<u8>,
 }
 
 // The clock that a tally keeps: the one that it has, or the present one once a mask is a quorum.
-fn reached_at(moment: Moment, reached: Noted, mask: u16) -> Noted
+fn reached_at(moment: Moment, reached: Option<u32>, mask: u16) -> Option<u32>
     ensures { noted_of result ≡ words.reached_at (moment_of moment) (noted_of reached) mask }
 {
     match reached {
-        Noted::At(clock) => Noted::At(clock),
-        Noted::Never => {
-            let settings = moment.settings;
-            if settings.quorum(plain_words::wide(mask)) {
-                return Noted::At(moment.clock);
-            }
-            Noted::Never
-        }
+        Some(_) => reached,
+        None => moment
+            .settings
+            .quorum(u64::from(mask))
+            .then_some(moment.clock),
     }
 }
 
@@ -69,59 +59,49 @@ fn reached_at(moment: Moment, reached: Noted, mask: u16) -> Noted
 fn opened(moment: Moment, t: Certificate) -> Tally
     ensures { tally_of result ≡ words.opened (moment_of moment) (certificate_of t) }
 {
-    let reached = reached_at(moment, Noted::Never, t.mask);
-    let name = t.name;
-    let opener = moment.opener;
     Tally {
         view: t.view,
         height: t.height,
-        name,
+        name: t.name,
         mask: t.mask,
-        opener,
-        reached,
+        opener: moment.opener,
+        reached: reached_at(moment, None, t.mask),
     }
 }
 
 // "Adding a voter to a tally gives back the grown tally".
-fn grown(moment: Moment, t: Tally, mask: u16) -> Tally
+fn grown(moment: Moment, mut t: Tally, mask: u16) -> Tally
     ensures { tally_of result ≡ words.grown (moment_of moment) (tally_of t) mask }
 {
-    let now = t.mask | mask;
-    let before = t.reached;
-    let reached = reached_at(moment, before, now);
-    let name = t.name;
-    let opener = t.opener;
-    Tally {
-        view: t.view,
-        height: t.height,
-        name,
-        mask: now,
-        opener,
-        reached,
-    }
+    t.mask |= mask;
+    t.reached = reached_at(moment, t.reached, t.mask);
+    t
 }
 
 // What a tally certifies.
 fn certificate_of(t: Tally) -> Certificate
     ensures { certificate_of result ≡ words.certificate_of (tally_of t) }
 {
-    let name = t.name;
     Certificate {
         view: t.view,
         height: t.height,
-        name,
+        name: t.name,
         mask: t.mask,
     }
 }
 
+// Whether a tally is a block's.
+fn is_of_block(t: Certificate, tally: Tally) -> bool
+    ensures { result ≡ words.of_block (certificate_of t) (tally_of tally) }
+{
+    plain_words::same_block(t, certificate_of(tally))
+}
+
 // Whether a tally's opener is this author.
-fn is_author(author: u8, opener: Opener) -> bool
+fn is_author(author: u8, opener: Option<u8>) -> bool
     ensures { result ≡ words.is_author author (opener_of opener) }
 {
-    match opener {
-        Opener::Nobody => false,
-        Opener::Author(other) => author == other,
-    }
+    Some(author) == opener
 }
 
 // A tally before the highest certificate of those behind it: its own, where it is of an earlier view, certified and higher.
@@ -129,7 +109,7 @@ fn better(settings: Settings, view: u32, t: Tally, best: Certificate) -> Certifi
     ensures { certificate_of result ≡ best_of (settings_of settings) view (tally_of t) (certificate_of best) }
 {
     let own = certificate_of(t);
-    let certified = settings.quorum(plain_words::wide(t.mask));
+    let certified = settings.quorum(u64::from(t.mask));
     let higher = plain_words::higher(own, best);
     if (t.view < view) & certified & higher {
         return own;
@@ -142,34 +122,29 @@ impl Tallies {
     pub fn none() -> Tallies
         ensures { Holds result [] }
     {
-        let name = Name::zero();
         let tally = Tally {
             view: 0,
             height: 0,
-            name,
+            name: Name::zero(),
             mask: 0,
-            opener: Opener::Nobody,
-            reached: Noted::Never,
+            opener: None,
+            reached: None,
         };
-        let items = [tally; ROOM];
-        Tallies { items, count: 0 }
+        Tallies {
+            items: [tally; ROOM],
+            count: 0,
+        }
     }
 
     // Where a block's tally stands.
-    fn place_of(self, t: Certificate) -> usize
+    fn place_of(self, t: Certificate) -> Option<usize>
         requires { Within room self.items self.count }
-        ensures { result ≡ place (words.of_block (certificate_of t)) (tallies self) }
+        ensures found { result ≡ position (words.of_block (certificate_of t)) (tallies self) }
+        ensures below { IfSome result (λ i. i < self.count) }
     {
-        let n = self.count;
-        let mut i: usize = 0;
-        while i < n {
-            let tally = self.items[i];
-            if plain_words::same_block(t, certificate_of(tally)) {
-                return i;
-            }
-            i += 1;
-        }
-        n
+        self.items[..self.count]
+            .iter()
+            .position(|tally| is_of_block(t, *tally))
     }
 
     // Whether a block has a tally.
@@ -177,8 +152,7 @@ impl Tallies {
         requires { Within room self.items self.count }
         ensures { result ≡ any (words.of_block (certificate_of t)) (tallies self) }
     {
-        let i = self.place_of(t);
-        i < self.count
+        self.place_of(t).is_some()
     }
 
     // "The voters that a block's tally has".
@@ -186,12 +160,10 @@ impl Tallies {
         requires { Within room self.items self.count }
         ensures { result ≡ words.voters (certificate_of t) (tallies self) }
     {
-        let i = self.place_of(t);
-        if i < self.count {
-            let tally = self.items[i];
-            return tally.mask;
+        match self.place_of(t) {
+            Some(i) => self.items[i].mask,
+            None => 0,
         }
-        0
     }
 
     // "A mask joins its tally, opened if missing".
@@ -199,17 +171,12 @@ impl Tallies {
         requires { (Within room self.items self.count) × (self.count < room) }
         ensures { Holds result (words.join (moment_of moment) (certificate_of t) (tallies self)) }
     {
-        let n = self.count;
-        let i = self.place_of(t);
-        if i < n {
-            let tally = self.items[i];
-            let now = grown(moment, tally, t.mask);
-            self.items[i] = now;
+        if let Some(i) = self.place_of(t) {
+            self.items[i] = grown(moment, self.items[i], t.mask);
             return self;
         }
-        let tally = opened(moment, t);
-        self.items[n] = tally;
-        self.count = n + 1;
+        self.items[self.count] = opened(moment, t);
+        self.count += 1;
         self
     }
 
@@ -229,17 +196,10 @@ impl Tallies {
         requires { Within room self.items self.count }
         ensures { result ≡ words.opened_by author (tallies self) }
     {
-        let mut found: usize = 0;
-        let mut i = self.count;
-        while 0 < i {
-            i -= 1;
-            let tally = self.items[i];
-            let opener = tally.opener;
-            if is_author(author, opener) {
-                found += 1;
-            }
-        }
-        found
+        self.items[..self.count]
+            .iter()
+            .filter(|tally| is_author(author, tally.opener))
+            .count()
     }
 
     // "The highest certificate of an earlier view".
@@ -247,13 +207,9 @@ impl Tallies {
         requires { Within room self.items self.count }
         ensures { certificate_of result ≡ words.highest (settings_of settings) view (tallies self) }
     {
-        let mut best = plain_words::genesis();
-        let mut i = self.count;
-        while 0 < i {
-            i -= 1;
-            let tally = self.items[i];
-            best = better(settings, view, tally, best);
-        }
-        best
+        self.items[..self.count].iter().rev().fold(
+            plain_words::genesis(),
+            |best, tally| better(settings, view, *tally, best),
+        )
     }
 }

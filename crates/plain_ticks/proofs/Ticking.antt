@@ -26,9 +26,12 @@ use Rattle.kept.proofs.Calls.{tick_whole}
 use Rattle.plain_tables.specs.declared.Cause.{Cause}
 use Rattle.plain_tables.specs.declared.Phase.TheVariants.{Stopped}
 use Rattle.plain_tables.specs.declared.Engine.{Engine}
-use Rattle.plain_tables.specs.Meaning.{names, cause_of, state, Sized}
+use Rattle.plain_tables.specs.Meaning.{names, room, cause_of, state, Sized}
 use Rattle.plain_tables.proofs.Laws.{gives_phase}
-use Rattle.plain_chains.specs.declared.Maybe.{Maybe}
+use Rattle.plain_tables.specs.declared.Names.{Names}
+use Rattle.plain_words.specs.Places.{Within}
+use Rattle.std.specs.Prelude as code
+use Rattle.std.specs.Prelude.{Some, None}
 use Rattle.plain_chains.specs.Meaning as chains
 use Rattle.plain_chains.specs.Meaning.{maybe_of}
 use Rattle.plain_acts.specs.declared.Work.{Work}
@@ -68,25 +71,24 @@ module _ (e t : Engine) (p : t ≡ clocked (e.clock + 1) e) where
         formed = whole (record { formed = clock_formed f.formed c; few_statements = f.few_statements; few_tallies = f.few_tallies });
       })
 
-module _ (e : Engine) (k : Whole e) (m : Maybe) (g : chains.Gives m (inputs.commits (state e).statements (inputs.due (state e)) (state e).log)) where
-  pub some_log : m.some ≡ true → inputs.commits (state e).statements (inputs.due (state e)) (state e).log ≡ some (names m.names)
-  unfolding maybe_of
-  some_log q = sym g.is ∙ rw q
+module _ (e : Engine) (k : Whole e) (m : code.Option Names) (g : chains.Gives m (inputs.commits (state e).statements (inputs.due (state e)) (state e).log)) where
+  pub some_log : (t : Names) → m ≡ Some t → inputs.commits (state e).statements (inputs.due (state e)) (state e).log ≡ some (names t)
+  some_log t q = sym g.is ∙ ap maybe_of q
 
-  pub no_log : m.some ≡ false → inputs.commits (state e).statements (inputs.due (state e)) (state e).log ≡ none
-  unfolding maybe_of
-  no_log q = sym g.is ∙ rw q
+  pub no_log : m ≡ None → inputs.commits (state e).statements (inputs.due (state e)) (state e).log ≡ none
+  no_log q = sym g.is ∙ ap maybe_of q
 
-  pub some_keepable : m.some ≡ true → Keepable e m.names
+  pub some_keepable : (t : Names) → m ≡ Some t → Keepable e t
   unfolding state
-  some_keepable q =
+  some_keepable t q =
       let f = (parts (state e) k.formed).formed in
-      let (r, p) = (commits_some (state e).statements (inputs.due (state e)) (state e).log (names m.names) (some_log q)).begins in
+      let within : Within room t.items t.count = rw q at g.within in
+      let (r, p) = (commits_some (state e).statements (inputs.due (state e)) (state e).log (names t) (some_log t q)).begins in
       record {
         whole = k;
-        within = g.within;
-        grown = omega (arith, logs.counted e.log k.sized.log, logs.counted m.names g.within, length-append (names e.log) r, ap length p);
-        linked = commits_linked f (inputs.due (state e)) (state e).log (names m.names) (due_stored (state e)) (some_log q) f.tables.log;
+        within = within;
+        grown = omega (arith, logs.counted e.log k.sized.log, logs.counted t within, length-append (names e.log) r, ap length p);
+        linked = commits_linked f (inputs.due (state e)) (state e).log (names t) (due_stored (state e)) (some_log t q) f.tables.log;
       }
 
 -- ---- a tick

@@ -27,12 +27,7 @@ fn with_clock(mut e: Engine, clock: u32) -> Engine
 fn halted(number: u64, why: Cause, e: Engine) -> Turn
     ensures { result ≡ halting number why e }
 {
-    let engine = e.with_phase(Phase::Stopped(why));
-    Turn {
-        number,
-        count: 0,
-        engine,
-    }
+    plain_turns::refused(number, e.with_phase(Phase::Stopped(why)))
 }
 
 // The new log, then blame, the leader's new-view and the entry of a view.
@@ -52,11 +47,10 @@ fn ticked(e: Engine, out: &mut [u8]) -> Turn
     ensures { Turned (ticking (state e)) result out.new }
 {
     let later = with_clock(e, e.clock + 1);
-    let log = plain_logs::commits(later);
-    if !log.some {
+    let Some(log) = plain_logs::commits(later) else {
         return halted(7, Cause::Split, e);
-    }
-    let w = turned(later, log.names, out);
+    };
+    let w = turned(later, log, out);
     plain_turns::if_room(e, w)
 }
 

@@ -22,7 +22,9 @@ use Rattle.laws.proofs.Tests.{by_bool}
 use Rattle.fields.specs.Places.{Bytes}
 use Rattle.wire.specs.Meaning.{statement_of, message_of}
 use Rattle.wire.specs.declared.Statement as wire
-use Rattle.wire.specs.declared.Message.TheVariants.{Stated}
+use Rattle.wire.specs.declared.Message.{Message}
+use Rattle.wire.specs.declared.Message.TheVariants.{Stated, Vote, Blame, BlameSet, Status}
+use Rattle.fields.specs.declared.Name.{Name}
 use Rattle.outgoing.specs.Wrote.{Says}
 use Rattle.outgoing.proofs.Writing.{wrote_prefix}
 use Rattle.kept.proofs.Room.{handled_bytes}
@@ -33,6 +35,7 @@ use Rattle.plain_statements.specs.Meaning.{held_of, blank, statements}
 use Rattle.plain_tallies.proofs.Laws.{tally_count}
 use Rattle.plain_tables.specs.declared.Cause.{Cause}
 use Rattle.plain_tables.specs.declared.Cause.TheVariants.{Full}
+use Rattle.plain_tables.specs.declared.Phase.{Phase}
 use Rattle.plain_tables.specs.declared.Phase.TheVariants.{InView, Waiting, Stopped}
 use Rattle.plain_tables.specs.declared.Engine.{Engine}
 use Rattle.plain_tables.specs.Meaning.{state, Sized}
@@ -46,17 +49,25 @@ use Rattle.plain_turns.specs.Turns.{refusing, chosen, Turned, Answered}
 -- ---- whether the station runs, and has room
 
 module _ (e : Engine) where
-  pub runs_in : e.phase ≡ InView → true ≡ refusals.running (state e)
+  runs_in : e.phase ≡ InView → true ≡ refusals.running (state e)
   unfolding refusals.running state
   runs_in p = rw (p, refusals.running)
 
-  pub runs_waiting : (q : ℕ) → e.phase ≡ Waiting q → true ≡ refusals.running (state e)
+  runs_waiting : (q : ℕ) → e.phase ≡ Waiting q → true ≡ refusals.running (state e)
   unfolding refusals.running state
   runs_waiting q p = rw (p, refusals.running)
 
   pub runs_not : (c : Cause) → e.phase ≡ Stopped c → false ≡ refusals.running (state e)
   unfolding refusals.running state
   runs_not c p = rw (p, refusals.running)
+
+  pub runs_other : ((c : Cause) → e.phase ≡ Stopped c → ⊥) → true ≡ refusals.running (state e)
+  runs_other n = go e.phase refl
+    where
+      go : (p : Phase) → e.phase ≡ p → true ≡ refusals.running (state e)
+      go InView q = runs_in q
+      go (Waiting w) q = runs_waiting w q
+      go (Stopped c) q = absurd (n c q)
 
 statement_count : (e : Engine) → Sized e → length (statements e.statements) ≡ e.statements.count
 unfolding statements
@@ -72,9 +83,18 @@ pub stated_view : (x : wire.Statement) → x.view ≡ view_of (message_of (State
 unfolding message_of message statement_of view_of
 stated_view x = by_bool x.is_new_view (λ q. rw q) (λ q. rw q)
 
-pub stated_free : (x : wire.Statement) (s : words.State) → false ≡ refusals.used_up (message_of (Stated x)) s
+stated_free : (x : wire.Statement) (s : words.State) → false ≡ refusals.used_up (message_of (Stated x)) s
 unfolding message_of message statement_of refusals.used_up
 stated_free x s = by_bool x.is_new_view (λ q. rw q) (λ q. rw q)
+
+-- only a vote uses one up
+pub others_free : (m : Message) (s : words.State) → ((v h : ℕ) (n : Name) (a : ℕ) → m ≡ Vote v h n a → ⊥) → false ≡ refusals.used_up (message_of m) s
+unfolding message_of refusals.used_up
+others_free (Stated x) s n = stated_free x s
+others_free (Vote v h b a) s n = absurd (n v h b a refl)
+others_free (Blame v a) s n = refl
+others_free (BlameSet v m) s n = refl
+others_free (Status h b c m) s n = refl
 
 -- ---- outcomes
 

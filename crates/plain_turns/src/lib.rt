@@ -14,7 +14,7 @@ use plain_acts::Work;
 use plain_tables::{Cause, Engine, Phase};
 use plain_words::Certificate;
 use settings::Settings;
-use wire::{Message, Read};
+use wire::Message;
 
 // The number of the answer, how many bytes were written, and the station that is left.
 #[derive(Clone, Copy)]
@@ -39,12 +39,7 @@ pub fn refused(number: u64, e: Engine) -> Turn
 pub fn running(e: Engine) -> bool
     ensures { result ≡ refusals.running (state e) }
 {
-    let phase = e.phase;
-    match phase {
-        Phase::InView => true,
-        Phase::Waiting(_) => true,
-        Phase::Stopped(_) => false,
-    }
+    !matches!(e.phase, Phase::Stopped(_))
 }
 
 // The tables have room for what was added.
@@ -52,9 +47,7 @@ pub fn has_room(e: Engine) -> bool
     requires { Sized e }
     ensures { result ≡ refusals.has_room (state e) }
 {
-    let statements = e.statements;
-    let tallies = e.tallies;
-    (statements.count <= Settings::MOST_STATEMENTS) & (tallies.count <= Settings::MOST_TALLIES)
+    (e.statements.count <= Settings::MOST_STATEMENTS) & (e.tallies.count <= Settings::MOST_TALLIES)
 }
 
 // 6, "no record free for what this input must add": the rule's work, or the station as it was, stopped.
@@ -62,20 +55,14 @@ pub fn if_room(e: Engine, w: Work) -> Turn
     requires { Sized w.engine }
     ensures { result ≡ chosen (refusals.has_room (state w.engine)) e w }
 {
-    let now = w.engine;
-    if has_room(now) {
+    if has_room(w.engine) {
         return Turn {
             number: 0,
             count: w.at,
-            engine: now,
+            engine: w.engine,
         };
     }
-    let engine = e.with_phase(Phase::Stopped(Cause::Full));
-    Turn {
-        number: 6,
-        count: 0,
-        engine,
-    }
+    refused(6, e.with_phase(Phase::Stopped(Cause::Full)))
 }
 
 // The view that a message is of; a status has none.
@@ -95,7 +82,7 @@ fn view_of(message: Message) -> u32
 fn ahead(e: Engine, message: Message) -> bool
     ensures { result ≡ refusals.ahead (message_of message) (state e) }
 {
-    (e.view as u64) + 1 < view_of(message) as u64
+    u64::from(e.view) + 1 < u64::from(view_of(message))
 }
 
 // 12, "the seventeenth": a vote that would open a tally, by an author who opened as many as one may.
@@ -103,29 +90,22 @@ fn used_up(e: Engine, message: Message) -> bool
     requires { Sized e }
     ensures { result ≡ refusals.used_up (message_of message) (state e) }
 {
-    match message {
-        Message::Stated(_) => false,
-        Message::Vote {
-            view,
-            height,
-            name,
-            author,
-        } => {
-            let t = Certificate {
-                view,
-                height,
-                name,
-                mask: 0,
-            };
-            let tallies = e.tallies;
-            let open = tallies.any_of(t);
-            let opened = tallies.opened_by(author);
-            !open & ((Settings::MOST_OPENED as usize) <= opened)
-        }
-        Message::Blame { .. } => false,
-        Message::BlameSet { .. } => false,
-        Message::Status { .. } => false,
-    }
+    let Message::Vote {
+        view,
+        height,
+        name,
+        author,
+    } = message
+    else {
+        return false;
+    };
+    let t = Certificate {
+        view,
+        height,
+        name,
+        mask: 0,
+    };
+    !e.tallies.any_of(t) & ((Settings::MOST_OPENED as usize) <= e.tallies.opened_by(author))
 }
 
 // What is done with a message that may be heard: 12, "tested after 5 and before 6".
@@ -150,8 +130,8 @@ pub fn step(e: Engine, message: &[u8], out: &mut [u8]) -> Turn
     }
     let read = reading::read_message(message);
     match read {
-        Read::Unreadable => refused(4, e),
-        Read::Readable(m) => {
+        None => refused(4, e),
+        Some(m) => {
             let settings = e.settings;
             if !allowed::message_allowed(settings, m) {
                 return refused(5, e);

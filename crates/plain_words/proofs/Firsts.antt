@@ -1,12 +1,12 @@
 -- The first items of an array: as a loop meets them, one more, one changed; each law once for every table. Assumes nothing.
 use Prim.Native.Nat.{ℕ, zero, suc, ◌+◌, ◌-◌, ◌<◌, ◌≤◌}
 use mathlib.Core.Path.{◌≡◌, refl, sym, ap, ◌∙◌}
-use mathlib.Core.List.{List, [], ◌∷◌, ◌++◌}
+use mathlib.Core.List.{List, [], ◌∷◌, ◌++◌, map}
 use native.Mathlib.Omega.{arith}
 use native.Mathlib.Nat.{le_of_suc-le-suc}
 use native.Mathlib.Numerals.{add-one}
-use lib.ListN.{length, get_or, set, drop}
-use lib.Seq.{drop-nil}
+use lib.ListN.{length, get_or, set, take, drop}
+use lib.Seq.{drop-nil, take-nil}
 use Rattle.plain_words.specs.Places.{firsts}
 
 module _ {A B : Type 0} (f : A → B) where
@@ -16,6 +16,14 @@ module _ {A B : Type 0} (f : A → B) where
   firsts_long [] (suc n) h = absurd (omega arith)
   firsts_long (x ∷ xs) zero h = refl
   firsts_long (x ∷ xs) (suc n) h = ap suc (firsts_long xs n (le_of_suc-le-suc h))
+
+  -- from a place on, as the first items from there
+  pub firsts_drop : (xs : List A) (n i : ℕ) → drop i (firsts f xs n) ≡ map f (take (n - i) (drop i xs))
+  unfolding firsts
+  firsts_drop xs n zero = let e : n ≡ n - 0 = omega arith in ap (λ (j : ℕ). map f (take j xs)) e
+  firsts_drop [] n (suc i) = ap (λ (l : List A). drop (suc i) (map f l)) (take-nil n) ∙ sym (ap (map f) (take-nil (n - suc i)))
+  firsts_drop (x ∷ xs) zero (suc i) = let e : 0 ≡ 0 - suc i = omega arith in ap (λ (j : ℕ). map f (take j (drop i xs))) e
+  firsts_drop (x ∷ xs) (suc n) (suc i) = let e : n - i ≡ suc n - suc i = omega arith in firsts_drop xs n i ∙ ap (λ (j : ℕ). map f (take j (drop i xs))) e
 
   -- past the end nothing is left
   pub firsts_done : (xs : List A) (n i : ℕ) → n ≤ i → drop i (firsts f xs n) ≡ []

@@ -1,11 +1,9 @@
 -- What the plain engine's certificate means in the words of the rules, and when a statement's numbers fit it. Assumes nothing.
-use Rattle.std.specs.Prelude.{ℕ, ◌^◌, ◌<◌, ◌≡◌, true, false}
-use Rattle.std.proofs.Math.Option.{Option, none, some}
+use Rattle.std.specs.Prelude.{ℕ, ◌^◌, ◌<◌, ◌≡◌, true, false, Option, Some, None}
+use Rattle.std.proofs.Math.Option as math
 use Rattle.fields.specs.Names.{name_of}
 use Rattle.rules.specs.Words as words
 use Rattle.plain_words.specs.declared.Certificate.{Certificate}
-use Rattle.plain_words.specs.declared.Noted.{Noted}
-use Rattle.plain_words.specs.declared.Noted.TheVariants.{Never, At}
 
 -- a block of a view, with its voters
 unfoldable pub certificate_of : Certificate → words.Certificate
@@ -18,6 +16,6 @@ pub record Certifies (x : words.Statement) : Type 0 where
   pub above : x.is_new_view ≡ false → 0 < x.height
 
 -- a clock that was noted, if any
-abbrev pub noted_of : Noted → Option ℕ
-noted_of Never = none
-noted_of (At c) = some c
+abbrev pub noted_of : Option ℕ → math.Option ℕ
+noted_of None = math.none
+noted_of (Some c) = math.some c

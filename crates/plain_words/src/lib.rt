@@ -2,9 +2,8 @@
 // conflict, the certificate that one carries, its own block, rank.
 #![tactic(auto)]
 
-ghost use Rattle.std.specs.Prelude.{◌≡◌, ◌^◌, ◌<◌};
+ghost use Rattle.std.specs.Prelude.{◌≡◌};
 ghost use Rattle.std.proofs.Math.Option.{none};
-ghost use Rattle.rules.specs.Limits.{mask_bits};
 ghost use Rattle.rules.specs.Words as words;
 ghost use Rattle.wire.specs.Meaning.{statement_of};
 ghost use Rattle.plain_words.specs.Meaning.{certificate_of, Certifies};
@@ -21,29 +20,14 @@ pub struct Certificate {
     pub mask: u16,
 }
 
-// A clock that was noted, or that none was.
-#[derive(Clone, Copy)]
-pub enum Noted {
-    Never,
-    At(u32),
-}
-
-// A mask as a word, with its bound.
-pub fn wide(mask: u16) -> u64
-    ensures { (result ≡ mask) × (result < 2 ^ mask_bits) }
-{
-    mask as u64
-}
-
 // Genesis.
 pub fn genesis() -> Certificate
     ensures { certificate_of result ≡ words.genesis }
 {
-    let name = Name::zero();
     Certificate {
         view: 0,
         height: 0,
-        name,
+        name: Name::zero(),
         mask: 0,
     }
 }
@@ -52,13 +36,11 @@ pub fn genesis() -> Certificate
 pub fn same_statement(x: Statement, y: Statement) -> bool
     ensures { result ≡ words.same_statement (statement_of x none) (statement_of y none) }
 {
-    let name = x.name.same(y.name);
-    let link = x.link.same(y.link);
     (x.is_new_view == y.is_new_view)
         & (x.view == y.view)
         & (x.height == y.height)
-        & name
-        & link
+        & (x.name == y.name)
+        & (x.link == y.link)
         & (x.author == y.author)
 }
 
@@ -66,34 +48,28 @@ pub fn same_statement(x: Statement, y: Statement) -> bool
 fn against(x: Statement, y: Statement) -> bool
     ensures { result ≡ words.against (statement_of x none) (statement_of y none) }
 {
-    let name = x.name.same(y.name);
-    let link = x.link.same(y.name);
     if x.is_new_view {
         return y.is_new_view | (y.height <= x.height);
     }
-    let next = (y.height as u64) + 1;
-    (!y.is_new_view & (x.height == y.height) & !name) | (((x.height as u64) == next) & !link)
+    let next = u64::from(x.height) == u64::from(y.height) + 1;
+    (!y.is_new_view & (x.height == y.height) & (x.name != y.name)) | (next & (x.link != y.name))
 }
 
 // "Two different statements of one view conflict when" either has something against the other.
 pub fn conflict(x: Statement, y: Statement) -> bool
     ensures { result ≡ words.conflict (statement_of x none) (statement_of y none) }
 {
-    let same = same_statement(x, y);
-    let one = against(x, y);
-    let other = against(y, x);
-    !same & (x.view == y.view) & (one | other)
+    !same_statement(x, y) & (x.view == y.view) & (against(x, y) | against(y, x))
 }
 
 // A statement's own block in its view, with a mask.
 pub fn own_block(x: Statement, mask: u16) -> Certificate
     ensures { certificate_of result ≡ words.own_block (statement_of x none) mask }
 {
-    let name = x.name;
     Certificate {
         view: x.view,
         height: x.height,
-        name,
+        name: x.name,
         mask,
     }
 }
@@ -104,19 +80,17 @@ pub fn certificate_of(x: Statement) -> Certificate
     ensures { certificate_of result ≡ words.certificate (statement_of x none) }
 {
     if x.is_new_view {
-        let name = x.name;
         return Certificate {
             view: x.link.fourth as u32,
             height: x.height,
-            name,
+            name: x.name,
             mask: x.mask,
         };
     }
-    let name = x.link;
     Certificate {
         view: x.view,
         height: x.height - 1,
-        name,
+        name: x.link,
         mask: x.mask,
     }
 }
@@ -125,23 +99,19 @@ pub fn certificate_of(x: Statement) -> Certificate
 pub fn same_block(t: Certificate, u: Certificate) -> bool
     ensures { result ≡ words.same_block (certificate_of t) (certificate_of u) }
 {
-    let name = t.name.same(u.name);
-    (t.view == u.view) & (t.height == u.height) & name
+    (t.view == u.view) & (t.height == u.height) & (t.name == u.name)
 }
 
 // "Rank is view, then height".
 pub fn below(t: Certificate, u: Certificate) -> bool
     ensures { result ≡ words.below (certificate_of t) (certificate_of u) }
 {
-    (t.view < u.view) | ((t.view == u.view) & (t.height < u.height))
+    (t.view, t.height) < (u.view, u.height)
 }
 
 // "'Highest' breaks ties by the smaller name in byte order".
 pub fn higher(t: Certificate, u: Certificate) -> bool
     ensures { result ≡ words.higher (certificate_of t) (certificate_of u) }
 {
-    let above = below(u, t);
-    let under = below(t, u);
-    let name = t.name.less(u.name);
-    above | (!under & name)
+    below(u, t) | (!below(t, u) & (t.name < u.name))
 }

@@ -5,7 +5,7 @@ use Rattle.plain.proofs.Offers.{name_short, name_good}
 use Rattle.plain.proofs.plain_offer.Goals as goal
 
 pub returns-then-name-ne32 : goal.returns-then-name-ne32
-returns-then-name-ne32 c = let a = c.args in name_short a.name.now a.list.now a.out.now c.if-name-ne32.true c.refuse.ensures
+returns-then-name-ne32 c = let a = c.args in name_short a.name.now a.list.now a.out.now c.if-name-ne32.true c.answer.ensures
 
 pub answered-requires : goal.answered-requires
 unfolding kind_of bytes_of input_of

@@ -12,4 +12,4 @@ pub returns : goal.returns
 unfolding inputs.below_lock state statement_of
 returns c =
     let a = c.args in
-    ap (λ (t : Bool). a.x.is_new_view && t) (c.below-below.ensures ∙ ap (λ (t : words.Certificate). words.below t (certificate_of a.e.lock)) c.certificate_of-certificate.ensures)
+    ap (λ (t : Bool). a.x.is_new_view && t) (c.below.ensures ∙ ap (λ (t : words.Certificate). words.below t (certificate_of a.e.lock)) c.certificate_of.ensures)

@@ -6,12 +6,8 @@ use Rattle.settings.specs.Made.{settings_of}
 use Rattle.plain_tables.specs.Meaning.{state}
 use Rattle.plain_acts.proofs.blame_full.Goals as goal
 
-pub quorum-requires : goal.quorum-requires
-quorum-requires c =
-    c.wide.ensures.1
-
 pub returns : goal.returns
 unfolding inputs.blame_full state
 returns c =
     let a = c.args in
-    c.quorum.ensures ∙ ap (quorum (settings_of a.e.settings)) (c.wide.ensures.0 ∙ c.blames_of.ensures)
+    c.quorum.ensures ∙ ap (quorum (settings_of a.e.settings)) (c.from.ensures ∙ c.blames_of.ensures)

@@ -5,14 +5,6 @@ use Rattle.rules.specs.Inputs as inputs
 use Rattle.plain_tables.specs.Meaning.{state}
 use Rattle.plain_acts.proofs.blames_of.Goals as goal
 
-pub offset_bounds-e-v : goal.offset_bounds-e-v
-offset_bounds-e-v c =
-    omega arith
-
-pub bounds-e-v : goal.bounds-e-v
-bounds-e-v c =
-    omega arith
-
 pub returns : goal.returns
 unfolding inputs.blames_of state
 returns c =

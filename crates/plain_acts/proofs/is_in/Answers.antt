@@ -1,5 +1,5 @@
 -- `plain_acts::is_in` meets its contract. Assumes nothing.
-use Rattle.plain_acts.proofs.Laws.{in_view_lem, in_waiting, in_stopped}
+use Rattle.plain_acts.proofs.Laws.{in_view_lem, in_other}
 use Rattle.plain_acts.proofs.is_in.Goals as goal
 
 pub returns-in-InView : goal.returns-in-InView
@@ -7,12 +7,7 @@ returns-in-InView c =
     let a = c.args in
     in_view_lem a.e a.view c.in-InView.is
 
-pub returns-in-Waiting : goal.returns-in-Waiting
-returns-in-Waiting c =
+pub returns-in_default : goal.returns-in_default
+returns-in_default c =
     let a = c.args in
-    in_waiting a.e a.view _ c.in-Waiting.is
-
-pub returns-in-Stopped : goal.returns-in-Stopped
-returns-in-Stopped c =
-    let a = c.args in
-    in_stopped a.e a.view _ c.in-Stopped.is
+    in_other a.e a.view c.in_default.not-InView

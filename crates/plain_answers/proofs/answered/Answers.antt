@@ -17,24 +17,24 @@ returns-then-number-ne0 c =
     let args = c.args in
     is_barred args.list.now args.out.now (input_of args.kind args.input.now) c.barred-number.ensures c.if-number-ne0.true c.refuse.ensures
 
-pub fold-folded-requires : goal.fold-folded-requires
-fold-folded-requires c = let a = c.args in open_list a.list.now a.out.now c.barred-number.ensures c.if-number-ne0.false
+pub fold-requires : goal.fold-requires
+fold-requires c = let a = c.args in open_list a.list.now a.out.now c.barred-number.ensures c.if-number-ne0.false
 
 pub slice_bounds-enter-end : goal.slice_bounds-enter-end
 slice_bounds-enter-end c =
     let args = c.args in
     let barred = c.barred-number in
     let if1 = c.if-number-ne0 in
-    let fold = c.fold-folded in let if2 = c.if-folded in
+    let fold = c.fold in let if2 = c.in-Some in
     let turn_by = c.turn_by-t in
-    count_fits args.list.now args.out.now (input_of args.kind args.input.now) barred.ensures if1.false fold.ensures if2.true turn_by.ensures (let n : length turn_by.new.out ≡ least_out_small = turn_by.auto.out ∙ length-replicate {A = ℕ} least_out_small 0 in n)
+    count_fits args.list.now args.out.now (input_of args.kind args.input.now) barred.ensures if1.false fold.ensures if2.is turn_by.ensures (let n : length turn_by.new.out ≡ least_out_small = turn_by.auto.out ∙ length-replicate {A = ℕ} least_out_small 0 in n)
 
 pub enter-requires : goal.enter-requires
 enter-requires c =
     let barred = c.barred-number in
     let if1 = c.if-number-ne0 in
-    let fold = c.fold-folded in
-    let if2 = c.if-folded in let turn_by = c.turn_by-t in
+    let fold = c.fold in
+    let if2 = c.in-Some in let turn_by = c.turn_by-t in
     let a = c.args in
     let m =
     may_enter
@@ -44,7 +44,7 @@ enter-requires c =
     barred.ensures
     if1.false
     fold.ensures
-    if2.true
+    if2.is
     turn_by.ensures
     (let n : length turn_by.new.out ≡ least_out_small = turn_by.auto.out ∙ length-replicate {A = ℕ} least_out_small 0 in n)
     (sym c.requires.kind)
@@ -53,18 +53,18 @@ enter-requires c =
     (handed a.kind a.input.now c.requires.named) in
     record { list_value = m.0; number_bound = m.1 }
 
-pub returns-then-folded : goal.returns-then-folded
-returns-then-folded c =
-    let barred = c.barred-number in
-    let if1 = c.if-number-ne0 in
-    let fold = c.fold-folded in
-    let if2 = c.if-folded in
-    let turn_by = c.turn_by-t in let enter = c.enter in
-    let a = c.args in
-    answered_by a.list.now a.out.now (input_of a.kind a.input.now) barred.ensures if1.false fold.ensures if2.true turn_by.ensures (sym c.requires.kind) (sym c.requires.bytes) refl enter.ensures
-
 pub returns : goal.returns
 returns c =
+    let barred = c.barred-number in
+    let if1 = c.if-number-ne0 in
+    let fold = c.fold in
+    let if2 = c.in-Some in
+    let turn_by = c.turn_by-t in let enter = c.enter in
+    let a = c.args in
+    answered_by a.list.now a.out.now (input_of a.kind a.input.now) barred.ensures if1.false fold.ensures if2.is turn_by.ensures (sym c.requires.kind) (sym c.requires.bytes) refl enter.ensures
+
+pub returns-in_default : goal.returns-in_default
+returns-in_default c =
     let args = c.args in let barred = c.barred-number in
     let if1 = c.if-number-ne0 in
-    no_state args.list.now args.out.now (input_of args.kind args.input.now) barred.ensures if1.false c.fold-folded.ensures c.if-folded.false c.refuse-2.ensures
+    no_state args.list.now args.out.now (input_of args.kind args.input.now) barred.ensures if1.false c.fold.ensures c.in_default.is c.answer.ensures

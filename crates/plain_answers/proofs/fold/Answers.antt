@@ -20,7 +20,6 @@ overflow_sub-count c = omega (arith, (lengths c.args.list.now c.requires.0).0)
 pub loop-place-init : goal.loop-place-init
 loop-place-init c =
     let args = c.args in let pre = c.requires in (
-      omega arith,
       slots_counted _,
       length-replicate {A = ℕ} least_out_small 0,
       fresh_is_whole args.list.now c.settings_in.result c.fresh-engine.result (good_head args.list.now c.settings_in.result pre.1 c.settings_in.ensures.0) c.fresh-engine.ensures,
@@ -28,26 +27,17 @@ loop-place-init c =
     )
 
 pub held_at-requires : goal.held_at-requires
-held_at-requires c = (c.requires.0, rw (← c.loop-place.invariant.1) c.loop-place-test.true)
+held_at-requires c = (c.requires.0, rw (← c.loop-place.invariant.0) c.loop-place-test.true)
 
-pub loop-place-preserved-in-Nothing : goal.loop-place-preserved-in-Nothing
-loop-place-preserved-in-Nothing c =
+pub loop-place-preserved-in-None : goal.loop-place-preserved-in-None
+loop-place-preserved-in-None c =
     let args = c.args in let loop = c.loop-place in
-    (omega arith, loop.invariant.1, loop.invariant.2, loop.invariant.3, fold_skips args.list.now loop.place loop.engine loop.invariant.4 c.held_at.ensures c.in-Nothing.is)
-
-pub slice_bounds-turn_by-count : goal.slice_bounds-turn_by-count
-slice_bounds-turn_by-count c = omega (arith, (held_input c.held_at.ensures _ _ _ c.in-Input.is).0)
-
-pub slice_bounds-turn_by-start : goal.slice_bounds-turn_by-start
-slice_bounds-turn_by-start c = omega (arith, (held_input c.held_at.ensures _ _ _ c.in-Input.is).0)
-
-pub slice_bounds-turn_by-end : goal.slice_bounds-turn_by-end
-slice_bounds-turn_by-end c = (held_input c.held_at.ensures _ _ _ c.in-Input.is).1
+    (loop.invariant.0, loop.invariant.1, loop.invariant.2, fold_skips args.list.now loop.place loop.engine loop.invariant.3 c.held_at.ensures c.in-None.is)
 
 pub turn_by-t-requires : goal.turn_by-t-requires
 turn_by-t-requires c =
     let loop = c.loop-place in let held_at = c.held_at in
-    (loop.invariant.3, name_long _ _ (held_input held_at.ensures _ _ _ c.in-Input.is).2, omega (arith, loop.invariant.2))
+    (loop.invariant.2, name_long _ _ (held_input held_at.ensures _ c.in-Some.is), omega (arith, loop.invariant.1))
 
 pub returns-then-not-is_kept : goal.returns-then-not-is_kept
 returns-then-not-is_kept c =
@@ -55,13 +45,7 @@ returns-then-not-is_kept c =
     let loop = c.loop-place in
     let held_at = c.held_at in
     let turn_by = c.turn_by-t in
-    fold_stops args.list.now loop.place loop.engine loop.invariant.4 held_at.ensures c.in-Input.is turn_by.ensures c.is_kept.ensures loop.invariant.3 c.if-not-is_kept.true
-
-pub overflow_add-place-in-Input : goal.overflow_add-place-in-Input
-overflow_add-place-in-Input c =
-    let good = c.well_formed in
-    let loop-test = c.loop-place-test in
-    omega (arith, loop-test.true, good.0.0)
+    fold_stops args.list.now loop.place loop.engine loop.invariant.3 held_at.ensures c.in-Some.is turn_by.ensures c.is_kept.ensures c.if-not-is_kept.true
 
 pub loop-place-preserved : goal.loop-place-preserved
 loop-place-preserved c =
@@ -70,7 +54,7 @@ loop-place-preserved c =
     let held_at = c.held_at in
     let turn_by = c.turn_by-t in
     let loop-test = c.loop-place-test in
-    (omega (arith, loop-test.true), loop.invariant.1, turn_by.auto.out ∙ loop.invariant.2, turn_by.ensures.whole, fold_next args.list.now loop.place loop.engine loop.invariant.4 held_at.ensures c.in-Input.is turn_by.ensures c.is_kept.ensures c.if-not-is_kept.false)
+    (loop.invariant.0, turn_by.auto.out ∙ loop.invariant.1, turn_by.ensures.whole, fold_next args.list.now loop.place loop.engine loop.invariant.3 held_at.ensures c.in-Some.is turn_by.ensures c.is_kept.ensures c.if-not-is_kept.false)
 
 pub returns : goal.returns
-returns c = let l = c.loop-place in fold_ends c.args.list.now l.place l.engine l.invariant.4 l.invariant.3 (omega (arith, l.invariant.1, c.loop-place-test.false))
+returns c = let l = c.loop-place in fold_ends c.args.list.now l.place l.engine l.invariant.3 l.invariant.2 (omega (arith, l.invariant.0, c.loop-place-test.false))

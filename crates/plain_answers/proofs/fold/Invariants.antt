@@ -11,7 +11,4 @@ use Rattle.plain_answers.proofs.fold.Given as goal
 
 abbrev pub invariant-loop-place : goal.invariant-loop-place
 invariant-loop-place l =
-    (l.place ≤ l.count) × (l.count ≡ slots_in l.list) × (length l.out ≡ least_out_small) × Whole l.engine × (folded (state l.engine) (inputs_after l.list l.place) ≡ held l.list)
-
-abbrev pub decreases-loop-place : goal.decreases-loop-place
-decreases-loop-place l = l.count - l.place
+    (l.count ≡ slots_in l.list) × (length l.out ≡ least_out_small) × Whole l.engine × (folded (state l.engine) (inputs_after l.list l.place) ≡ held l.list)

@@ -30,8 +30,8 @@ returns-then-blame_full c =
 
 pub both-next-requires : goal.both-next-requires
 both-next-requires c =
-    let current = c.current-current in let pair = c.pair-two in
-    let t = c.in-Both in
+    let current = c.current-current in let pair = c.pair in
+    let t = c.in-Some in
     let l = two_linked c.args.e c.requires.0 current.result current.ensures.is t.x t.y (ap two_of (sym t.is) ∙ pair.ensures) in
     (l.0, l.1, omega (arith, c.requires.1))
 
@@ -41,20 +41,20 @@ voting_all-requires c =
     let o = c.in_order-order in
     (o.ensures.within, c.requires.0.sized, c.requires.0.free, order_votable c.args.e c.requires.0 current.result current.ensures.is o.result o.ensures.is, omega (arith, c.requires.1, o.ensures.within.most))
 
-pub returns-in-Both : goal.returns-in-Both
+pub returns-in-Some : goal.returns-in-Some
 unfolding statement_of held_of message
-returns-in-Both c =
+returns-in-Some c =
     let blame-full = c.blame_full in
     let if1 = c.if-blame_full in
     let current = c.current-current in
-    let pair = c.pair-two in let both = c.both-next in
-    let t = c.in-Both in
-    arrives_two c.args.e _ c.args.at (sym blame-full.ensures ∙ if1.false) current.result (current_is c.args.e c.requires.0 current.result current.ensures.is) (held_of t.x) (held_of t.y) (ap two_of (sym t.is) ∙ pair.ensures) both.ensures c.quit-engine-in-Both.ensures
+    let pair = c.pair in let both = c.both-next in
+    let t = c.in-Some in
+    arrives_two c.args.e _ c.args.at (sym blame-full.ensures ∙ if1.false) current.result (current_is c.args.e c.requires.0 current.result current.ensures.is) (held_of t.x) (held_of t.y) (ap two_of (sym t.is) ∙ pair.ensures) both.ensures c.quit-engine-in-Some.ensures
 
-pub returns-in-Neither : goal.returns-in-Neither
-returns-in-Neither c =
+pub returns-in-None : goal.returns-in-None
+returns-in-None c =
     let blame-full = c.blame_full in
     let if1 = c.if-blame_full in
-    let current = c.current-current in let pair = c.pair-two in
+    let current = c.current-current in let pair = c.pair in
     let in_order_lem = c.in_order-order in
-    arrives_votes c.args.e _ c.args.at (sym blame-full.ensures ∙ if1.false) current.result (current_is c.args.e c.requires.0 current.result current.ensures.is) in_order_lem.result in_order_lem.ensures.is (ap two_of (sym c.in-Neither.is) ∙ pair.ensures) c.voting_all.ensures
+    arrives_votes c.args.e _ c.args.at (sym blame-full.ensures ∙ if1.false) current.result (current_is c.args.e c.requires.0 current.result current.ensures.is) in_order_lem.result in_order_lem.ensures.is (ap two_of (sym c.in-None.is) ∙ pair.ensures) c.voting_all.ensures

@@ -12,15 +12,6 @@ loop-i-init c =
     let p = c.requires in
     record { up = omega arith; long = refl; space = omega (arith, p.4); sized = p.1; free = p.2; votable = p.3; does = λ o' r y. y }
 
-pub offset_bounds-xs-i : goal.offset_bounds-xs-i
-offset_bounds-xs-i c = let p = c.requires in omega (arith, p.0.most, c.loop-i-test.true)
-
-pub bounds-xs-i : goal.bounds-xs-i
-bounds-xs-i c = let p = c.requires in omega (arith, p.0.long, p.0.most, c.loop-i-test.true)
-
-pub overflow_add-i : goal.overflow_add-i
-overflow_add-i c = let p = c.requires in omega (arith, p.0.most, c.loop-i-test.true)
-
 pub voting-w-requires : goal.voting-w-requires
 voting-w-requires c =
     let a = c.args in let p = c.requires in
@@ -28,9 +19,6 @@ voting-w-requires c =
     let x = get_or a.xs.items l.i blank in
     let v = next_votable a.xs p.0 blank l.i c.loop-i-test.true (state l.engine).tallies l.invariant.votable in
     (l.invariant.sized, l.invariant.free, held_certifies x v.certifies, held_linked x v.certifies, omega (arith, l.invariant.space, c.loop-i-test.true))
-
-pub loop-i-smaller : goal.loop-i-smaller
-loop-i-smaller c = omega (arith, c.loop-i-test.true)
 
 pub loop-i-preserved : goal.loop-i-preserved
 loop-i-preserved c =

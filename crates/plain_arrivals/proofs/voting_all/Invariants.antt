@@ -5,6 +5,3 @@ use Rattle.plain_arrivals.proofs.voting_all.Given as goal
 
 abbrev pub invariant-loop-i : goal.invariant-loop-i
 invariant-loop-i l = Voting l.xs l.initial.engine l.initial.out l.at l.out l.i l.engine l.next
-
-abbrev pub decreases-loop-i : goal.decreases-loop-i
-decreases-loop-i l = l.xs.count - l.i

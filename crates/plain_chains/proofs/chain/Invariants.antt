@@ -11,6 +11,3 @@ use Rattle.plain_chains.proofs.chain.Given as goal
 abbrev pub invariant-loop-k : goal.invariant-loop-k
 invariant-loop-k l =
     Walk (statements l.xs) (chain_to (statements l.xs) l.initial.k (name_of l.initial.link) (drop l.initial.k (firsts name_of l.initial.items l.count))) l.items l.count l.k (name_of l.link) room
-
-abbrev pub decreases-loop-k : goal.decreases-loop-k
-decreases-loop-k l = l.k

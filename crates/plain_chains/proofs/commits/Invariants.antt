@@ -1,5 +1,5 @@
 -- `plain_chains::commits` meets its contract: what is left of the due ones joins the log as it then stands. Assumes nothing.
-use Prim.Native.Nat.{◌≤◌, ◌-◌}
+use Prim.Native.Nat.{◌≤◌}
 use mathlib.Core.Path.{◌≡◌}
 use lib.ListN.{drop}
 use Rattle.rules.specs.Inputs.{commits}
@@ -11,8 +11,5 @@ use Rattle.plain_chains.proofs.commits.Given as goal
 
 abbrev pub invariant-loop-i : goal.invariant-loop-i
 invariant-loop-i l =
-    (l.i ≤ l.n) × (Within room l.names.items l.names.count)
+    (Within room l.names.items l.names.count)
     × (commits (statements l.xs) (statements l.due) (tables.names l.initial.names) ≡ commits (statements l.xs) (drop l.i (firsts held_of l.due.items l.due.count)) (tables.names l.names))
-
-abbrev pub decreases-loop-i : goal.decreases-loop-i
-decreases-loop-i l = l.n - l.i

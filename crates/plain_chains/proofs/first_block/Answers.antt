@@ -1,32 +1,24 @@
--- Answers to the goals of `plain_chains::first_block`. Assumes nothing.
-use mathlib.Core.Path.{refl, sym, ◌∙◌}
-use native.Mathlib.Omega.{arith}
-use Rattle.plain_statements.specs.Meaning.{held_of, statements}
-use Rattle.plain_chains.proofs.Parts.{first_done, first_here, first_next}
+-- `plain_chains::first_block` meets its contract. Assumes nothing.
+use mathlib.Core.Path.{◌≡◌, sym, ap, ◌∙◌}
+use lib.ListN.{take}
+use Rattle.std.proofs.Common.{rules, tests}
+use Rattle.std.proofs.lemmas.Iterator.{YieldsList-from_slice}
+use Rattle.std.proofs.lemmas.Iterator.Search.{find_from_yields_List}
+use Rattle.fields.specs.Names.{name_of}
+use Rattle.rules.specs.Inputs.{is_block}
+use Rattle.plain_words.proofs.Searches.{meant, find_firsts}
+use Rattle.plain_statements.specs.Meaning.{held_of, found_of, statements}
+use Rattle.plain_statements.specs.declared.Held.{Held}
+use Rattle.plain_statements.proofs.Laws.{found_meant}
 use Rattle.plain_chains.proofs.first_block.Goals as goal
 
-pub loop-i-init : goal.loop-i-init
-unfolding statements
-loop-i-init c = (omega arith, refl)
-
-pub returns-then-is_block : goal.returns-then-is_block
-returns-then-is_block c =
-    let t = c.args.xs in
-    let w = c.requires in
-    let l = c.loop-i in
-    sym (l.invariant.1 ∙ first_here held_of _ t.items t.count _ l.i (omega (arith, w.long, w.most)) c.loop-i-test.true (sym c.is_block.ensures ∙ c.if-is_block.true))
-
-pub loop-i-smaller : goal.loop-i-smaller
-loop-i-smaller c = omega arith
-
-pub loop-i-preserved : goal.loop-i-preserved
-loop-i-preserved c =
-    let t = c.args.xs in
-    let w = c.requires in
-    let l = c.loop-i in
-    (omega arith, l.invariant.1 ∙ first_next held_of _ t.items t.count _ l.i (omega (arith, w.long, w.most)) c.loop-i-test.true (sym c.is_block.ensures ∙ c.if-is_block.false))
-
 pub returns : goal.returns
+unfolding statements
 returns c =
-    let t = c.args.xs in
-    sym (c.loop-i.invariant.1 ∙ first_done held_of _ t.items t.count c.loop-i.i c.loop-i-test.false)
+    let a = c.args in let test = is_block a.height (name_of a.name) in
+    ap found_of c.copied.ensures
+    ∙ found_meant _
+    ∙ ap (meant held_of)
+    (find_from_yields_List (λ (h : Held). test (held_of h)) _ _ c.find.result c.find.ensures.ran (YieldsList-from_slice (take a.xs.count a.xs.items) (cc))
+    (λ h b q k. search (rules, tests)))
+    ∙ find_firsts held_of test a.xs.items a.xs.count

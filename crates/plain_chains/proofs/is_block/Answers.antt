@@ -6,4 +6,4 @@ use Rattle.plain_chains.proofs.is_block.Goals as goal
 
 pub returns : goal.returns
 unfolding is_block held_of statement_of
-returns c = rw c.same-same.ensures
+returns c = rw c.eq.ensures

@@ -8,6 +8,3 @@ use Rattle.plain_chains.proofs.merge.Given as goal
 
 abbrev pub invariant-loop-k : goal.invariant-loop-k
 invariant-loop-k l = agree l.k (names l.chain) (names l.log) ≡ true
-
-abbrev pub decreases-loop-k : goal.decreases-loop-k
-decreases-loop-k l = l.chain.count - l.k

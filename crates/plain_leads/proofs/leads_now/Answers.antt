@@ -15,4 +15,4 @@ pub overflow_add-due-2 : goal.overflow_add-due-2
 overflow_add-due-2 c = omega (arith, (sizes (settings_of c.args.e.settings) c.requires.good).mostD)
 
 pub returns : goal.returns
-returns c = moment_parts c.args.e c.leads-leading.ensures
+returns c = rw (c.from.ensures, c.from-2.ensures) (moment_parts c.args.e c.leads-leading.ensures)

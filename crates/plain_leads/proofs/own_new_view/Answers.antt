@@ -4,8 +4,8 @@ use Rattle.plain_acts.proofs.Laws.{own_small}
 use Rattle.plain_leads.proofs.Laws.{made_is}
 use Rattle.plain_leads.proofs.own_new_view.Goals as goal
 
-pub overflow_cast-statement : goal.overflow_cast-statement
-overflow_cast-statement c = record { fits = omega (arith, own_small c.args.e c.requires) }
+pub overflow_cast-result : goal.overflow_cast-result
+overflow_cast-result c = record { fits = omega (arith, own_small c.args.e c.requires) }
 
 pub returns : goal.returns
-returns c = made_is c.args.e c.highest-best.result c.highest-best.ensures
+returns c = rw c.from.ensures (made_is c.args.e c.highest-best.result c.highest-best.ensures)

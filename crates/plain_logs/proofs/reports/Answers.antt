@@ -11,12 +11,6 @@ use Rattle.plain_logs.proofs.reports.Goals as goal
 pub loop-k-init : goal.loop-k-init
 loop-k-init c = let p = c.requires in record { up = p.1; long = refl; space = p.2; says = λ o' r y. y }
 
-pub offset_bounds-log-k : goal.offset_bounds-log-k
-offset_bounds-log-k c = let p = c.requires in omega (arith, p.0.most, c.loop-k-test.true)
-
-pub bounds-log-k : goal.bounds-log-k
-bounds-log-k c = let p = c.requires in omega (arith, p.0.long, p.0.most, c.loop-k-test.true)
-
 pub overflow_add-k : goal.overflow_add-k
 overflow_add-k c = let p = c.requires in omega (arith, p.0.most, c.loop-k-test.true)
 
@@ -28,9 +22,6 @@ committed-next-requires c =
     let l = c.loop-k in
     let log = c.args.log in
     omega (arith, l.invariant.space, c.loop-k-test.true, length_committed (l.k + 1) (name_of (get_or log.items l.k (record { first = 0; second = 0; third = 0; fourth = 0 }))))
-
-pub loop-k-smaller : goal.loop-k-smaller
-loop-k-smaller c = omega (arith, c.loop-k-test.true)
 
 pub loop-k-preserved : goal.loop-k-preserved
 loop-k-preserved c =

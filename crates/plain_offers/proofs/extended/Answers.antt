@@ -19,8 +19,8 @@ use Rattle.plain_acts.proofs.Laws.{own_small}
 use Rattle.plain_offers.proofs.Laws.{extension_made, extension_none, extendable_is, above_is}
 use Rattle.plain_offers.proofs.extended.Goals as goal
 
-pub overflow_cast-author : goal.overflow_cast-author
-overflow_cast-author c =
+pub overflow_cast-result : goal.overflow_cast-result
+overflow_cast-result c =
     record { fits = omega (arith, own_small c.args.e c.requires) }
 
 pub overflow_add-result : goal.overflow_add-result
@@ -35,7 +35,7 @@ returns-then-certified-x c =
     let a = c.args in
     let x = statement_of a.x none in
     let held : c.voters-mask.result ≡ words.voters (words.own_block x 0) (state a.e).tallies = c.voters-mask.ensures ∙ ap (λ (t : words.Certificate). words.voters t (tallies a.e.tallies)) c.own_block.ensures in
-    let extends = extendable_is x (name_of a.name) (state a.e) c.voters-mask.result held c.quorum-certified.result (c.quorum-certified.ensures ∙ ap (quorum (settings_of a.e.settings)) c.wide.ensures.0) in
+    let extends = extendable_is x (name_of a.name) (state a.e) c.voters-mask.result held c.quorum-certified.result (c.quorum-certified.ensures ∙ ap (quorum (settings_of a.e.settings)) c.from.ensures) in
     ap (λ (m : messages.Message). some m) (above_is x (name_of a.name) (state a.e) c.voters-mask.result held)
     ∙ extension_made x (name_of a.name) (state a.e) (sym extends ∙ c.if-certified-x.true)
 
@@ -45,5 +45,5 @@ returns c =
     let a = c.args in
     let x = statement_of a.x none in
     let held : c.voters-mask.result ≡ words.voters (words.own_block x 0) (state a.e).tallies = c.voters-mask.ensures ∙ ap (λ (t : words.Certificate). words.voters t (tallies a.e.tallies)) c.own_block.ensures in
-    let extends = extendable_is x (name_of a.name) (state a.e) c.voters-mask.result held c.quorum-certified.result (c.quorum-certified.ensures ∙ ap (quorum (settings_of a.e.settings)) c.wide.ensures.0) in
+    let extends = extendable_is x (name_of a.name) (state a.e) c.voters-mask.result held c.quorum-certified.result (c.quorum-certified.ensures ∙ ap (quorum (settings_of a.e.settings)) c.from.ensures) in
     extension_none x (name_of a.name) (state a.e) (sym extends ∙ c.if-certified-x.false)

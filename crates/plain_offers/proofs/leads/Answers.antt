@@ -15,5 +15,4 @@ leader-leader-requires c =
 pub returns : goal.returns
 unfolding inputs.leads state
 returns c =
-    let a = c.args in
-    ap₂ (λ (i : Bool) (l : ℕ). i && eqb l a.e.settings.own) c.is_in-inside.ensures c.leader-leader.ensures
+    rw (c.is_in-inside.ensures, c.leader-leader.ensures, c.from.ensures)

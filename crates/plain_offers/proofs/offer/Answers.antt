@@ -20,29 +20,29 @@ returns-then-not-running c =
 pub handled-w-requires : goal.handled-w-requires
 handled-w-requires c =
     let a = c.args in let pre = c.requires in
-    let offered = c.offered-made in let k = pre.0 in
-    (k, made_allowed (name_of a.name) a.e k pre.1 (message_of (Stated c.in-Propose.x)) (ap offer_of (sym c.in-Propose.is) ∙ offered.ensures), omega (arith, pre.2))
+    let offered = c.offered in let k = pre.0 in
+    (k, made_allowed (name_of a.name) a.e k pre.1 (message_of (Stated c.in-Some.x)) (ap offer_of (sym c.in-Some.is) ∙ offered.ensures), omega (arith, pre.2))
 
 pub if_room-requires : goal.if_room-requires
 if_room-requires c =
     c.handled-w.ensures.now.sized
 
-pub returns-in-Nothing : goal.returns-in-Nothing
-returns-in-Nothing c =
+pub returns-in-None : goal.returns-in-None
+returns-in-None c =
     let a = c.args in let pre = c.requires in
-    let running = c.running in let if1 = c.if-not-running in let offered = c.offered-made in
+    let running = c.running in let if1 = c.if-not-running in let offered = c.offered in
     let k = pre.0 in
     offer_answered (name_of a.name) a.e k pre.1 _ _
-    (turn_is c.refused-in-Nothing.ensures (turn_as (offer_none (name_of a.name) (state a.e) (sym running.ensures ∙ if1.false) (ap offer_of (sym c.in-Nothing.is) ∙ offered.ensures)) (refused_turned 9 a.e _ k.sized)))
+    (turn_is c.refused-in-None.ensures (turn_as (offer_none (name_of a.name) (state a.e) (sym running.ensures ∙ if1.false) (ap offer_of (sym c.in-None.is) ∙ offered.ensures)) (refused_turned 9 a.e _ k.sized)))
 
-pub returns-in-Propose : goal.returns-in-Propose
-returns-in-Propose c =
+pub returns-in-Some : goal.returns-in-Some
+returns-in-Some c =
     let a = c.args in let pre = c.requires in
     let running = c.running in
     let if1 = c.if-not-running in
-    let offered = c.offered-made in let handled = c.handled-w in
+    let offered = c.offered in let handled = c.handled-w in
     let k = pre.0 in
     offer_answered (name_of a.name) a.e k pre.1 _ _
     (turn_is c.if_room.ensures
-    (turn_as (offer_made (name_of a.name) (state a.e) (sym running.ensures ∙ if1.false) (message_of (Stated c.in-Propose.x)) (ap offer_of (sym c.in-Propose.is) ∙ offered.ensures))
-    (room_turned a.e k.sized (message_of (Stated c.in-Propose.x)) _ pre.2 handled.result _ handled.ensures)))
+    (turn_as (offer_made (name_of a.name) (state a.e) (sym running.ensures ∙ if1.false) (message_of (Stated c.in-Some.x)) (ap offer_of (sym c.in-Some.is) ∙ offered.ensures))
+    (room_turned a.e k.sized (message_of (Stated c.in-Some.x)) _ pre.2 handled.result _ handled.ensures)))

@@ -11,19 +11,19 @@ returns-then-not-may_offer c =
     let a = c.args in
     offered_not (name_of a.name) (state a.e) (sym c.may_offer.ensures ∙ c.if-not-may_offer.true)
 
-pub returns-in-Nowhere : goal.returns-in-Nowhere
+pub returns-in-None : goal.returns-in-None
 unfolding state
-returns-in-Nowhere c =
+returns-in-None c =
     let a = c.args in
     let may-offer = c.may_offer in
     let if1 = c.if-not-may_offer in
-    offered_topless (name_of a.name) (state a.e) (sym may-offer.ensures ∙ if1.false) (ap found_of (sym c.in-Nowhere.is) ∙ c.top-found.ensures)
+    offered_topless (name_of a.name) (state a.e) (sym may-offer.ensures ∙ if1.false) (ap found_of (sym c.in-None.is) ∙ c.top.ensures)
 
-pub returns-in-Here : goal.returns-in-Here
+pub returns-in-Some : goal.returns-in-Some
 unfolding state
-returns-in-Here c =
+returns-in-Some c =
     let a = c.args in
     let may-offer = c.may_offer in
-    let if1 = c.if-not-may_offer in let top = c.top-found in let h = c.in-Here.held in
+    let if1 = c.if-not-may_offer in let top = c.top in let h = c.in-Some.held in
     c.extended.ensures ∙ extension_held h (name_of a.name) (state a.e)
-    ∙ offered_top (name_of a.name) (state a.e) (sym may-offer.ensures ∙ if1.false) (held_of h) (ap found_of (sym c.in-Here.is) ∙ top.ensures)
+    ∙ offered_top (name_of a.name) (state a.e) (sym may-offer.ensures ∙ if1.false) (held_of h) (ap found_of (sym c.in-Some.is) ∙ top.ensures)

@@ -1,5 +1,4 @@
 -- `plain_pairs::pair` meets its contract: none so far of which the earlier was met. Assumes nothing.
-use Prim.Native.Nat.{◌-◌, ◌≤◌}
 use mathlib.Core.Path.{◌≡◌}
 use lib.ListN.{drop}
 use Rattle.rules.specs.Inputs as inputs
@@ -9,7 +8,4 @@ use Rattle.plain_pairs.proofs.pair.Given as goal
 
 abbrev pub invariant-loop-i : goal.invariant-loop-i
 invariant-loop-i l =
-    (l.i ≤ l.xs.count) × (inputs.pair (firsts held_of l.xs.items l.xs.count) ≡ inputs.pair (drop l.i (firsts held_of l.xs.items l.xs.count)))
-
-abbrev pub decreases-loop-i : goal.decreases-loop-i
-decreases-loop-i l = l.xs.count - l.i
+    inputs.pair (firsts held_of l.xs.items l.xs.count) ≡ inputs.pair (drop l.i (firsts held_of l.xs.items l.xs.count))

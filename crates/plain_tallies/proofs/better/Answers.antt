@@ -13,15 +13,15 @@ unfolding tally_of words.certified
 returns-then-t-view c =
     let a = c.args in
     let certificate-of = c.certificate_of-own in
-    let wide = c.wide in let the-quorum = c.quorum-certified in let higher = c.higher-higher in
+    let from = c.from in let the-quorum = c.quorum-certified in let higher = c.higher-higher in
     best_own (settings_of a.settings) a.view (tally_of a.t) (certificate_of a.best) (certificate_of certificate-of.result) the-quorum.result higher.result certificate-of.ensures
-    (the-quorum.ensures ∙ ap (quorum (settings_of a.settings)) wide.ensures.0) higher.ensures c.if-t-view.true
+    (the-quorum.ensures ∙ ap (quorum (settings_of a.settings)) from.ensures) higher.ensures c.if-t-view.true
 
 pub returns : goal.returns
 unfolding tally_of words.certified
 returns c =
     let a = c.args in
     let certificate-of = c.certificate_of-own in
-    let wide = c.wide in let the-quorum = c.quorum-certified in let higher = c.higher-higher in
+    let from = c.from in let the-quorum = c.quorum-certified in let higher = c.higher-higher in
     best_other (settings_of a.settings) a.view (tally_of a.t) (certificate_of a.best) (certificate_of certificate-of.result) the-quorum.result higher.result certificate-of.ensures
-    (the-quorum.ensures ∙ ap (quorum (settings_of a.settings)) wide.ensures.0) higher.ensures c.if-t-view.false
+    (the-quorum.ensures ∙ ap (quorum (settings_of a.settings)) from.ensures) higher.ensures c.if-t-view.false

@@ -7,4 +7,4 @@ use Rattle.plain_tallies.proofs.grown.Goals as goal
 pub returns : goal.returns
 unfolding tally_of words.grown joined
 returns c =
-    rw c.reached_at-reached.ensures
+    rw c.reached_at-t.ensures

@@ -6,4 +6,4 @@ use Rattle.plain_tallies.proofs.opened.Goals as goal
 pub returns : goal.returns
 unfolding tally_of certificate_of
 returns c =
-    rw c.reached_at-reached.ensures
+    rw c.reached_at.ensures

@@ -1,28 +1,19 @@
 -- `plain_tallies::reached_at` meets its contract. Assumes nothing.
-use Rattle.plain_tallies.proofs.Laws.{reached_now, reached_not}
-use mathlib.Core.Path.{sym, ap, ◌∙◌}
-use Rattle.rules.specs.Words as words
+use mathlib.Core.Path.{ap, ◌∙◌}
 use Rattle.plain_words.specs.Meaning.{noted_of}
 use Rattle.rules.specs.Sizes.{quorum}
 use Rattle.settings.specs.Made.{settings_of}
-use Rattle.plain_words.specs.declared.Noted.{Noted}
 use Rattle.plain_tallies.specs.Meaning.{moment_of}
+use Rattle.plain_tallies.proofs.Laws.{reached_some, reached_none}
 use Rattle.plain_tallies.proofs.reached_at.Goals as goal
 
-pub returns-then-quorum : goal.returns-then-quorum
-returns-then-quorum c =
+pub returns-in-Some : goal.returns-in-Some
+returns-in-Some c =
     let a = c.args in
-    reached_now (moment_of a.moment) a.mask (ap (quorum (settings_of a.moment.settings)) (sym c.wide.ensures.0) ∙ sym c.quorum.ensures ∙ c.if-quorum.true)
-    ∙ ap (λ (o : Noted). words.reached_at (moment_of a.moment) (noted_of o) a.mask) (sym c.in-Never.is)
+    reached_some (moment_of a.moment) a.mask a.reached _ c.in-Some.is
 
-pub returns-in-At : goal.returns-in-At
-unfolding words.reached_at
-returns-in-At c =
+pub returns-in-None : goal.returns-in-None
+returns-in-None c =
     let a = c.args in
-    ap (λ (o : Noted). words.reached_at (moment_of a.moment) (noted_of o) a.mask) (sym c.in-At.is)
-
-pub returns-else-quorum : goal.returns-else-quorum
-returns-else-quorum c =
-    let a = c.args in
-    reached_not (moment_of a.moment) a.mask (ap (quorum (settings_of a.moment.settings)) (sym c.wide.ensures.0) ∙ sym c.quorum.ensures ∙ c.if-quorum.false)
-    ∙ ap (λ (o : Noted). words.reached_at (moment_of a.moment) (noted_of o) a.mask) (sym c.in-Never.is)
+    ap noted_of c.then_some.ensures
+    ∙ reached_none (moment_of a.moment) a.mask a.reached c.in-None.is _ (c.quorum.ensures ∙ ap (quorum (settings_of a.moment.settings)) c.from.ensures)

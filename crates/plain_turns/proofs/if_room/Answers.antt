@@ -12,4 +12,4 @@ returns-then-has_room c =
 pub returns : goal.returns
 returns c =
     let a = c.args in
-    ap (refusing 6) c.with_phase-engine.ensures ∙ ap (λ (b : Bool). chosen b a.e a.w) (sym (sym c.has_room.ensures ∙ c.if-has_room.false))
+    c.refused.ensures ∙ ap (refusing 6) c.with_phase.ensures ∙ ap (λ (b : Bool). chosen b a.e a.w) (sym (sym c.has_room.ensures ∙ c.if-has_room.false))

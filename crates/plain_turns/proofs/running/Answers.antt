@@ -1,15 +1,11 @@
 -- `plain_turns::running` meets its contract. Assumes nothing.
-use Rattle.plain_turns.proofs.Laws.{runs_in, runs_waiting, runs_not}
+use Rattle.plain_turns.proofs.Laws.{runs_other, runs_not}
 use Rattle.plain_turns.proofs.running.Goals as goal
+use Rattle.plain_turns.proofs.running.Goals.{in-Stopped, in_default}
 
-pub returns-in-InView : goal.returns-in-InView
-returns-in-InView c =
-    runs_in c.args.e c.in-InView.is
-
-pub returns-in-Waiting : goal.returns-in-Waiting
-returns-in-Waiting c =
-    runs_waiting c.args.e _ c.in-Waiting.is
-
-pub returns-in-Stopped : goal.returns-in-Stopped
-returns-in-Stopped c =
-    runs_not c.args.e _ c.in-Stopped.is
+pub returns : goal.returns
+returns c =
+    elim c.match-matches.branch [
+      | in-Stopped w ↦ rw w.matches-is (runs_not c.args.e _ w.in-Stopped.is)
+      | in_default w ↦ rw w.matches-is (runs_other c.args.e (λ k q. w.in_default.not-Stopped k q))
+    ]

@@ -20,7 +20,7 @@ returns-then-not-message_allowed c =
     let if1 = c.if-not-running in
     let read-message = c.read_message-read in let k = pre.0 in
     step_answered a.message.now a.e _ _ c.type_inv.message k
-    (turn_is c.refused-then-not-message_allowed.ensures (turn_as (step_barred a.message.now (state a.e) (sym running.ensures ∙ if1.false) (message_of c.in-Readable.m) (ap read_of (sym c.in-Readable.is) ∙ read-message.ensures) (sym c.message_allowed.ensures ∙ c.if-not-message_allowed.true)) (refused_turned 5 a.e _ k.sized)))
+    (turn_is c.refused-then-not-message_allowed.ensures (turn_as (step_barred a.message.now (state a.e) (sym running.ensures ∙ if1.false) (message_of c.in-Some.m) (ap read_of (sym c.in-Some.is) ∙ read-message.ensures) (sym c.message_allowed.ensures ∙ c.if-not-message_allowed.true)) (refused_turned 5 a.e _ k.sized)))
 
 pub returns-then-ahead : goal.returns-then-ahead
 unfolding read_of state
@@ -33,7 +33,7 @@ returns-then-ahead c =
     let if2 = c.if-not-message_allowed in
     let k = pre.0 in
     step_answered a.message.now a.e _ _ c.type_inv.message k
-    (turn_is c.refused-then-ahead.ensures (turn_as (step_ahead a.message.now (state a.e) (sym running.ensures ∙ if1.false) (message_of c.in-Readable.m) (ap read_of (sym c.in-Readable.is) ∙ read-message.ensures) (sym message-allowed.ensures ∙ if2.false) (sym c.ahead.ensures ∙ c.if-ahead.true)) (refused_turned 11 a.e _ k.sized)))
+    (turn_is c.refused-then-ahead.ensures (turn_as (step_ahead a.message.now (state a.e) (sym running.ensures ∙ if1.false) (message_of c.in-Some.m) (ap read_of (sym c.in-Some.is) ∙ read-message.ensures) (sym message-allowed.ensures ∙ if2.false) (sym c.ahead.ensures ∙ c.if-ahead.true)) (refused_turned 11 a.e _ k.sized)))
 
 pub heard-requires : goal.heard-requires
 unfolding state
@@ -42,15 +42,15 @@ heard-requires c =
     let message-allowed = c.message_allowed in let if2 = c.if-not-message_allowed in
     (pre.0, sym message-allowed.ensures ∙ if2.false, pre.1)
 
-pub returns-in-Unreadable : goal.returns-in-Unreadable
+pub returns-in-None : goal.returns-in-None
 unfolding read_of
-returns-in-Unreadable c =
+returns-in-None c =
     let a = c.args in let pre = c.requires in
     let running = c.running in
     let if1 = c.if-not-running in let read-message = c.read_message-read in
     let k = pre.0 in
     step_answered a.message.now a.e _ _ c.type_inv.message k
-    (turn_is c.refused-in-Unreadable.ensures (turn_as (step_unreadable a.message.now (state a.e) (sym running.ensures ∙ if1.false) (ap read_of (sym c.in-Unreadable.is) ∙ read-message.ensures)) (refused_turned 4 a.e _ k.sized)))
+    (turn_is c.refused-in-None.ensures (turn_as (step_unreadable a.message.now (state a.e) (sym running.ensures ∙ if1.false) (ap read_of (sym c.in-None.is) ∙ read-message.ensures)) (refused_turned 4 a.e _ k.sized)))
 
 pub returns-else-ahead : goal.returns-else-ahead
 unfolding read_of state
@@ -64,4 +64,4 @@ returns-else-ahead c =
     let ahead = c.ahead in let if3 = c.if-ahead in
     let k = pre.0 in
     step_answered a.message.now a.e _ _ c.type_inv.message k
-    (turn_as (step_heard a.message.now (state a.e) (sym running.ensures ∙ if1.false) (message_of c.in-Readable.m) (ap read_of (sym c.in-Readable.is) ∙ read-message.ensures) (sym message-allowed.ensures ∙ if2.false) (sym ahead.ensures ∙ if3.false)) c.heard.ensures)
+    (turn_as (step_heard a.message.now (state a.e) (sym running.ensures ∙ if1.false) (message_of c.in-Some.m) (ap read_of (sym c.in-Some.is) ∙ read-message.ensures) (sym message-allowed.ensures ∙ if2.false) (sym ahead.ensures ∙ if3.false)) c.heard.ensures)

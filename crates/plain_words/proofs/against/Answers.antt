@@ -11,4 +11,4 @@ returns-then-x c =
 pub returns : goal.returns
 unfolding against statement_of
 returns c =
-    rw (c.if-x.false, c.same-name.ensures, c.same-link.ensures)
+    rw (c.if-x.false, c.ne.ensures, c.ne-2.ensures, c.from.ensures, c.from-2.ensures)

@@ -1,5 +1,6 @@
 -- `plain_words::below` meets its contract. Assumes nothing.
-use mathlib.Core.Path.{refl}
+use Rattle.std.proofs.Common.{rules}
+use Rattle.std.specs.Cmp.Rules.{comparing}
 use Rattle.plain_words.specs.Meaning.{certificate_of}
 use Rattle.rules.specs.Words.{below}
 use Rattle.plain_words.proofs.below.Goals as goal
@@ -7,4 +8,4 @@ use Rattle.plain_words.proofs.below.Goals as goal
 pub returns : goal.returns
 unfolding below certificate_of
 returns c =
-    refl
+    rw c.lt.ensures (search (rules, comparing))

@@ -6,4 +6,4 @@ use Rattle.plain_words.proofs.conflict.Goals as goal
 pub returns : goal.returns
 unfolding conflict statement_of
 returns c =
-    rw (c.same_statement-same.ensures, c.against-one.ensures, c.against-other.ensures)
+    rw (c.same_statement.ensures, c.against.ensures, c.against-2.ensures)

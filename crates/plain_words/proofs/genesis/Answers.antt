@@ -5,4 +5,4 @@ use Rattle.plain_words.proofs.genesis.Goals as goal
 pub returns : goal.returns
 unfolding certificate_of
 returns c =
-    rw c.zero-name.ensures
+    rw c.zero.ensures

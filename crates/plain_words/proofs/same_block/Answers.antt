@@ -6,4 +6,4 @@ use Rattle.plain_words.proofs.same_block.Goals as goal
 pub returns : goal.returns
 unfolding certificate_of same_block
 returns c =
-    rw c.same-name.ensures
+    rw c.eq.ensures

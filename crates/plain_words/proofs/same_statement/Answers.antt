@@ -5,4 +5,4 @@ use Rattle.plain_words.proofs.same_statement.Goals as goal
 pub returns : goal.returns
 returns c =
     let a = c.args in
-    rw (c.same-name.ensures, c.same-link.ensures) (same_is a.x a.y)
+    rw (c.eq.ensures, c.eq-2.ensures) (same_is a.x a.y)

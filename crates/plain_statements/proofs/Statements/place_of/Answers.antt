@@ -1,50 +1,22 @@
--- Answers to the goals of `plain_statements::Statements::place_of`. Assumes nothing.
-use Rattle.plain_statements.proofs.Laws.{asked_held}
-use Rattle.plain_words.proofs.Tables.{long}
-use Rattle.plain_statements.specs.Meaning.{held_of, blank, statements, room, asked}
-use mathlib.Core.Path.{sym, ◌∙◌}
-use native.Mathlib.Omega.{arith}
-use lib.ListN.{get_or}
-use Rattle.plain_words.proofs.Searches.{place_here, place_next, place_done}
+-- `plain_statements::Statements::place_of` meets its contract. Assumes nothing.
+use mathlib.Core.Path.{◌≡◌, sym, ◌∙◌}
+use mathlib.Core.Option.{none}
+use lib.ListN.{take}
+use Rattle.std.proofs.Common.{rules, tests}
+use Rattle.std.proofs.lemmas.Iterator.{YieldsList-from_slice}
+use Rattle.std.proofs.lemmas.Iterator.Search.{position_from_yields_List}
+use Rattle.rules.specs.Words as words
+use Rattle.wire.specs.Meaning.{statement_of}
+use Rattle.plain_words.proofs.Searches.{position_firsts}
+use Rattle.plain_statements.specs.Meaning.{held_of, statements}
+use Rattle.plain_statements.specs.declared.Held.{Held}
+use Rattle.plain_statements.proofs.Laws.{same_held}
 use Rattle.plain_statements.proofs.Statements.place_of.Goals as goal
 
-pub loop-i-init : goal.loop-i-init
-loop-i-init c =
-    (omega arith, omega arith)
-
-pub offset_bounds-self-i : goal.offset_bounds-self-i
-offset_bounds-self-i c = omega arith
-
-pub bounds-self-i : goal.bounds-self-i
-bounds-self-i c = omega arith
-
-pub returns-then-is_asked : goal.returns-then-is_asked
+pub returns-clause-found : goal.returns-clause-found
 unfolding statements
-returns-then-is_asked c =
-    let a = c.args in
-    let l = c.loop-i in
-    sym (place_here held_of blank (asked a.ask) a.self.items a.self.count l.i (long held_of blank room a.self.items a.self.count c.requires) (omega arith) l.invariant.1
-    (asked_held a.ask (get_or a.self.items l.i blank) ∙ sym c.is_asked.ensures ∙ c.if-is_asked.true))
-
-pub overflow_add-i : goal.overflow_add-i
-overflow_add-i c = omega arith
-
-pub loop-i-smaller : goal.loop-i-smaller
-loop-i-smaller c = omega arith
-
-pub loop-i-preserved : goal.loop-i-preserved
-unfolding statements
-loop-i-preserved c =
-    let a = c.args in
-    let l = c.loop-i in (
-      omega arith,
-      place_next held_of blank (asked a.ask) a.self.items a.self.count l.i (long held_of blank room a.self.items a.self.count c.requires) (omega arith) l.invariant.1
-          (asked_held a.ask (get_or a.self.items l.i blank) ∙ sym c.is_asked.ensures ∙ c.if-is_asked.false),
-    )
-
-pub returns : goal.returns
-unfolding statements
-returns c =
-    let a = c.args in
-    let l = c.loop-i in
-    sym (place_done held_of blank (asked a.ask) a.self.items a.self.count l.i l.invariant.0 (omega arith) l.invariant.1)
+returns-clause-found c =
+    let a = c.args in let test = words.same_statement (statement_of a.x none) in
+    position_from_yields_List (λ (h : Held). test (held_of h)) _ _ c.position.result c.position.ensures.ran (YieldsList-from_slice (take a.self.count a.self.items) (cc))
+    (λ h b q k. (search rules, (let e : b ≡ test (statement_of h.now.statement none) = search (rules, tests) in e ∙ sym (same_held a.x h.now))))
+    ∙ position_firsts held_of test a.self.items a.self.count

@@ -1,44 +1,25 @@
--- Answers to the goals of `plain_statements::Statements::top`. Assumes nothing.
-use Prim.Native.Nat.{◌-◌}
+-- `plain_statements::Statements::top` meets its contract. Assumes nothing.
 use mathlib.Core.Path.{◌≡◌, sym, ap, ◌∙◌}
-use native.Mathlib.Omega.{arith}
-use lib.ListN.{get_or}
+use mathlib.Core.List.{List, reverse, map}
+use lib.ListN.{take}
+use Rattle.std.proofs.Common.{rules}
+use Rattle.std.proofs.lemmas.Fn.{fold_over}
+use Rattle.std.proofs.lemmas.Iterator.Adapters.{YieldsList-from_rev_slice}
+use Rattle.std.specs.Iterator.Adapters.{rev_steps}
+use Rattle.std.specs.Slice.Iter.{iter_steps_back}
 use Rattle.rules.specs.Inputs as inputs
-use Rattle.plain_words.proofs.Firsts.{firsts_back, firsts_done}
-use Rattle.plain_words.proofs.Tables.{long}
-use Rattle.plain_statements.specs.Meaning.{held_of, blank, statements, room, over}
-use Rattle.plain_statements.proofs.Laws.{top_over}
+use Rattle.plain_words.proofs.Searches.{back_more, back_firsts}
+use Rattle.plain_statements.specs.Meaning.{held_of, found_of, statements, over}
+use Rattle.plain_statements.proofs.Laws.{top_none, top_over}
 use Rattle.plain_statements.proofs.Statements.top.Goals as goal
-
-pub loop-i-init : goal.loop-i-init
-unfolding statements inputs.top
-loop-i-init c =
-    let a = c.args in
-    (omega arith, sym (ap (inputs.top a.view) (firsts_done held_of a.self.items a.self.count a.self.count (omega arith))))
-
-pub overflow_sub-i : goal.overflow_sub-i
-overflow_sub-i c = omega arith
-
-pub offset_bounds-self-i : goal.offset_bounds-self-i
-offset_bounds-self-i c = omega arith
-
-pub bounds-self-i : goal.bounds-self-i
-bounds-self-i c = omega arith
-
-pub loop-i-smaller : goal.loop-i-smaller
-loop-i-smaller c = omega arith
-
-pub loop-i-preserved : goal.loop-i-preserved
-unfolding statements
-loop-i-preserved c =
-    let a = c.args in let pre = c.requires in
-    let l = c.loop-i in
-    (omega arith, c.greater-best.ensures ∙ ap (over a.view (held_of (get_or a.self.items (l.i - 1) blank))) l.invariant.1 ∙ sym (ap (inputs.top a.view) (firsts_back held_of blank a.self.items a.self.count l.i (long held_of blank room a.self.items a.self.count pre) (omega arith) l.invariant.0) ∙ top_over a.view _ _))
 
 pub returns : goal.returns
 unfolding statements
 returns c =
-    let a = c.args in
-    let l = c.loop-i in
-    let z : l.i ≡ 0 = omega arith in
-    l.invariant.1 ∙ rw z
+    let a = c.args in let top = inputs.top a.view in
+    fold_over (rev_steps iter_steps_back) _ _ (λ hs o. found_of o ≡ top (map held_of (reverse hs))) _
+    (λ hs o h r f' j k.
+    let e : found_of r ≡ over a.view (held_of h.now) (found_of o) = search rules in
+    (e ∙ ap (over a.view (held_of h.now)) j ∙ sym (top_over a.view _ _) ∙ ap top (sym (back_more held_of hs h.now)), search rules))
+    c.rev.result _ _ _ (YieldsList-from_rev_slice {s = c.rev.result} (take a.self.count a.self.items) (cc)).runs (top_none a.view) c.fold.ensures.ran
+    ∙ ap top (back_firsts held_of a.self.items a.self.count)

@@ -1,7 +1,6 @@
 -- `plain_tallies::Tallies::any_of` meets its contract. Assumes nothing.
-use Prim.Native.Nat.{ℕ}
 use mathlib.Core.Path.{ap, ◌∙◌}
-use lib.Dec.{ltb}
+use Rattle.std.specs.Prelude.{is_some}
 use Rattle.rules.specs.Words as words
 use Rattle.plain_words.specs.Meaning.{certificate_of}
 use Rattle.plain_words.proofs.Tables.{is_any}
@@ -12,4 +11,4 @@ pub returns : goal.returns
 unfolding tallies
 returns c =
     let a = c.args in
-    ap (λ (i : ℕ). ltb i a.self.count) c.place_of-i.ensures ∙ is_any tally_of blank room a.self.items a.self.count c.requires (words.of_block (certificate_of a.t))
+    c.is_some.ensures ∙ ap is_some c.place_of.ensures.found ∙ is_any tally_of blank room a.self.items a.self.count c.requires (words.of_block (certificate_of a.t))

@@ -1,45 +1,27 @@
--- Answers to the goals of `plain_tallies::Tallies::highest`. Assumes nothing.
-use Prim.Native.Nat.{◌-◌}
+-- `plain_tallies::Tallies::highest` meets its contract. Assumes nothing.
 use mathlib.Core.Path.{◌≡◌, sym, ap, ◌∙◌}
-use native.Mathlib.Omega.{arith}
-use lib.ListN.{get_or}
+use mathlib.Core.List.{List, reverse, map}
+use lib.ListN.{take}
+use Rattle.std.proofs.Common.{rules}
+use Rattle.std.proofs.lemmas.Fn.{fold_over}
+use Rattle.std.proofs.lemmas.Iterator.Adapters.{YieldsList-from_rev_slice}
+use Rattle.std.specs.Iterator.Adapters.{rev_steps}
+use Rattle.std.specs.Slice.Iter.{iter_steps_back}
 use Rattle.rules.specs.Words as words
 use Rattle.settings.specs.Made.{settings_of}
-use Rattle.plain_words.proofs.Firsts.{firsts_back, firsts_done}
-use Rattle.plain_words.proofs.Tables.{long}
+use Rattle.plain_words.specs.Meaning.{certificate_of}
+use Rattle.plain_words.proofs.Searches.{back_more, back_firsts}
 use Rattle.plain_tallies.specs.Meaning.{tally_of, blank, tallies, room, best_of}
-use Rattle.plain_tallies.proofs.Laws.{highest_best}
+use Rattle.plain_tallies.proofs.Laws.{highest_none, highest_best}
 use Rattle.plain_tallies.proofs.Tallies.highest.Goals as goal
 
-pub loop-i-init : goal.loop-i-init
-unfolding tallies words.highest
-loop-i-init c =
-    let a = c.args in
-    (omega arith, c.genesis-best.ensures ∙ sym (ap (words.highest (settings_of a.settings) a.view) (firsts_done tally_of a.self.items a.self.count a.self.count (omega arith))))
-
-pub overflow_sub-i : goal.overflow_sub-i
-overflow_sub-i c = omega arith
-
-pub offset_bounds-self-i : goal.offset_bounds-self-i
-offset_bounds-self-i c = omega arith
-
-pub bounds-self-i : goal.bounds-self-i
-bounds-self-i c = omega arith
-
-pub loop-i-smaller : goal.loop-i-smaller
-loop-i-smaller c = omega arith
-
-pub loop-i-preserved : goal.loop-i-preserved
-unfolding tallies
-loop-i-preserved c =
-    let a = c.args in let pre = c.requires in let loop = c.loop-i in (
-      omega arith,
-      c.better-best.ensures ∙ ap (best_of (settings_of a.settings) a.view (tally_of (get_or a.self.items (loop.i - 1) blank))) loop.invariant.1
-          ∙ sym (ap (words.highest (settings_of a.settings) a.view) (firsts_back tally_of blank a.self.items a.self.count loop.i (long tally_of blank room a.self.items a.self.count pre) (omega arith) loop.invariant.0) ∙ highest_best (settings_of a.settings) a.view _ _),
-    )
-
 pub returns : goal.returns
+unfolding tallies
 returns c =
-    let l = c.loop-i in
-    let z : l.i ≡ 0 = omega arith in
-    l.invariant.1 ∙ rw z
+    let a = c.args in let g = settings_of a.settings in let highest = words.highest g a.view in
+    fold_over (rev_steps iter_steps_back) _ _ (λ ys b. certificate_of b ≡ highest (map tally_of (reverse ys))) _
+    (λ ys b x d f' j k.
+    let e : certificate_of d ≡ best_of g a.view (tally_of x.now) (certificate_of b) = search rules in
+    (e ∙ ap (best_of g a.view (tally_of x.now)) j ∙ sym (highest_best g a.view _ _) ∙ ap highest (sym (back_more tally_of ys x.now)), search rules))
+    c.rev.result _ _ _ (YieldsList-from_rev_slice {s = c.rev.result} (take a.self.count a.self.items) (cc)).runs (c.genesis.ensures ∙ highest_none g a.view) c.fold.ensures.ran
+    ∙ ap highest (back_firsts tally_of a.self.items a.self.count)
