@@ -1,7 +1,7 @@
 -- What hex digits say: names and bytes. Assumes nothing.
 use Prim.Native.Nat.{ℕ, zero, suc, ◌+◌, ◌-◌, ◌*◌, ◌/◌, ◌^◌, ◌<◌, ◌≤◌}
 use mathlib.Core.Path.{◌≡◌, refl, sym, ap, ap₂, ◌∙◌}
-use mathlib.Core.Bool.{true, false, ◌&&◌, and-false}
+use mathlib.Core.Bool.{Bool, true, false, ◌&&◌, ◌||◌, and-false}
 use mathlib.Core.List.{List, [], ◌∷◌}
 use mathlib.Core.Option.{none, some}
 use native.Mathlib.Omega.{arith}
@@ -11,14 +11,39 @@ use lib.ListN.{length, take, drop, get_or, set, take-append-drop, length-drop}
 use lib.Seq.{take-nil, take-take, take_all, length-take-le}
 use lib.Dec.{leb}
 use borrow.Author.Tests.{le-leb, lt-leb, leb-true, leb-false}
+use Rattle.std.specs.List.{list_all}
+use Rattle.std.specs.Char.{is_ascii_hexdigit}
 use Rattle.rules.specs.Lists.{within, all}
 use Rattle.laws.proofs.Tests.{by_bool}
 use Rattle.outgoing.specs.Wrote.{wrote}
 use Rattle.fields.specs.declared.Name.{Name}
 use Rattle.fields.specs.Names.{name_of}
-use Rattle.text.specs.Words.{is_hex, digit, value, pairs, is_name, name}
+use Rattle.text.specs.Words.{is_decimal, is_hex, digit, value, pairs, is_name, name}
 use Rattle.text.proofs.Runs.{drop_step}
 use Rattle.numbers.proofs.Digits.{value_append, value_front}
+
+-- ---- digits
+
+or_last : (a b : Bool) → (a || true || b) ≡ (a || b || true)
+or_last true b = refl
+or_last false true = refl
+or_last false false = refl
+
+or_false : (a b : Bool) → (a || false || b) ≡ (a || b || false)
+or_false true b = refl
+or_false false true = refl
+or_false false false = refl
+
+-- the library's test of a digit is the script's
+hex_digit : (b : ℕ) → is_ascii_hexdigit b ≡ is_hex b
+unfolding is_hex is_decimal within
+hex_digit b =
+    by_bool (leb 65 b && leb b 70) (λ e. rw e (or_last (leb 48 b && leb b 57) (leb 97 b && leb b 102))) (λ e. rw e (or_false (leb 48 b && leb b 57) (leb 97 b && leb b 102)))
+
+pub hex_digits : (w : List ℕ) → list_all is_ascii_hexdigit w ≡ all is_hex w
+unfolding all
+hex_digits [] = refl
+hex_digits (b ∷ w) = ap₂ ◌&&◌ (hex_digit b) (hex_digits w)
 
 -- ---- names
 
@@ -41,7 +66,7 @@ value_last w =
 
 -- a name of up to 64 digits by its four words, each a part of the digits
 pub name_words : (w : List ℕ) (n : Name) (a b c : ℕ) → length w ≤ 64 → a ≡ length w - 16 → b ≡ a - 16 → c ≡ b - 16
-    → n.first ≡ value 16 0 (take (c - 0) (drop 0 w)) → n.second ≡ value 16 0 (take (b - c) (drop c w)) → n.third ≡ value 16 0 (take (a - b) (drop b w))
+    → n.first ≡ value 16 0 (take c w) → n.second ≡ value 16 0 (take (b - c) (drop c w)) → n.third ≡ value 16 0 (take (a - b) (drop b w))
     → n.fourth ≡ value 16 0 (take (length w - a) (drop a w)) → name_of n ≡ value 16 0 w
 unfolding name_of
 name_words w n a b c h ea eb ec e1 e2 e3 e4 =
@@ -54,7 +79,7 @@ name_words w n a b c h ea eb ec e1 e2 e3 e4 =
     value_last (take a w) ∙ rw (la, ← eb) (ap₂ (λ (x y : ℕ). x * 2 ^ 64 + y) (ap v (take-take b a w (omega arith))) (ap v (drop_take b a w) ∙ sym e3)) in
     let s2 : v (take b w) ≡ v (take c w) * 2 ^ 64 + n.second =
     value_last (take b w) ∙ rw (lb, ← ec) (ap₂ (λ (x y : ℕ). x * 2 ^ 64 + y) (ap v (take-take c b w (omega arith))) (ap v (drop_take c b w) ∙ sym e2)) in
-    let s1 : v (take c w) ≡ n.first = ap (λ (k : ℕ). v (take k w)) (sym (sub-zero c)) ∙ sym e1 in
+    let s1 : v (take c w) ≡ n.first = sym e1 in
     sym (s4 ∙ ap (λ (x : ℕ). x * 2 ^ 64 + n.fourth) (s3 ∙ ap (λ (x : ℕ). x * 2 ^ 64 + n.third) (s2 ∙ ap (λ (x : ℕ). x * 2 ^ 64 + n.second) s1)))
 
 module _ (w : List ℕ) where

@@ -1,45 +1,27 @@
 -- Messages in words, over every kind. Assumes nothing.
-use Prim.Native.Nat.{ℕ, zero, suc, ◌+◌, ◌-◌, ◌≤◌}
-use mathlib.Core.Path.{◌≡◌, refl, sym, ap, ◌∙◌}
+use Prim.Native.Nat.{ℕ, ◌+◌, ◌-◌, ◌≤◌}
+use mathlib.Core.Path.{◌≡◌, ap, ◌∙◌}
 use mathlib.Core.Bool.{Bool, true, false}
 use mathlib.Core.List.{List, []}
 use native.Mathlib.Omega.{arith}
-use lib.ListN.{drop}
+use lib.ListN.{length, drop}
+use Rattle.std.proofs.Common.{Result, Ok, Err}
 use Rattle.rules.specs.Lists.{iff}
 use Rattle.rules.specs.Messages.{write}
+use Rattle.laws.proofs.Tests.{by_bool}
 use Rattle.laws.proofs.Truths.{iff_eq}
 use Rattle.fields.specs.declared.Name.{Name}
 use Rattle.fields.specs.Names.{name_of}
 use Rattle.wire.proofs.Reading.{tried, tried_at}
 use Rattle.parts.specs.Fields.{field_of, Got, got, wrong, onto, reads}
 use Rattle.lines.specs.Script.{Meaning, message, bad, meant, spoken}
-use Rattle.parts.specs.Places.{small, reads_at, Inside, Field, ended}
-use Rattle.lines.specs.Kinds.{has, tagged, onto_if, Own, makes}
+use Rattle.parts.specs.Places.{small, FieldRead}
+use Rattle.lines.specs.Kinds.{number_of, has, tagged, onto_if, Own, OwnRead, makes}
 use Rattle.parts.specs.declared.Flaw.{Flaw}
-use Rattle.parts.specs.declared.Place.{Place}
-use Rattle.parts.specs.declared.Place.TheVariants.{At, Wrong}
+use Rattle.parts.specs.declared.Part.{Part}
+use Rattle.lines.specs.declared.kinds.Kind.{Kind}
+use Rattle.lines.specs.declared.kinds.Kind.TheVariants.{NewView, Propose, Vote, Blame, BlameSet, Status}
 use Rattle.parts.proofs.Fields.{holds_zero, small_is}
-
--- what holds of each of the six kinds
-pub by_kind {ℓ} : (P : ℕ → Type ℓ) → P 1 → P 2 → P 3 → P 4 → P 5 → P 6 → (k : ℕ) → 1 ≤ k → k ≤ 6 → P k
-by_kind P a b c d e f zero l h = absurd (omega arith)
-by_kind P a b c d e f (suc zero) l h = a
-by_kind P a b c d e f (suc (suc zero)) l h = b
-by_kind P a b c d e f (suc (suc (suc zero))) l h = c
-by_kind P a b c d e f (suc (suc (suc (suc zero)))) l h = d
-by_kind P a b c d e f (suc (suc (suc (suc (suc zero))))) l h = e
-by_kind P a b c d e f (suc (suc (suc (suc (suc (suc zero)))))) l h = f
-by_kind P a b c d e f (suc (suc (suc (suc (suc (suc (suc k))))))) l h = absurd (omega arith)
-
-pub last_kind : (k : ℕ) → 1 ≤ k → k ≤ 6 → (k ≡ 1 → ⊥) → (k ≡ 2 → ⊥) → (k ≡ 3 → ⊥) → (k ≡ 4 → ⊥) → (k ≡ 5 → ⊥) → k ≡ 6
-last_kind =
-    by_kind (λ k. (k ≡ 1 → ⊥) → (k ≡ 2 → ⊥) → (k ≡ 3 → ⊥) → (k ≡ 4 → ⊥) → (k ≡ 5 → ⊥) → k ≡ 6)
-    (λ a b c d e. absurd (a refl))
-    (λ a b c d e. absurd (b refl))
-    (λ a b c d e. absurd (c refl))
-    (λ a b c d e. absurd (d refl))
-    (λ a b c d e. absurd (e refl))
-    (λ a b c d e. refl)
 
 -- ---- the fields of a kind
 
@@ -49,68 +31,65 @@ has_by k f e t l h =
     let i : t - 2 + 2 ≡ t = omega arith in
     rw i at (iff_eq (f (t - 2 + 2)) (has k (t - 2 + 2)) (tried_at _ 7 (t - 2) e (omega arith)))
 
-module _ (s : List ℕ) (p : Place) (k t : ℕ) (n : Name) (q : Place) where
-  pub own_field : has k t ≡ true → Field s p t n q → Own s p k t n q
+module _ (s : List ℕ) (at : ℕ) (k : Kind) (t : ℕ) where
+  pub own_field : has (number_of k) t ≡ true → (r : Result Part Flaw) → FieldRead s at t r → OwnRead s at k t r
   unfolding tagged onto_if
-  own_field e f = record { goes = λ ts. rw (e, tagged, onto_if) (f.goes ts); inside = f.inside; holds = f.holds }
+  own_field e (Ok p) f = record { goes = λ ts. rw (e, tagged, onto_if) (f.goes ts); inside = f.inside; holds = f.holds }
+  own_field e (Err x) f = λ ts. rw (e, tagged) (f ts)
 
-  pub own_none : has k t ≡ false → n ≡ small 0 → q ≡ p → Inside s p → Own s p k t n q
+  pub own_none : has (number_of k) t ≡ false → (n : Name) → n ≡ small 0 → at ≤ length s → Own s at k t (record { value = n; next = at })
   unfolding tagged onto_if
-  own_none e en eq h =
-      rw (en, eq) (record { goes = λ ts. rw (e, tagged, onto_if); inside = h; holds = holds_zero (field_of t).sort })
+  own_none e n en h =
+      rw en (record { goes = λ ts. rw (e, tagged, onto_if); inside = h; holds = holds_zero (field_of t).sort })
+
+  pub own_before : {p : Part} → Own s at k t p → (ts : List ℕ) (f : Flaw) → reads ts (drop p.next s) ≡ wrong f → reads (tagged (number_of k) t ts) (drop at s) ≡ wrong f
+  unfolding onto_if onto
+  own_before a ts f e =
+      a.goes ts ∙ ap (onto_if (number_of k) t _) e ∙ by_bool (has (number_of k) t) (λ q. rw (q, onto_if)) (λ q. rw (q, onto_if))
 
 -- ---- a whole message
 
-abbrev tags : ℕ → List ℕ
+abbrev pub tags : ℕ → List ℕ
 tags k = tagged k 2 (tagged k 3 (tagged k 4 (tagged k 5 (tagged k 6 (tagged k 7 (tagged k 8 []))))))
 
 abbrev ontos : ℕ → (v h b p c m a : ℕ) → Got → Got
 ontos k v h b p c m a g = onto_if k 2 v (onto_if k 3 h (onto_if k 4 b (onto_if k 5 p (onto_if k 6 c (onto_if k 7 m (onto_if k 8 a g))))))
 
 -- what is made of the values, or what is wrong
-pub made_of : (x : Got) (f : List ℕ → Meaning) (n : Meaning) (g : Got → Got) (r : Place) → x ≡ g (ended r) → meant f (g (got [])) ≡ n
-    → ((e : Flaw) → g (wrong e) ≡ wrong e) → meant f x ≡ meant (λ _. n) (ended r)
+pub meant_wrong : (f : List ℕ → Meaning) (x : Got) (e : Flaw) → x ≡ wrong e → meant f x ≡ bad e
 unfolding meant
-made_of x f n g (At i) e a w = ap (meant f) e ∙ a
-made_of x f n g (Wrong y) e a w = ap (meant f) (e ∙ w y)
+meant_wrong f x e h = ap (meant f) h
+
+pub said_wrong : (k : Kind) (s : List ℕ) (f : Flaw) → reads (tags (number_of k)) s ≡ wrong f → spoken (number_of k) s ≡ bad f
+unfolding spoken tagged has
+said_wrong NewView s f e = meant_wrong _ _ f e
+said_wrong Propose s f e = meant_wrong _ _ f e
+said_wrong Vote s f e = meant_wrong _ _ f e
+said_wrong Blame s f e = meant_wrong _ _ f e
+said_wrong BlameSet s f e = meant_wrong _ _ f e
+said_wrong Status s f e = meant_wrong _ _ f e
 
 -- the values by their tags make the message of their kind
-kind_is : (k : ℕ) → 1 ≤ k → k ≤ 6 → (s : List ℕ) (v h b p c m a : ℕ) (r : Place) → reads (tags k) s ≡ ontos k v h b p c m a (ended r)
-    → spoken k s ≡ meant (λ _. message (write (makes k v h b p c m a))) (ended r)
+kind_is : (k : Kind) (s : List ℕ) (v h b p c m a : ℕ) → reads (tags (number_of k)) s ≡ ontos (number_of k) v h b p c m a (got [])
+    → spoken (number_of k) s ≡ message (write (makes (number_of k) v h b p c m a))
 unfolding spoken makes tagged onto_if has meant onto
-kind_is =
-    by_kind (λ k. (s : List ℕ) (v h b p c m a : ℕ) (r : Place) → reads (tags k) s ≡ ontos k v h b p c m a (ended r) → spoken k s ≡ meant (λ _. message (write (makes k v h b p c m a))) (ended r))
-    (λ s v h b p c m a r e. made_of _ _ _ (ontos 1 v h b p c m a) r e refl (λ _. refl))
-    (λ s v h b p c m a r e. made_of _ _ _ (ontos 2 v h b p c m a) r e refl (λ _. refl))
-    (λ s v h b p c m a r e. made_of _ _ _ (ontos 3 v h b p c m a) r e refl (λ _. refl))
-    (λ s v h b p c m a r e. made_of _ _ _ (ontos 4 v h b p c m a) r e refl (λ _. refl))
-    (λ s v h b p c m a r e. made_of _ _ _ (ontos 5 v h b p c m a) r e refl (λ _. refl))
-    (λ s v h b p c m a r e. made_of _ _ _ (ontos 6 v h b p c m a) r e refl (λ _. refl))
-
--- field by field, from a place on
-said_is : (k : ℕ) → 1 ≤ k → k ≤ 6 → (s : List ℕ) (at : ℕ) (v h b p c m a : Name) (q3 q4 q5 q6 q7 q8 q9 r : Place)
-    → Own s (At at) k 2 v q3 → Own s q3 k 3 h q4 → Own s q4 k 4 b q5 → Own s q5 k 5 p q6 → Own s q6 k 6 c q7 → Own s q7 k 7 m q8 → Own s q8 k 8 a q9
-    → ended r ≡ reads_at [] s q9
-    → spoken k (drop at s) ≡ meant (λ _. message (write (makes k (name_of v) (name_of h) (name_of b) (name_of p) (name_of c) (name_of m) (name_of a)))) (ended r)
-said_is k l u s at v h b p c m a q3 q4 q5 q6 q7 q8 q9 r o2 o3 o4 o5 o6 o7 o8 e =
-    kind_is k l u (drop at s) (name_of v) (name_of h) (name_of b) (name_of p) (name_of c) (name_of m) (name_of a) r
-    (o2.goes _ ∙ ap (onto_if k 2 (name_of v))
-    (o3.goes _ ∙ ap (onto_if k 3 (name_of h))
-    (o4.goes _ ∙ ap (onto_if k 4 (name_of b))
-    (o5.goes _ ∙ ap (onto_if k 5 (name_of p))
-    (o6.goes _ ∙ ap (onto_if k 6 (name_of c))
-    (o7.goes _ ∙ ap (onto_if k 7 (name_of m))
-    (o8.goes [] ∙ ap (onto_if k 8 (name_of a)) (sym e))))))))
+kind_is NewView s v h b p c m a e = ap (meant _) e
+kind_is Propose s v h b p c m a e = ap (meant _) e
+kind_is Vote s v h b p c m a e = ap (meant _) e
+kind_is Blame s v h b p c m a e = ap (meant _) e
+kind_is BlameSet s v h b p c m a e = ap (meant _) e
+kind_is Status s v h b p c m a e = ap (meant _) e
 
 -- with every word taken: the message of the numbers that the fields hold
-module _ (k : ℕ) (l : 1 ≤ k) (u : k ≤ 6) (s : List ℕ) (at : ℕ) (v h b p c m a : Name) (q3 q4 q5 q6 q7 q8 q9 : Place)
-    (o2 : Own s (At at) k 2 v q3) (o3 : Own s q3 k 3 h q4) (o4 : Own s q4 k 4 b q5) (o5 : Own s q5 k 5 p q6) (o6 : Own s q6 k 6 c q7) (o7 : Own s q7 k 7 m q8) (o8 : Own s q8 k 8 a q9) (r : Place) (e : ended r ≡ reads_at [] s q9) where
-  pub said_good : (i : ℕ) → r ≡ At i → spoken k (drop at s) ≡ message (write (makes k v.fourth h.fourth (name_of b) (name_of p) c.fourth m.fourth a.fourth))
-  unfolding field_of meant
-  said_good i f =
-      let g = rw f at (said_is k l u s at v h b p c m a q3 q4 q5 q6 q7 q8 q9 r o2 o3 o4 o5 o6 o7 o8 e) in
-      g ∙ rw (small_is v o2.holds.0, small_is h o3.holds.0, small_is c o6.holds.0, small_is m o7.holds.0, small_is a o8.holds.0)
-
-  pub said_wrong : (f : Flaw) → r ≡ Wrong f → spoken k (drop at s) ≡ bad f
-  unfolding meant
-  said_wrong f d = rw d at (said_is k l u s at v h b p c m a q3 q4 q5 q6 q7 q8 q9 r o2 o3 o4 o5 o6 o7 o8 e)
+pub said_good : (k : Kind) (s : List ℕ) (at : ℕ) (v h b p c m a : Part)
+    → Own s at k 2 v → Own s v.next k 3 h → Own s h.next k 4 b → Own s b.next k 5 p → Own s p.next k 6 c → Own s c.next k 7 m → Own s m.next k 8 a
+    → reads [] (drop a.next s) ≡ got []
+    → spoken (number_of k) (drop at s)
+    ≡ message (write (makes (number_of k) v.value.fourth h.value.fourth (name_of b.value) (name_of p.value) c.value.fourth m.value.fourth a.value.fourth))
+unfolding field_of
+said_good k s at v h b p c m a o2 o3 o4 o5 o6 o7 o8 e =
+    kind_is k (drop at s) (name_of v.value) (name_of h.value) (name_of b.value) (name_of p.value) (name_of c.value) (name_of m.value) (name_of a.value)
+    (o2.goes _ ∙ ap (onto_if (number_of k) 2 _) (o3.goes _ ∙ ap (onto_if (number_of k) 3 _) (o4.goes _ ∙ ap (onto_if (number_of k) 4 _)
+    (o5.goes _ ∙ ap (onto_if (number_of k) 5 _) (o6.goes _ ∙ ap (onto_if (number_of k) 6 _) (o7.goes _ ∙ ap (onto_if (number_of k) 7 _)
+    (o8.goes [] ∙ ap (onto_if (number_of k) 8 _) e)))))))
+    ∙ rw (small_is v.value o2.holds.0, small_is h.value o3.holds.0, small_is c.value o6.holds.0, small_is m.value o7.holds.0, small_is a.value o8.holds.0)

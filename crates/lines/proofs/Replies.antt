@@ -7,33 +7,32 @@ use native.Mathlib.Omega.{arith}
 use native.Mathlib.Nat.{add-zero, zero-add, add-suc, suc-add}
 use lib.ListN.{length, take, drop, get_or, get_or-eq_default}
 use lib.Dec.{leb}
-use borrow.Author.Tests.{le-leb, lt-leb, leb-true}
+use borrow.Author.Tests.{le-leb, lt-leb, leb-true, leb-false}
 use Rattle.rules.specs.Lists.{unbe}
 use Rattle.rules.specs.Script.{same_list}
 use Rattle.laws.proofs.Tests.{by_bool}
-use Rattle.fields.specs.declared.Name.{Name}
 use Rattle.fields.specs.Names.{name_of}
 use Rattle.outgoing.specs.Wrote.{wrote}
 use Rattle.outgoing.specs.Wrote as written
 use Rattle.outgoing.proofs.Writing.{length_wrote}
 use Rattle.text.specs.Words.{bytes, word, rest, no_word, pairs, is_bytes}
 use Rattle.parts.specs.Fields.{Got, got, wrong, onto, reads, field_of}
-use Rattle.lines.specs.Script.{freshened, ticked, alone, hex, slipped, certified, chosen, Meaning, blank, fresh, tick, given, message, log, state, display, bad, meant, spoken, Order, orders, ordered, line_of}
+use Rattle.lines.specs.Script.{freshened, ticked, alone, hex, hexed, slipped, certified, chosen, Meaning, blank, fresh, tick, given, message, log, state, display, bad, meant, Order, orders, ordered, line_of}
 use Rattle.text.specs.Places.{WordOf, Lists, placed}
 use Rattle.text.specs.declared.Span.{Span}
 use Rattle.text.proofs.Runs.{word_some}
-use Rattle.parts.specs.Places.{Field, ended, reads_at}
-use Rattle.lines.specs.Answers.{answer, fill, left, filled, Reads, WritesNothing, HexAt, hex_place, HexRead}
+use Rattle.parts.specs.Places.{Field}
+use Rattle.lines.specs.Answers.{answer, fill, left, filled, Reads, WritesNothing, or_bad}
 use Rattle.parts.specs.declared.Flaw.{Flaw}
 use Rattle.parts.specs.declared.Flaw.TheVariants as flaw
 use Rattle.lines.specs.declared.What.{What}
 use Rattle.lines.specs.declared.What.TheVariants.{Message, Slip, Certified, Choose}
 use Rattle.lines.specs.declared.Line.{Line}
 use Rattle.lines.specs.declared.Line.TheVariants.{Blank, Fresh, Tick, Bytes, Log, State, Display, Bad}
-use Rattle.parts.specs.declared.Place.{Place}
-use Rattle.parts.specs.declared.Place.TheVariants.{At, Wrong}
-use Rattle.parts.proofs.Fields.{small_is, ends_none, ends_extra}
-use Rattle.lines.proofs.Messages.{by_kind, made_of}
+use Rattle.std.proofs.Common.{Result, IsErr, IsErrAnd}
+use Rattle.parts.specs.declared.Part.{Part}
+use Rattle.parts.proofs.Fields.{small_is, ends_none, ends_extra, gives}
+use Rattle.lines.proofs.Messages.{meant_wrong}
 
 -- ---- first words
 
@@ -96,24 +95,11 @@ pub line_means : {s : List ℕ} {w : Span} {k : ℕ} → WordOf s s w → (w.sta
 line_means {s} {w} {k} r n h j e =
     line_order s k (word_some r n) (λ ws l. rw r.is at (h ws l)) ∙ ap (λ (i : ℕ). means_of i (rest s)) e ∙ ap (means_of j) (sym r.after)
 
-means_none : (k : ℕ) (s : List ℕ) → 17 < k → means_of k s ≡ bad flaw.Word
+pub means_other : (k : ℕ) (s : List ℕ) → (1 ≤ k → k ≤ 17 → ⊥) → means_of k s ≡ bad flaw.Word
 unfolding means_of meanings orders
-means_none zero s h = absurd (omega arith)
-means_none (suc i) s h = get_or-eq_default (meanings orders s) (bad flaw.Word) {n = i} (omega arith)
-
-next : (n k : ℕ) → n < k → (k ≡ suc n → ⊥) → suc n < k
-next n k h e = omega (arith, e)
-
-pub means_other : (k : ℕ) (s : List ℕ) → 6 < k → (k ≡ 7 → ⊥) → (k ≡ 8 → ⊥) → (k ≡ 9 → ⊥) → (k ≡ 10 → ⊥) → (k ≡ 11 → ⊥) → (k ≡ 12 → ⊥) → (k ≡ 13 → ⊥)
-    → (k ≡ 14 → ⊥) → (k ≡ 15 → ⊥) → (k ≡ 16 → ⊥) → (k ≡ 17 → ⊥) → means_of k s ≡ bad flaw.Word
-means_other k s h a b c d e f g i j l m =
-    means_none k s
-    (next 16 k (next 15 k (next 14 k (next 13 k (next 12 k (next 11 k (next 10 k (next 9 k (next 8 k (next 7 k (next 6 k h a) b) c) d) e) f) g) i) j) l) m)
-
-pub means_spoken : (k : ℕ) → 1 ≤ k → k ≤ 6 → (s : List ℕ) → means_of k s ≡ spoken k s
-unfolding means_of meanings orders
-means_spoken =
-    by_kind (λ k. (s : List ℕ) → means_of k s ≡ spoken k s) (λ s. refl) (λ s. refl) (λ s. refl) (λ s. refl) (λ s. refl) (λ s. refl)
+means_other zero s n = refl
+means_other (suc i) s n =
+    get_or-eq_default (meanings orders s) (bad flaw.Word) {n = i} (by_bool (leb (suc i) 17) (λ e. absurd (n (omega arith) (leb-true (suc i) 17 e))) (λ e. omega (arith, leb-false (suc i) 17 e)))
 
 -- ---- what is answered
 
@@ -218,50 +204,47 @@ module _ (m : Meaning) where
   unfolding answer left
   nothing_blank e = rw e (record { is = λ _. refl; still = λ _. refl })
 
+-- what is wrong, handed on
+pub nothing_refused : {m : Meaning} (r : Result Line Flaw) {f : Flaw} → IsErr r × IsErrAnd r (λ e. e ≡ f) → m ≡ bad f → WritesNothing m (or_bad r)
+nothing_refused {m} r {f} h e = rw (gives r f h) (nothing_bad m f e)
+
+pub refused : {m : Meaning} {o : List ℕ} (r : Result Line Flaw) {f : Flaw} → IsErr r × IsErrAnd r (λ e. e ≡ f) → m ≡ bad f → Reads m o o (or_bad r)
+refused {m} {o} r {f} h e = unchanged m m o (or_bad r) (nothing_refused r h e) refl
+
 -- the numbers of `fresh` and of `tick`
-fresh_is : (s : List ℕ) (at : ℕ) (n d o : Name) (p q r x : Place) → Field s (At at) 0 n p → Field s p 0 d q → Field s q 0 o r → ended x ≡ reads_at [] s r
-    → freshened (drop at s) ≡ meant (λ _. fresh (name_of n) (name_of d) (name_of o)) (ended x)
-unfolding freshened onto meant
-fresh_is s at n d o p q r x a b c e =
-    made_of _ (λ vs. fresh (get_or vs 0 0) (get_or vs 1 0) (get_or vs 2 0)) _ (λ g. onto (name_of n) (onto (name_of d) (onto (name_of o) g))) x
-    (a.goes (0 ∷ 0 ∷ []) ∙ ap (onto (name_of n)) (b.goes (0 ∷ []) ∙ ap (onto (name_of d)) (c.goes [] ∙ ap (onto (name_of o)) (sym e)))) refl (λ _. refl)
+pub fresh_wrong : (t : List ℕ) (f : Flaw) → reads (0 ∷ 0 ∷ 0 ∷ []) t ≡ wrong f → freshened t ≡ bad f
+unfolding freshened
+fresh_wrong t f e = meant_wrong _ _ f e
 
-module _ (s : List ℕ) (at : ℕ) (n d o : Name) (p q r x : Place) (a : Field s (At at) 0 n p) (b : Field s p 0 d q) (c : Field s q 0 o r) (e : ended x ≡ reads_at [] s r) where
-  pub fresh_good : (i : ℕ) → x ≡ At i → freshened (drop at s) ≡ fresh n.fourth d.fourth o.fourth
-  unfolding field_of meant
-  fresh_good i f =
-      rw f at (fresh_is s at n d o p q r x a b c e) ∙ rw (small_is n a.holds.0, small_is d b.holds.0, small_is o c.holds.0)
-
-  pub fresh_wrong : (f : Flaw) → x ≡ Wrong f → freshened (drop at s) ≡ bad f
-  unfolding meant
-  fresh_wrong f g = rw g at (fresh_is s at n d o p q r x a b c e)
+pub fresh_good : {s : List ℕ} {at : ℕ} {n d o : Part} → Field s at 0 n → Field s n.next 0 d → Field s d.next 0 o → reads [] (drop o.next s) ≡ got []
+    → freshened (drop at s) ≡ fresh n.value.fourth d.value.fourth o.value.fourth
+unfolding freshened onto meant field_of
+fresh_good {n = n} {d = d} {o = o} a b c e =
+    ap (meant (λ vs. fresh (get_or vs 0 0) (get_or vs 1 0) (get_or vs 2 0))) (a.goes (0 ∷ 0 ∷ []) ∙ ap (onto (name_of n.value)) (b.goes (0 ∷ []) ∙ ap (onto (name_of d.value)) (c.goes [] ∙ ap (onto (name_of o.value)) e)))
+    ∙ rw (small_is n.value a.holds.0, small_is d.value b.holds.0, small_is o.value c.holds.0)
 
 pub tick_one : (s : List ℕ) → no_word s ≡ true → ticked s ≡ tick 1
 unfolding ticked
 tick_one s e = rw (e, ticked)
 
-module _ (s : List ℕ) (at : ℕ) (n : Name) (p x : Place) (w : no_word (drop at s) ≡ false) (a : Field s (At at) 0 n p) (e : ended x ≡ reads_at [] s p) where
-  tick_is : ticked (drop at s) ≡ meant (λ _. tick (name_of n)) (ended x)
-  unfolding ticked onto meant
-  tick_is = rw (w, ticked) (made_of _ _ _ (onto (name_of n)) x (a.goes [] ∙ ap (onto (name_of n)) (sym e)) refl (λ _. refl))
+module _ (s : List ℕ) (at : ℕ) (w : no_word (drop at s) ≡ false) where
+  pub tick_wrong : (f : Flaw) → reads (0 ∷ []) (drop at s) ≡ wrong f → ticked (drop at s) ≡ bad f
+  unfolding ticked
+  tick_wrong f e = rw (w, ticked) (meant_wrong _ _ f e)
 
-  pub tick_good : (i : ℕ) → x ≡ At i → ticked (drop at s) ≡ tick n.fourth
-  unfolding field_of meant
-  tick_good i f = rw f at tick_is ∙ ap tick (small_is n a.holds.0)
-
-  pub tick_wrong : (f : Flaw) → x ≡ Wrong f → ticked (drop at s) ≡ bad f
-  unfolding meant
-  tick_wrong f g = rw g at tick_is
+  pub tick_good : {n : Part} → Field s at 0 n → reads [] (drop n.next s) ≡ got [] → ticked (drop at s) ≡ tick n.value.fourth
+  unfolding ticked onto meant field_of
+  tick_good {n = n} a e =
+      rw (w, ticked) (ap (meant (λ vs. tick (get_or vs 0 0))) (a.goes [] ∙ ap (onto (name_of n.value)) e) ∙ ap tick (small_is n.value a.holds.0))
 
 -- a line of one word
-module _ (m : Meaning) (s : List ℕ) (x : Place) (e : ended x ≡ reads [] s) where
-  pub alone_good : (i : ℕ) → x ≡ At i → alone m s ≡ m
-  unfolding alone meant
-  alone_good i f = ap (meant (λ _. m)) (sym e ∙ ap ended f)
+pub alone_good : (m : Meaning) (t : List ℕ) → reads [] t ≡ got [] → alone m t ≡ m
+unfolding alone meant
+alone_good m t e = ap (meant (λ _. m)) e
 
-  pub alone_wrong : (f : Flaw) → x ≡ Wrong f → alone m s ≡ bad f
-  unfolding alone meant
-  alone_wrong f g = ap (meant (λ _. m)) (sym e ∙ ap ended g)
+pub alone_wrong : (m : Meaning) (t : List ℕ) (f : Flaw) → reads [] t ≡ wrong f → alone m t ≡ bad f
+unfolding alone
+alone_wrong m t f e = meant_wrong _ _ f e
 
 -- ---- hex
 
@@ -280,41 +263,27 @@ module _ (t : List ℕ) where
   hex_rest e f false g = rw (e, f, g, hex)
 
 -- with no word behind it, or one too many
-pub hex_ends : (s : List ℕ) (at : ℕ) (x : Place) → no_word (drop at s) ≡ false → is_bytes (word (drop at s)) ≡ true → ended x ≡ reads [] (rest (drop at s)) → HexAt s at x
-hex_ends s at (At i) e f g =
-    by_bool (no_word (rest (drop at s)))
-    (λ q. hex_rest (drop at s) e f true q)
-    (λ q. let z : got [] ≡ wrong flaw.Extra = g ∙ ends_extra (rest (drop at s)) q in let y : ◌≡◌ {A = ℕ} 0 1 = cc in absurd (omega arith))
-hex_ends s at (Wrong d) e f g =
-    by_bool (no_word (rest (drop at s)))
-    (λ q. let z : wrong d ≡ got [] = g ∙ ends_none (rest (drop at s)) q in let y : ◌≡◌ {A = ℕ} 0 1 = cc in absurd (omega arith))
-    (λ q. hex_rest (drop at s) e f false q ∙ sym (g ∙ ends_extra (rest (drop at s)) q))
+module _ (t : List ℕ) (e : no_word t ≡ false) (f : is_bytes (word t) ≡ true) where
+  pub hex_good : reads [] (rest t) ≡ got [] → hex t ≡ got (pairs (word t))
+  hex_good g =
+      by_bool (no_word (rest t)) (λ q. hex_rest t e f true q)
+      (λ q. let z : got [] ≡ wrong flaw.Extra = sym g ∙ ends_extra (rest t) q in let y : ◌≡◌ {A = ℕ} 0 1 = cc in absurd (omega arith))
 
-pub hex_wrong : (g : Got) (o : List ℕ) (f : Flaw) → g ≡ wrong f → HexRead g o o (Wrong f)
-hex_wrong g o f e = rw e (record { is = refl; out = refl })
-
-module _ (g : Got) (o bs : List ℕ) (e : g ≡ got bs) where
-  pub hex_long : length o < length bs → HexRead g o o (Wrong flaw.Long)
-  hex_long h = rw e (record { is = rw (lt-leb (length bs) (length o) h, hex_place); out = sym (fill_long bs o h) })
-
-  pub hex_good : (n : ℕ) (o' : List ℕ) → length bs ≤ length o → n ≡ length bs → o' ≡ wrote o 0 bs → HexRead g o o' (At n)
-  hex_good n o' h p q = rw e (record { is = rw (le-leb (length bs) (length o) h, p, hex_place); out = q ∙ sym (fill_good bs o h) })
+  pub hex_more : (d : Flaw) → reads [] (rest t) ≡ wrong d → hex t ≡ wrong d
+  hex_more d g =
+      by_bool (no_word (rest t))
+      (λ q. let z : wrong d ≡ got [] = sym g ∙ ends_none (rest t) q in let y : ◌≡◌ {A = ℕ} 0 1 = cc in absurd (omega arith))
+      (λ q. hex_rest t e f false q ∙ sym (sym g ∙ ends_extra (rest t) q))
 
 -- bytes in hex
-abbrev pub line_by : What → Place → Line
-line_by x (At n) = Bytes x n
-line_by x (Wrong f) = Bad f
+module _ (x : What) (t : List ℕ) where
+  pub hexed_wrong : (f : Flaw) → hex t ≡ wrong f → hexed x t ≡ bad f
+  unfolding hexed
+  hexed_wrong f e = meant_wrong _ _ f e
 
-given_reply : (x : What) (bs o o' : List ℕ) (r : Place) → HexRead (got bs) o o' r → r ≡ hex_place (length o) (got bs) → Reads (given x bs) o o' (line_by x r)
-unfolding left answer
-given_reply x bs o o' r h e =
-    by_bool (leb (length bs) (length o)) (λ q. answered (given x bs) o o' _ (ap (line_by x) (rw (q, hex_place) at e) ∙ sym (rw (q, answer))) h.out)
-    (λ q. answered (given x bs) o o' _ (ap (line_by x) (rw (q, hex_place) at e) ∙ sym (rw (q, answer))) h.out)
-
-pub hexed_reply : (x : What) (g : Got) (o o' : List ℕ) (r : Place) → HexRead g o o' r → Reads (meant (given x) g) o o' (line_by x r)
-unfolding meant left answer
-hexed_reply x (got bs) o o' r h = given_reply x bs o o' r h h.is
-hexed_reply x (wrong f) o o' r h = answered (bad f) o o' _ (ap (line_by x) h.is) h.out
+  pub hexed_good : (bs : List ℕ) → hex t ≡ got bs → hexed x t ≡ given x bs
+  unfolding hexed meant
+  hexed_good bs e = ap (meant (given x)) e
 
 -- ---- two words of hex
 
@@ -347,29 +316,33 @@ unfolding meant onto
 meant_onto f v (got vs) = refl
 meant_onto f v (wrong e) = refl
 
-module _ (m : Meaning) (s : List ℕ) (p x : Place) (e : ended x ≡ reads_at [] s p) where
-  pub named_good : (i : ℕ) → x ≡ At i → meant (λ _. m) (reads_at [] s p) ≡ m
-  unfolding meant
-  named_good i f = ap (meant (λ _. m)) (sym e ∙ ap ended f)
+pub meant_got : (m : Meaning) (g : Got) → g ≡ got [] → meant (λ _. m) g ≡ m
+unfolding meant
+meant_got m g e = ap (meant (λ _. m)) e
 
-  pub named_wrong : (f : Flaw) → x ≡ Wrong f → meant (λ _. m) (reads_at [] s p) ≡ bad f
-  unfolding meant
-  named_wrong f g = ap (meant (λ _. m)) (sym e ∙ ap ended g)
-
-pub slip_is : (s : List ℕ) (at : ℕ) (n : Name) (p : Place) → Field s (At at) 4 n p → slipped (drop at s) ≡ meant (λ _. given Slip (unbe 32 (name_of n))) (reads_at [] s p)
+pub slip_wrong : (t : List ℕ) (f : Flaw) → reads (4 ∷ []) t ≡ wrong f → slipped t ≡ bad f
 unfolding slipped
-slip_is s at n p a =
-    let f : List ℕ → Meaning = λ vs. given Slip (unbe 32 (get_or vs 0 0)) in ap (meant f) (a.goes []) ∙ meant_onto f (name_of n) (reads_at [] s p)
+slip_wrong t f e = meant_wrong _ _ f e
 
-pub certified_is : (s : List ℕ) (at : ℕ) (v h n : Name) (p q r : Place) → Field s (At at) 2 v p → Field s p 3 h q → Field s q 4 n r
-    → certified (drop at s) ≡ meant (λ _. given (Certified v.fourth h.fourth) (unbe 32 (name_of n))) (reads_at [] s r)
+pub slip_is : {s : List ℕ} {at : ℕ} {n : Part} → Field s at 4 n → slipped (drop at s) ≡ meant (λ _. given Slip (unbe 32 (name_of n.value))) (reads [] (drop n.next s))
+unfolding slipped
+slip_is {s} {at} {n} a =
+    let f : List ℕ → Meaning = λ vs. given Slip (unbe 32 (get_or vs 0 0)) in
+    ap (meant f) (a.goes []) ∙ meant_onto f (name_of n.value) (reads [] (drop n.next s))
+
+pub certified_wrong : (t : List ℕ) (f : Flaw) → reads (2 ∷ 3 ∷ 4 ∷ []) t ≡ wrong f → certified t ≡ bad f
+unfolding certified
+certified_wrong t f e = meant_wrong _ _ f e
+
+pub certified_is : {s : List ℕ} {at : ℕ} {v h n : Part} → Field s at 2 v → Field s v.next 3 h → Field s h.next 4 n
+    → certified (drop at s) ≡ meant (λ _. given (Certified v.value.fourth h.value.fourth) (unbe 32 (name_of n.value))) (reads [] (drop n.next s))
 unfolding certified field_of
-certified_is s at v h n p q r a b c =
+certified_is {s} {at} {v} {h} {n} a b c =
     let f : List ℕ → Meaning = λ vs. given (Certified (get_or vs 0 0) (get_or vs 1 0)) (unbe 32 (get_or vs 2 0)) in
-    let left = reads_at [] s r in
-    let e : certified (drop at s) ≡ meant (λ _. given (Certified (name_of v) (name_of h)) (unbe 32 (name_of n))) left =
-    ap (meant f) (a.goes (3 ∷ 4 ∷ []) ∙ ap (onto (name_of v)) (b.goes (4 ∷ []) ∙ ap (onto (name_of h)) (c.goes [])))
-    ∙ meant_onto f (name_of v) (onto (name_of h) (onto (name_of n) left))
-    ∙ meant_onto (λ vs. f (name_of v ∷ vs)) (name_of h) (onto (name_of n) left)
-    ∙ meant_onto (λ vs. f (name_of v ∷ name_of h ∷ vs)) (name_of n) left in
-    rw (small_is v a.holds.0, small_is h b.holds.0) at e
+    let left = reads [] (drop n.next s) in
+    let e : certified (drop at s) ≡ meant (λ _. given (Certified (name_of v.value) (name_of h.value)) (unbe 32 (name_of n.value))) left =
+    ap (meant f) (a.goes (3 ∷ 4 ∷ []) ∙ ap (onto (name_of v.value)) (b.goes (4 ∷ []) ∙ ap (onto (name_of h.value)) (c.goes [])))
+    ∙ meant_onto f (name_of v.value) (onto (name_of h.value) (onto (name_of n.value) left))
+    ∙ meant_onto (λ vs. f (name_of v.value ∷ vs)) (name_of h.value) (onto (name_of n.value) left)
+    ∙ meant_onto (λ vs. f (name_of v.value ∷ name_of h.value ∷ vs)) (name_of n.value) left in
+    rw (small_is v.value a.holds.0, small_is h.value b.holds.0) at e

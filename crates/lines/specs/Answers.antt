@@ -1,16 +1,15 @@
 -- What the code answers, in the words of the definitions. Assumes nothing.
-use Rattle.std.specs.Prelude.{ℕ, ◌≤◌, ◌≡◌, true, false, List, length, drop, leb}
+use Rattle.std.specs.Prelude.{ℕ, ◌≤◌, ◌≡◌, true, false, List, length, drop, leb, Result, Ok, Err}
 use Rattle.outgoing.specs.Wrote.{wrote}
-use Rattle.text.specs.Words.{word, pairs}
-use Rattle.parts.specs.Fields.{Got, got, wrong}
-use Rattle.lines.specs.Script.{hex, Meaning, blank, fresh, tick, given, log, state, display, bad}
+use Rattle.text.specs.Words.{word, no_word, is_bytes, pairs}
+use Rattle.text.specs.Places.{WordOf}
+use Rattle.text.specs.declared.Span.{Span}
+use Rattle.parts.specs.Fields.{got, wrong}
+use Rattle.lines.specs.Script.{hex, chosen, Meaning, blank, fresh, tick, given, log, state, display, bad}
 use Rattle.parts.specs.declared.Flaw.TheVariants.{Long}
-use Rattle.parts.specs.declared.Place.{Place}
-use Rattle.parts.specs.declared.Place.TheVariants.{At, Wrong}
+use Rattle.parts.specs.declared.Flaw.{Flaw}
 use Rattle.lines.specs.declared.Line.{Line}
 use Rattle.lines.specs.declared.Line.TheVariants.{Blank, Fresh, Tick, Bytes, Log, State, Display, Bad}
-use Rattle.lines.specs.declared.Asked.{Asked}
-use Rattle.lines.specs.declared.Asked.TheVariants as asked
 
 -- the answer to a line that means m, with a buffer of so much room, and what it leaves of the buffer
 unfoldable pub answer : ℕ → Meaning → Line
@@ -44,28 +43,20 @@ pub record WritesNothing (m : Meaning) (r : Line) : Type 0 where
   pub is : (room : ℕ) → r ≡ answer room m
   pub still : (o : List ℕ) → left o m ≡ o
 
--- the log, the state or the display
-abbrev pub asked_of : Asked → Meaning
-asked_of asked.Log = log
-asked_of asked.State = state
-asked_of asked.Display = display
+-- what is wrong with a line is an answer too
+abbrev pub or_bad : Result Line Flaw → Line
+or_bad (Ok r) = r
+or_bad (Err f) = Bad f
 
--- a word of hex and no other, or what is wrong; how many bytes it says, where there is room, and what they leave of the buffer
-abbrev pub HexAt : List ℕ → ℕ → Place → Type 0
-HexAt s at (At i) = hex (drop at s) ≡ got (pairs (word (drop at s)))
-HexAt s at (Wrong f) = hex (drop at s) ≡ wrong f
+-- a word of bytes in hex stands at a place, or what is wrong with one such word and with two
+abbrev pub HexWord : List ℕ → ℕ → Result Span Flaw → Type 0
+HexWord s at (Ok w) = WordOf s (drop at s) w × (no_word (drop at s) ≡ false) × (is_bytes (word (drop at s)) ≡ true)
+HexWord s at (Err f) = (hex (drop at s) ≡ wrong f) × (chosen (drop at s) ≡ bad f)
 
-abbrev pub hex_place : ℕ → Got → Place
-hex_place room (got bs) = elim (leb (length bs) room) [ true ↦ At (length bs) | false ↦ Wrong Long ]
-hex_place room (wrong f) = Wrong f
-
-abbrev pub hex_left : List ℕ → Got → List ℕ
-hex_left o (got bs) = fill o bs
-hex_left o (wrong f) = o
-
-pub record HexRead (g : Got) (o o' : List ℕ) (r : Place) : Type 0 where
-  pub is : r ≡ hex_place (length o) g
-  pub out : o' ≡ hex_left o g
+-- the same, and no word stands behind it
+abbrev pub LastHex : List ℕ → ℕ → Result Span Flaw → Type 0
+LastHex s at (Ok w) = WordOf s (drop at s) w × (hex (drop at s) ≡ got (pairs (word (drop at s))))
+LastHex s at (Err f) = hex (drop at s) ≡ wrong f
 
 -- how many bytes of the buffer a line fills
 abbrev pub filled : Line → ℕ

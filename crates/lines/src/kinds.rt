@@ -3,50 +3,53 @@ ghost use Rattle.std.specs.Prelude.{◌≡◌, ◌≤◌, length, drop};
 ghost use Rattle.fields.specs.Names.{name_of};
 ghost use Rattle.wire.specs.Meaning.{message_of, Writable};
 ghost use Rattle.lines.specs.Script.{spoken};
-ghost use Rattle.parts.specs.Places.{Inside};
-ghost use Rattle.lines.specs.Kinds.{has as contains, Own, makes, heard_of, CanWrite};
+ghost use Rattle.lines.specs.Kinds.{number_of, has as contains, OwnRead, makes, heard_of, CanWrite};
 
 use fields::Name;
-use parts::{Flaw, Part, Place};
+use parts::{Flaw, Part};
 use wire::{Message, Statement};
 
-// A message, or what is wrong with it.
-#[derive(Clone, Copy)]
-pub enum Heard {
-    Is(Message),
-    Wrong(Flaw),
+// A kind of message, in the order of the wire's numbers.
+#[derive(Clone, Copy, Debug, PartialEq, Eq)]
+pub enum Kind {
+    NewView,
+    Propose,
+    Vote,
+    Blame,
+    BlameSet,
+    Status,
 }
 
 // Whether a kind has a field.
-fn has(kind: usize, tag: u8) -> bool
-    requires { (1 ≤ kind) × (kind ≤ 6) × (2 ≤ tag) × (tag ≤ 8) }
-    ensures { result ≡ contains kind tag }
+fn has(kind: Kind, tag: u8) -> bool
+    requires { (2 ≤ tag) × (tag ≤ 8) }
+    ensures { result ≡ contains (number_of kind) tag }
 {
     match kind {
-        1 => tag != 5,
-        2 => tag != 6,
-        3 => (tag != 5) & (tag != 6) & (tag != 7),
-        4 => (tag == 2) | (tag == 8),
-        5 => (tag == 2) | (tag == 7),
-        _ => (tag != 2) & (tag != 5) & (tag != 8),
+        Kind::NewView => tag != 5,
+        Kind::Propose => tag != 6,
+        Kind::Vote => (tag != 5) & (tag != 6) & (tag != 7),
+        Kind::Blame => (tag == 2) | (tag == 8),
+        Kind::BlameSet => (tag == 2) | (tag == 7),
+        Kind::Status => (tag != 2) & (tag != 5) & (tag != 8),
     }
 }
 
 // The next field of a kind, or nothing if the kind hasn't got it.
-fn own(line: &[u8], place: Place, kind: usize, tag: u8) -> Part
-    requires { (1 ≤ kind) × (kind ≤ 6) × (2 ≤ tag) × (tag ≤ 8) × Inside line.now place }
-    ensures { Own line.now place kind tag result.value result.next }
+fn own(line: &[u8], at: usize, kind: Kind, tag: u8) -> Result<Part, Flaw>
+    requires { (2 ≤ tag) × (tag ≤ 8) × (at ≤ length line.now) }
+    ensures { OwnRead line.now at kind tag result }
 {
     if has(kind, tag) {
-        return parts::field(line, place, tag);
+        return parts::field(line, at, tag);
     }
     let value = parts::small(0);
-    Part { value, next: place }
+    Ok(Part { value, next: at })
 }
 
 // The message of a kind. A field that the kind hasn't got isn't looked at.
 fn made(
-    kind: usize,
+    kind: Kind,
     view: u32,
     height: u32,
     name: Name,
@@ -55,12 +58,11 @@ fn made(
     mask: u16,
     author: u8,
 ) -> Message
-    requires { (1 ≤ kind) × (kind ≤ 6) }
-    ensures { (message_of result ≡ makes kind view height (name_of name) (name_of parent) cert mask author) × (Writable result) }
+    ensures { (message_of result ≡ makes (number_of kind) view height (name_of name) (name_of parent) cert mask author) × (Writable result) }
 {
     match kind {
-        1 => {
-            let link = parts::small(cert as u64);
+        Kind::NewView => {
+            let link = parts::small(u64::from(cert));
             Message::Stated(Statement {
                 is_new_view: true,
                 view,
@@ -71,7 +73,7 @@ fn made(
                 author,
             })
         }
-        2 => Message::Stated(Statement {
+        Kind::Propose => Message::Stated(Statement {
             is_new_view: false,
             view,
             height,
@@ -80,15 +82,15 @@ fn made(
             mask,
             author,
         }),
-        3 => Message::Vote {
+        Kind::Vote => Message::Vote {
             view,
             height,
             name,
             author,
         },
-        4 => Message::Blame { view, author },
-        5 => Message::BlameSet { view, mask },
-        _ => Message::Status {
+        Kind::Blame => Message::Blame { view, author },
+        Kind::BlameSet => Message::BlameSet { view, mask },
+        Kind::Status => Message::Status {
             height,
             name,
             cert,
@@ -98,35 +100,24 @@ fn made(
 }
 
 // The message of a kind, from the words of a place on.
-pub fn said(line: &[u8], at: usize, kind: usize) -> Heard
-    requires { (at ≤ length line.now) × (1 ≤ kind) × (kind ≤ 6) }
-    ensures { (heard_of result ≡ spoken kind (drop at line.now)) × (CanWrite result) }
+pub fn said(line: &[u8], at: usize, kind: Kind) -> Result<Message, Flaw>
+    requires { at ≤ length line.now }
+    ensures { (heard_of result ≡ spoken (number_of kind) (drop at line.now)) × (CanWrite result) }
 {
-    let view = own(line, Place::At(at), kind, 2);
-    let at_height = view.next;
-    let height = own(line, at_height, kind, 3);
-    let at_name = height.next;
-    let name = own(line, at_name, kind, 4);
-    let at_parent = name.next;
-    let parent = own(line, at_parent, kind, 5);
-    let at_cert = parent.next;
-    let cert = own(line, at_cert, kind, 6);
-    let at_mask = cert.next;
-    let mask = own(line, at_mask, kind, 7);
-    let at_author = mask.next;
-    let author = own(line, at_author, kind, 8);
-    let at_end = author.next;
-    if let Place::Wrong(flaw) = parts::ending(line, at_end) {
-        return Heard::Wrong(flaw);
-    }
-    let block = name.value;
-    let link = parent.value;
-    Heard::Is(made(
+    let view = own(line, at, kind, 2)?;
+    let height = own(line, view.next, kind, 3)?;
+    let name = own(line, height.next, kind, 4)?;
+    let parent = own(line, name.next, kind, 5)?;
+    let cert = own(line, parent.next, kind, 6)?;
+    let mask = own(line, cert.next, kind, 7)?;
+    let author = own(line, mask.next, kind, 8)?;
+    parts::ending(line, author.next)?;
+    Ok(made(
         kind,
         view.value.fourth as u32,
         height.value.fourth as u32,
-        block,
-        link,
+        name.value,
+        parent.value,
         cert.value.fourth as u32,
         mask.value.fourth as u16,
         author.value.fourth as u8,

@@ -13,9 +13,8 @@ use Rattle.rules.specs.Lists.{within, all}
 use Rattle.rules.specs.Sizes.{only, joined}
 use Rattle.laws.proofs.Masks.{joined_lt}
 use Rattle.laws.proofs.Tests.{by_bool, by_option, and_left, and_right, no_some}
-use Rattle.text.specs.Words.{is_decimal, digit, value, is_number, decimal, split, begin, stations, mask, is_dash, front, behind, passes}
+use Rattle.text.specs.Words.{is_decimal, digit, value, is_number, decimal, split, begin, stations, mask, is_dash, front, behind, in_station}
 use Rattle.text.specs.Places.{Runs}
-use Rattle.text.specs.declared.Over.TheVariants.{Station}
 use Rattle.text.proofs.Runs.{drop_step}
 
 pub within_low : (a b x : ℕ) → within a b x ≡ true → a ≤ x
@@ -26,36 +25,30 @@ pub within_high : (a b x : ℕ) → within a b x ≡ true → x ≤ b
 unfolding within
 within_high a b x e = leb-true x b (and_right (leb a x) (leb x b) e)
 
--- a digit by its test
+within_is : (a b x : ℕ) → a ≤ x → x ≤ b → within a b x ≡ true
+unfolding within
+within_is a b x h k = rw (le-leb a x h, le-leb x b k)
+
+within_not : (a b x : ℕ) → (a ≤ x → x ≤ b → ⊥) → within a b x ≡ false
+within_not a b x n = by_bool (within a b x) (λ e. absurd (n (within_low a b x e) (within_high a b x e))) (λ e. e)
+
+-- a digit by its place among the bytes
 module _ (b : ℕ) where
-  pub digit_decimal : is_decimal b ≡ true → digit b ≡ b - 48
-  unfolding digit
-  digit_decimal e = rw (e, digit)
+  pub digit_decimal : 48 ≤ b → b ≤ 57 → digit b ≡ b - 48
+  unfolding digit is_decimal
+  digit_decimal h k = rw (within_is 48 57 b h k, digit)
 
-  pub digit_small : is_decimal b ≡ false → within 97 102 b ≡ true → digit b ≡ b - 97 + 10
-  unfolding digit
-  digit_small e f = rw (e, f, digit)
+  pub digit_small : 97 ≤ b → b ≤ 102 → digit b ≡ b - 97 + 10
+  unfolding digit is_decimal
+  digit_small h k = rw (within_not 48 57 b (λ l m. omega arith), within_is 97 102 b h k, digit)
 
-  pub digit_capital : is_decimal b ≡ false → within 97 102 b ≡ false → within 65 70 b ≡ true → digit b ≡ b - 65 + 10
-  unfolding digit
-  digit_capital e f g = rw (e, f, g, digit)
+  pub digit_capital : 65 ≤ b → b ≤ 70 → digit b ≡ b - 65 + 10
+  unfolding digit is_decimal
+  digit_capital h k = rw (within_not 48 57 b (λ l m. omega arith), within_not 97 102 b (λ l m. omega arith), within_is 65 70 b h k, digit)
 
-  pub digit_none : is_decimal b ≡ false → within 97 102 b ≡ false → within 65 70 b ≡ false → digit b ≡ 0
-  unfolding digit
-  digit_none e f g = rw (e, f, g, digit)
-
-  pub digit_lt : digit b < 16
-  unfolding is_decimal
-  digit_lt =
-      by_bool (within 48 57 b)
-      (λ e. omega (arith, digit_decimal e, within_high 48 57 b e))
-      (λ e.
-      by_bool (within 97 102 b)
-      (λ f. omega (arith, digit_small e f, within_high 97 102 b f))
-      (λ f.
-      by_bool (within 65 70 b)
-      (λ g. omega (arith, digit_capital e f g, within_high 65 70 b g))
-      (λ g. omega (arith, digit_none e f g))))
+  pub digit_none : (48 ≤ b → b ≤ 57 → ⊥) → (97 ≤ b → b ≤ 102 → ⊥) → (65 ≤ b → b ≤ 70 → ⊥) → digit b ≡ 0
+  unfolding digit is_decimal
+  digit_none h k l = rw (within_not 48 57 b h, within_not 97 102 b k, within_not 65 70 b l, digit)
 
 -- ---- the number of some digits
 
@@ -128,16 +121,16 @@ module _ (most : ℕ) (w : List ℕ) where
 
 -- ---- masks
 
-split_end : (t : List ℕ) → behind (passes Station) t ≡ [] → split t ≡ front (passes Station) t ∷ []
-unfolding split begin front behind passes
+split_end : (t : List ℕ) → behind in_station t ≡ [] → split t ≡ front in_station t ∷ []
+unfolding split begin front behind in_station
 split_end [] e = refl
 split_end (b ∷ t) e =
     by_bool (eqb b 43)
     (λ q. let z : b ∷ t ≡ [] = rw (q, behind) at e in let y : ◌≡◌ {A = ℕ} 0 1 = cc in absurd (omega arith))
     (λ q. rw (q, split, front) (ap (begin b) (split_end t (rw (q, behind) at e))))
 
-split_more : (t : List ℕ) (b : ℕ) (u : List ℕ) → behind (passes Station) t ≡ b ∷ u → split t ≡ front (passes Station) t ∷ split u
-unfolding split begin front behind passes
+split_more : (t : List ℕ) (b : ℕ) (u : List ℕ) → behind in_station t ≡ b ∷ u → split t ≡ front in_station t ∷ split u
+unfolding split begin front behind in_station
 split_more [] b u e = let y : ◌≡◌ {A = ℕ} 0 1 = cc in absurd (omega arith)
 split_more (a ∷ t) b u e =
     by_bool (eqb a 43)
@@ -154,7 +147,7 @@ module _ (m : ℕ) (w : List ℕ) (ws : List (List ℕ)) where
   station_is i e = rw (e, stations)
 
 -- one station of a mask, from a place up to the next '+' or the end
-module _ (m : ℕ) (w : List ℕ) (from end : ℕ) (r : Runs Station w from end) where
+module _ (m : ℕ) (w : List ℕ) (from end : ℕ) (r : Runs in_station w from end) where
   here : List ℕ
   here = take (end - from) (drop from w)
 

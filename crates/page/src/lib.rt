@@ -1,66 +1,100 @@
 // Text is put on a page, which is written when it is full or an answer is whole.
 #![tactic(auto)]
 
-ghost use Rattle.std.specs.Prelude.{◌+◌, ◌/◌, ◌%◌, ◌<◌, min, max, ◌≡◌, [], ◌∷◌, set};
+ghost use Rattle.std.specs.Prelude.{◌+◌, ◌/◌, ◌%◌, ◌<◌, min, max, ◌≡◌, [], ◌∷◌, set, replicate};
 ghost use Rattle.io.specs.Digits.{hex_digit_ascii};
 ghost use Rattle.page.specs.Page.{place, typed, in_hex, Spelt};
 
-pub type Page = [u8; 4096];
+// The bytes in use stand first. Where they go when they are written is lent with the page.
+#[derive(Drop)]
+pub struct Page<'p, P: Print> {
+    pub rt: &'p P,
+    pub text: [u8; 4096],
+    pub used: usize,
+}
 
-// Writes the first bytes of a page. What cannot be written is lost.
-fn write_out(rt: &impl Print, page: &[u8], end: usize) {
-    if end <= page.len() {
-        let _ = rt.write_all(&page[..end]);
+impl<'p, P: Print> Page<'p, P> {
+    // An empty page.
+    pub fn new(rt: &'p P) -> Page<'p, P>
+        ensures { (result.used ≡ 0) × (result.text ≡ replicate 4096 0) }
+    {
+        let text = [0; 4096];
+        Page { rt, text, used: 0 }
     }
-}
 
-// Writes what a page has.
-pub fn finish(rt: &impl Print, page: &Page, at: usize) {
-    write_out(rt, page, at);
-}
-
-// A byte behind the first `at` of a page, or first on a page that was full; how many bytes the page has now.
-pub fn put(rt: &impl Print, page: &mut Page, at: usize, byte: u8) -> usize
-    ensures { (page.new ≡ set page.old (place at) byte) × (result ≡ place at + 1) }
-{
-    if at < 4096 {
-        page[at] = byte;
-        return at + 1;
+    // Writes what the page has. What cannot be written is lost.
+    fn write_out(&self) {
+        if self.used <= 4096 {
+            let _ = self.rt.write_all(&self.text[..self.used]);
+        }
     }
-    write_out(rt, page, 4096);
-    page[0] = byte;
-    1
-}
 
-// Words, as they stand.
-pub fn say(rt: &impl Print, page: &mut Page, at: usize, words: &[u8]) -> usize
-    ensures { (page.new, result) ≡ typed page.old at words.now }
-{
-    let mut end = at;
-    let mut i = 0;
-    while i < words.len() {
-        end = put(rt, page, end, words[i]);
-        i += 1;
+    // Writes what the page has, and ends it.
+    pub fn finish(self) {
+        self.write_out();
     }
-    end
-}
 
-// A number in decimal.
-pub fn decimal(rt: &impl Print, page: &mut Page, at: usize, number: u64) -> usize
-    ensures { Spelt 10 1 number page.old at page.new result }
-{
-    let mut digits = [0u8; 20];
-    let n = io::decimal(number, &mut digits);
-    say(rt, page, at, &digits[..n])
-}
+    // A byte behind the others, or first on the next page where this one is full.
+    pub fn put(&mut self, byte: u8)
+        ensures { (self.new.text ≡ set self.old.text (place self.old.used) byte) × (self.new.used ≡ place self.old.used + 1) }
+    {
+        if self.used < 4096 {
+            self.text[self.used] = byte;
+            self.used += 1;
+            return;
+        }
+        self.write_out();
+        self.text[0] = byte;
+        self.used = 1;
+    }
 
-// A number in hex, of at least so many digits.
-pub fn hex(rt: &impl Print, page: &mut Page, at: usize, number: u64, width: usize) -> usize
-    ensures { Spelt 16 (min (max width 1) 16) number page.old at page.new result }
-{
-    let mut digits = [0u8; 16];
-    let n = io::hex(number, width, &mut digits);
-    say(rt, page, at, &digits[..n])
+    // Words, as they stand.
+    pub fn say(&mut self, words: &[u8])
+        ensures { (self.new.text, self.new.used) ≡ typed self.old.text self.old.used words.now }
+    {
+        for &byte in words {
+            self.put(byte);
+        }
+    }
+
+    // A number in decimal.
+    pub fn decimal(&mut self, number: u64)
+        ensures { Spelt 10 1 number self.old.text self.old.used self.new.text self.new.used }
+    {
+        let mut digits = [0u8; 20];
+        let n = io::decimal(number, &mut digits);
+        self.say(&digits[..n]);
+    }
+
+    // A number in hex, of at least so many digits.
+    pub fn hex(&mut self, number: u64, width: usize)
+        ensures { Spelt 16 (min (max width 1) 16) number self.old.text self.old.used self.new.text self.new.used }
+    {
+        let mut digits = [0u8; 16];
+        let n = io::hex(number, width, &mut digits);
+        self.say(&digits[..n]);
+    }
+
+    // A byte in hex.
+    fn pair(&mut self, byte: u8)
+        ensures { (self.new.text, self.new.used) ≡ typed self.old.text self.old.used (hex_digit_ascii (byte / 16) ∷ (hex_digit_ascii (byte % 16) ∷ [])) }
+    {
+        self.put(digit(byte / 16));
+        self.put(digit(byte % 16));
+    }
+
+    // Bytes in hex, two digits each; no bytes are a dash.
+    pub fn bytes(&mut self, shown: &[u8])
+        ensures { (self.new.text, self.new.used) ≡ typed self.old.text self.old.used (in_hex shown.now) }
+    {
+        if shown.len() == 0 {
+            self.put(b'-');
+            return;
+        }
+        for &byte in shown {
+            self.pair(byte);
+        }
+    }
 }
 
 // The hex digit of four bits.
@@ -69,28 +103,4 @@ fn digit(bits: u8) -> u8
     ensures { result ≡ hex_digit_ascii bits }
 {
     if bits < 10 { 48 + bits } else { 87 + bits }
-}
-
-// A byte in hex.
-fn pair(rt: &impl Print, page: &mut Page, at: usize, byte: u8) -> usize
-    ensures { (page.new, result) ≡ typed page.old at (hex_digit_ascii (byte / 16) ∷ (hex_digit_ascii (byte % 16) ∷ [])) }
-{
-    let high = put(rt, page, at, digit(byte / 16));
-    put(rt, page, high, digit(byte % 16))
-}
-
-// Bytes in hex, two digits each; no bytes are a dash.
-pub fn bytes(rt: &impl Print, page: &mut Page, at: usize, shown: &[u8]) -> usize
-    ensures { (page.new, result) ≡ typed page.old at (in_hex shown.now) }
-{
-    if shown.len() == 0 {
-        return put(rt, page, at, b'-');
-    }
-    let mut end = at;
-    let mut i = 0;
-    while i < shown.len() {
-        end = pair(rt, page, end, shown[i]);
-        i += 1;
-    }
-    end
 }

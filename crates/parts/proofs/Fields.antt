@@ -9,19 +9,18 @@ use lib.ListN.{take, drop}
 use Rattle.rules.specs.Script.{same_list}
 use Rattle.fields.specs.declared.Name.{Name}
 use Rattle.fields.specs.Names.{name_of}
-use Rattle.text.specs.Words.{word, rest, no_word, decimal, mask}
+use Rattle.hex_words.specs.Meaning.{named_of}
+use Rattle.text.specs.Words.{name, word, rest, no_word, decimal, mask}
 use Rattle.parts.specs.Fields.{says, flaw_of, field_of, plain, unlabelled, got, wrong, onto, reads}
 use Rattle.text.specs.Places.{WordOf}
-use Rattle.parts.specs.Places.{small, Holds, HoldsIn, reads_at, Field}
+use Rattle.parts.specs.Places.{small, Holds, Says, Field}
 use Rattle.parts.specs.declared.Flaw.{Flaw}
 use Rattle.parts.specs.declared.Flaw.TheVariants as flaw
+use Rattle.parts.specs.declared.Part.{Part}
 use Rattle.parts.specs.declared.Sort as sorts
 use Rattle.parts.specs.declared.Sort.TheVariants as sort
 use Rattle.parts.specs.declared.Sort.TheVariants.{Number, Mask}
-use Rattle.hex_words.specs.declared.Named.{Named}
-use Rattle.hex_words.specs.declared.Named.TheVariants as named
-use Rattle.parts.specs.declared.Place.{Place}
-use Rattle.parts.specs.declared.Place.TheVariants.{At, Wrong}
+use Rattle.std.proofs.Common.{Result, Ok, Err, IsErr, IsErrAnd, Some, None, ok_or, Option as Answer}
 use Rattle.text.specs.declared.Span.{Span}
 use Rattle.text.proofs.Runs.{word_none, word_some}
 use Rattle.numbers.proofs.Digits.{decimal_most, mask_lt}
@@ -57,10 +56,6 @@ pub small_is : (n : Name) → n ≡ small n.fourth → name_of n ≡ n.fourth
 unfolding name_of
 small_is n e = ap name_of e ∙ small_name n.fourth
 
-pub holds_name : (x : Named) → HoldsIn sort.Name x
-holds_name (named.Is n) = tt
-holds_name named.Not = tt
-
 pub holds_zero : (x : sorts.Sort) → Holds x (small 0)
 holds_zero (Number most) = (refl, omega arith)
 holds_zero sort.Name = tt
@@ -90,13 +85,6 @@ module _ (t : ℕ) (s : List ℕ) (ts : List ℕ) where
   unfolding reads
   reads_is v e f = rw (e, f, reads)
 
--- something is wrong, here or before
-pub field_wrong : (s : List ℕ) (p : Place) (t : ℕ) (n : Name) (q : Place) (f : Flaw) → n ≡ small 0 → q ≡ Wrong f
-    → ((ts : List ℕ) → reads_at (t ∷ ts) s p ≡ wrong f) → Field s p t n q
-unfolding onto
-field_wrong s p t n q f en eq h =
-    rw (en, eq) (record { goes = λ ts. h ts; inside = tt; holds = holds_zero (field_of t).sort })
-
 module _ (s : List ℕ) (at t : ℕ) (w : Span) (r : WordOf s (unlabelled (field_of t).label (drop at s)) w) where
   pub field_missing : w.start ≡ w.end → (ts : List ℕ) → reads (t ∷ ts) (drop at s) ≡ wrong flaw.Missing
   field_missing e ts = reads_missing t (drop at s) ts (word_none r e)
@@ -105,22 +93,47 @@ module _ (s : List ℕ) (at t : ℕ) (w : Span) (r : WordOf s (unlabelled (field
     abbrev here : List ℕ
     here = take (w.end - w.start) (drop w.start s)
 
-    pub field_not : says (field_of t).sort here ≡ none → (ts : List ℕ) → reads (t ∷ ts) (drop at s) ≡ wrong (flaw_of (field_of t).sort)
-    field_not e ts = reads_not t (drop at s) ts (word_some r n) (rw r.is at e)
+    pub field_not : (f : Flaw) → Says (field_of t).sort here (Err f) → (ts : List ℕ) → reads (t ∷ ts) (drop at s) ≡ wrong f
+    field_not f e ts = reads_not t (drop at s) ts (word_some r n) (rw r.is at e.0) ∙ ap wrong (sym e.1)
 
-    pub field_is : (x : Name) → says (field_of t).sort here ≡ some (name_of x) → Holds (field_of t).sort x → Field s (At at) t x (At w.end)
-    field_is x e h =
+    pub field_is : (x : Name) → Says (field_of t).sort here (Ok x) → Field s at t (record { value = x; next = w.end })
+    field_is x e =
         record {
-          goes = λ ts. reads_is t (drop at s) ts (name_of x) (word_some r n) (rw r.is at e) ∙ ap (λ (l : List ℕ). onto (name_of x) (reads ts l)) (sym r.after);
+          goes = λ ts. reads_is t (drop at s) ts (name_of x) (word_some r n) (rw r.is at e.0) ∙ ap (λ (l : List ℕ). onto (name_of x) (reads ts l)) (sym r.after);
           inside = r.high;
-          holds = h;
+          holds = e.1;
         }
 
--- what a word says by its sort
-pub says_number : (most : ℕ) (w : List ℕ) (v : ℕ) → decimal most w ≡ some v → (some (name_of (small v)) ≡ says (Number most) w) × Holds (Number most) (small v)
-unfolding says
-says_number most w v e = (ap some (small_is (small v) refl) ∙ sym e, (refl, decimal_most most w v e))
+-- what is wrong further on is wrong with the whole
+pub before : {s : List ℕ} {at t : ℕ} {p : Part} → Field s at t p → (ts : List ℕ) (f : Flaw) → reads ts (drop p.next s) ≡ wrong f → reads (t ∷ ts) (drop at s) ≡ wrong f
+unfolding onto
+before a ts f e = a.goes ts ∙ ap (onto _) e
 
-pub says_mask : (w : List ℕ) (v : ℕ) → mask w ≡ some v → (some (name_of (small v)) ≡ says Mask w) × Holds Mask (small v)
+-- what a word says by its sort
+pub says_number : (most : ℕ) (w : List ℕ) (v : ℕ) → decimal most w ≡ some v → Says (Number most) w (Ok (small v))
 unfolding says
-says_mask w v e = (ap some (small_is (small v) refl) ∙ sym e, (refl, mask_lt w v e))
+says_number most w v e = (e ∙ ap some (sym (small_is (small v) refl)), (refl, decimal_most most w v e))
+
+pub says_name : (w : List ℕ) (o : Answer Name) → named_of o ≡ name w → Says sort.Name w (ok_or o flaw.Name)
+unfolding says flaw_of
+says_name w (Some n) e = (sym e, tt)
+says_name w None e = (sym e, refl)
+
+pub says_mask : (w : List ℕ) (v : ℕ) → mask w ≡ some v → Says Mask w (Ok (small v))
+unfolding says
+says_mask w v e = (e ∙ ap some (sym (small_is (small v) refl)), (refl, mask_lt w v e))
+
+-- ---- answers that `?` hands on
+
+pub gives : {A : Type 0} (r : Result A Flaw) (f : Flaw) → IsErr r × IsErrAnd r (λ e. e ≡ f) → r ≡ Err f
+gives (Ok x) f h = absurd h.1
+gives (Err e) f h = ap Err h.1
+
+module _ {A : Type 0} (f : Flaw) where
+  pub took : (o : Answer A) (x : A) → Ok x ≡ ok_or o f → o ≡ Some x
+  took (Some y) x e = let z : y ≡ x = cc in ap Some z
+  took None x e = absurd (let z : ◌≡◌ {A = ℕ} 0 1 = cc in omega arith)
+
+  pub lacked : (o : Answer A) (e : Flaw) → Err e ≡ ok_or o f → (o ≡ None) × (e ≡ f)
+  lacked (Some y) e h = absurd (let z : ◌≡◌ {A = ℕ} 0 1 = cc in omega arith)
+  lacked None e h = (refl, let z : e ≡ f = cc in z)

@@ -1,14 +1,13 @@
--- Fields at places of a line, as the code keeps them. Assumes nothing.
-use Rattle.std.specs.Prelude.{ℕ, ◌<◌, ◌≤◌, ◌≡◌, List, [], ◌∷◌, length, drop}
+-- Fields at places of a line, as the code answers them. Assumes nothing.
+use Rattle.std.specs.Prelude.{ℕ, ◌<◌, ◌≤◌, ◌≡◌, List, [], ◌∷◌, length, drop, Result, Ok, Err}
+use Rattle.std.proofs.Math.Option.{none, some}
 use Rattle.fields.specs.declared.Name.{Name}
 use Rattle.fields.specs.Names.{name_of}
-use Rattle.parts.specs.Fields.{Got, got, wrong, onto, reads, field_of}
-use Rattle.hex_words.specs.declared.Named as nameds
-use Rattle.hex_words.specs.declared.Named.TheVariants as named
+use Rattle.parts.specs.Fields.{got, wrong, onto, reads, says, flaw_of, field_of}
+use Rattle.parts.specs.declared.Flaw.{Flaw}
+use Rattle.parts.specs.declared.Part.{Part}
 use Rattle.parts.specs.declared.Sort as sorts
 use Rattle.parts.specs.declared.Sort.TheVariants as sort
-use Rattle.parts.specs.declared.Place.{Place}
-use Rattle.parts.specs.declared.Place.TheVariants.{At, Wrong}
 
 -- a number of a field is the last word of a name
 abbrev pub small : ℕ → Name
@@ -19,26 +18,23 @@ Holds (sort.Number most) n = (n ≡ small n.fourth) × (n.fourth ≤ most)
 Holds sort.Name n = Unit
 Holds sort.Mask n = (n ≡ small n.fourth) × (n.fourth < 65536)
 
-abbrev pub HoldsIn : sorts.Sort → nameds.Named → Type 0
-HoldsIn x (named.Is n) = Holds x n
-HoldsIn x named.Not = Unit
+-- what a word says as a field of a sort, or what is wrong with it
+abbrev pub Says : sorts.Sort → List ℕ → Result Name Flaw → Type 0
+Says x w (Ok n) = (says x w ≡ some (name_of n)) × Holds x n
+Says x w (Err f) = (says x w ≡ none) × (f ≡ flaw_of x)
 
--- fields from a place on, unless something is wrong already
-abbrev pub reads_at : List ℕ → List ℕ → Place → Got
-reads_at ts s (At i) = reads ts (drop i s)
-reads_at ts s (Wrong f) = wrong f
+-- a field of a tag was read at a place: its value, and the place behind it
+pub record Field (s : List ℕ) (at t : ℕ) (p : Part) : Type 0 where
+  pub goes : (ts : List ℕ) → reads (t ∷ ts) (drop at s) ≡ onto (name_of p.value) (reads ts (drop p.next s))
+  pub inside : p.next ≤ length s
+  pub holds : Holds (field_of t).sort p.value
 
-abbrev pub Inside : List ℕ → Place → Type 0
-Inside s (At i) = i ≤ length s
-Inside s (Wrong f) = Unit
-
--- a field of a tag was read at p: its value, and the place q behind it
-pub record Field (s : List ℕ) (p : Place) (t : ℕ) (n : Name) (q : Place) : Type 0 where
-  pub goes : (ts : List ℕ) → reads_at (t ∷ ts) s p ≡ onto (name_of n) (reads_at ts s q)
-  pub inside : Inside s q
-  pub holds : Holds (field_of t).sort n
+-- the same, or what is wrong, whatever fields stand behind
+abbrev pub FieldRead : List ℕ → ℕ → ℕ → Result Part Flaw → Type 0
+FieldRead s at t (Ok p) = Field s at t p
+FieldRead s at t (Err f) = (ts : List ℕ) → reads (t ∷ ts) (drop at s) ≡ wrong f
 
 -- whether no word is left
-abbrev pub ended : Place → Got
-ended (At i) = got []
-ended (Wrong f) = wrong f
+abbrev pub Ended : List ℕ → ℕ → Result Unit Flaw → Type 0
+Ended s at (Ok x) = reads [] (drop at s) ≡ got []
+Ended s at (Err f) = reads [] (drop at s) ≡ wrong f

@@ -1,20 +1,17 @@
 // The fields of a line. A field is known by its tag on the wire; a plain number, as those of `fresh` and `tick`, has tag 0.
 #![tactic(auto)]
 
-ghost use Rattle.std.specs.Prelude.{[], ◌≡◌, ◌≤◌, ◌<◌, length, drop};
-ghost use Rattle.parts.specs.Fields.{says, flaw_of, field_of, unlabelled};
+ghost use Rattle.std.specs.Prelude.{◌≡◌, ◌≤◌, length, drop};
+ghost use Rattle.parts.specs.Fields.{field_of, unlabelled};
 ghost use Rattle.text.specs.Places.{WordOf};
-ghost use Rattle.hex_words.specs.Meaning.{named_of};
-ghost use Rattle.parts.specs.Places.{small, HoldsIn, reads_at, Inside, ended, Field};
+ghost use Rattle.parts.specs.Places.{small, Says, FieldRead, Ended};
 
 use fields::Name;
-use hex_words::Named;
-use numbers::Number;
 use text::Span;
 
 // What is wrong with a line: the first word is unknown; a word is missing; a word is too many; a number, hex, a name or a mask isn't
 // one, or is too large for its field; the bytes have no room.
-#[derive(Clone, Copy)]
+#[derive(Clone, Copy, Debug, PartialEq, Eq)]
 pub enum Flaw {
     Word,
     Missing,
@@ -34,18 +31,11 @@ pub enum Sort {
     Mask,
 }
 
-// How far a line was read, or what is wrong with it.
-#[derive(Clone, Copy)]
-pub enum Place {
-    At(usize),
-    Wrong(Flaw),
-}
-
 // What a field says, a number as the last word of a name, and how far the line was read with it.
 #[derive(Clone, Copy)]
 pub struct Part {
     pub value: Name,
-    pub next: Place,
+    pub next: usize,
 }
 
 // The next word, behind the label if that stands first.
@@ -56,7 +46,7 @@ fn unlabelled(line: &[u8], at: usize, label: &[u8]) -> Span
     let first = text::word(line, at);
     let start = first.start;
     let end = first.end;
-    if text::same(&line[start..end], label) {
+    if &line[start..end] == label {
         return text::word(line, end);
     }
     first
@@ -95,17 +85,6 @@ fn sort_of(tag: u8) -> Sort
     }
 }
 
-// What is wrong with a word that says nothing as a field of a sort.
-fn flaw_of(sort: Sort) -> Flaw
-    ensures { result ≡ flaw_of sort }
-{
-    match sort {
-        Sort::Number(_) => Flaw::Number,
-        Sort::Name => Flaw::Name,
-        Sort::Mask => Flaw::Mask,
-    }
-}
-
 // A number as a name.
 pub fn small(value: u64) -> Name
     ensures { result ≡ small value }
@@ -119,79 +98,45 @@ pub fn small(value: u64) -> Name
 }
 
 // What a word says as a field of a sort.
-fn value_of(word: &[u8], sort: Sort) -> Named
-    ensures { (named_of result ≡ says sort word.now) × (HoldsIn sort result) }
+fn value_of(word: &[u8], sort: Sort) -> Result<Name, Flaw>
+    ensures { Says sort word.now result }
 {
     match sort {
         Sort::Number(most) => {
-            let Number::Is(value) = numbers::decimal(word, most) else {
-                return Named::Not;
-            };
-            Named::Is(small(value))
+            let value = numbers::decimal(word, most).ok_or(Flaw::Number)?;
+            Ok(small(value))
         }
-        Sort::Name => hex_words::name(word),
+        Sort::Name => hex_words::name(word).ok_or(Flaw::Name),
         Sort::Mask => {
-            let Number::Is(value) = numbers::mask(word) else {
-                return Named::Not;
-            };
-            Named::Is(small(value))
+            let value = numbers::mask(word).ok_or(Flaw::Mask)?;
+            Ok(small(value))
         }
     }
 }
 
 // The field at a place.
-fn field_at(line: &[u8], at: usize, tag: u8) -> Part
+pub fn field(line: &[u8], at: usize, tag: u8) -> Result<Part, Flaw>
     requires { at ≤ length line.now }
-    ensures { Field line.now (Place.At at) tag result.value result.next }
+    ensures { FieldRead line.now at tag result }
 {
     let word = word_of(line, at, tag);
     let start = word.start;
-    let end = word.end;
-    if start == end {
-        return wrong(Flaw::Missing);
+    let next = word.end;
+    if start == next {
+        return Err(Flaw::Missing);
     }
-    let sort = sort_of(tag);
-    let Named::Is(value) = value_of(&line[start..end], sort) else {
-        return wrong(flaw_of(sort));
-    };
-    Part {
-        value,
-        next: Place::At(end),
-    }
+    let value = value_of(&line[start..next], sort_of(tag))?;
+    Ok(Part { value, next })
 }
 
-fn wrong(flaw: Flaw) -> Part
-    ensures { (result.value ≡ small 0) × (result.next ≡ Place.Wrong flaw) }
+// That no word is left.
+pub fn ending(line: &[u8], at: usize) -> Result<(), Flaw>
+    requires { at ≤ length line.now }
+    ensures { Ended line.now at result }
 {
-    let value = small(0);
-    Part {
-        value,
-        next: Place::Wrong(flaw),
-    }
-}
-
-// The next field of a line, if nothing is wrong so far.
-pub fn field(line: &[u8], place: Place, tag: u8) -> Part
-    requires { Inside line.now place }
-    ensures { Field line.now place tag result.value result.next }
-{
-    match place {
-        Place::At(at) => field_at(line, at, tag),
-        Place::Wrong(flaw) => wrong(flaw),
-    }
-}
-
-// Whether no word is left.
-pub fn ending(line: &[u8], place: Place) -> Place
-    requires { Inside line.now place }
-    ensures { ended result ≡ reads_at [] line.now place }
-{
-    let Place::At(at) = place else {
-        return place;
-    };
     let word = text::word(line, at);
     if word.start < word.end {
-        return Place::Wrong(Flaw::Extra);
+        return Err(Flaw::Extra);
     }
-    place
+    Ok(())
 }

@@ -7,88 +7,85 @@ use stored::Store;
 const ROOM: usize = 4000;
 
 // A list for the plain engine.
-pub type List = [u8; lent_list::HEAD + slots::LENGTH * ROOM];
+type List = [u8; lent_list::HEAD + slots::LENGTH * ROOM];
 
-// A list of zeros, which is none that is well formed.
-pub fn no_list() -> List {
-    [0; lent_list::HEAD + slots::LENGTH * ROOM]
-}
-
-// A fresh store, or a fresh list; beside a list the store is kept of the same inputs, for lines that look at one.
-pub fn fresh(
-    store: &mut Store,
-    list: &mut List,
+// Beside a list the store is kept of the same inputs, for lines that look at one.
+#[derive(Drop)]
+pub struct Engine {
+    pub store: Store,
+    list: List,
     is_plain: bool,
-    n: u64,
-    delay: u64,
-    own: u64,
-) -> u64 {
-    if is_plain {
-        let answer = fresh_list::plain_fresh(list, n, delay, own);
-        if answer == 0 {
-            station::station_fresh(store, n, delay, own);
-        }
-        return answer;
-    }
-    station::station_fresh(store, n, delay, own)
 }
 
-// An input of the working station, by the number of its kind in a journal: 1 a tick, 2 an offered name, 3 a message.
-fn step(store: &mut Store, kind: u64, bytes: &[u8], out: &mut Out) -> u64 {
-    match kind {
-        1 => station::station_tick(store, out),
-        2 => station::station_offer(store, bytes, out),
-        _ => station::station_step(store, bytes, out),
+// An input, with its bytes.
+#[derive(Clone, Copy)]
+pub enum Input<'b> {
+    Tick,
+    Offer(&'b [u8]),
+    Message(&'b [u8]),
+}
+
+impl Engine {
+    // A store and a list of zeros, which are none that are well formed.
+    pub fn new(is_plain: bool) -> Engine {
+        Engine {
+            store: stored::no_store(),
+            list: [0; lent_list::HEAD + slots::LENGTH * ROOM],
+            is_plain,
+        }
+    }
+
+    // A fresh store, or a fresh list.
+    pub fn fresh(&mut self, n: u64, delay: u64, own: u64) -> u64 {
+        if self.is_plain {
+            let answer = fresh_list::plain_fresh(&mut self.list, n, delay, own);
+            if answer != 0 {
+                return answer;
+            }
+        }
+        station::station_fresh(&mut self.store, n, delay, own)
+    }
+
+    // An input. What the plain engine keeps in its list the store beside it takes too, and nobody sees what it says.
+    pub fn take(&mut self, input: Input, out: &mut Out) -> u64 {
+        if !self.is_plain {
+            return step(&mut self.store, input, out);
+        }
+        let answer = plain_step(&mut self.list, input, out);
+        if keeping::is_taken(answer) {
+            let mut unseen = show::out_buffer();
+            step(&mut self.store, input, &mut unseen);
+        }
+        answer
+    }
+
+    // Prints the log.
+    pub fn log(&self, rt: &impl Print, line: u64) {
+        if !self.is_plain {
+            stored::log(rt, line, &self.store);
+            return;
+        }
+        let mut out = show::out_buffer();
+        let answer = plain::plain_log(&self.list, &mut out);
+        let count = answer as usize / stored::NAME;
+        stored::names(rt, line, show::refusal(answer), count, &out);
+    }
+}
+
+// An input of the working station.
+fn step(store: &mut Store, input: Input, out: &mut Out) -> u64 {
+    match input {
+        Input::Tick => station::station_tick(store, out),
+        Input::Offer(name) => station::station_offer(store, name, out),
+        Input::Message(message) => station::station_step(store, message, out),
     }
 }
 
 // The same of the plain engine.
-fn plain_step(list: &mut List, kind: u64, bytes: &[u8], out: &mut Out) -> u64 {
-    match kind {
-        1 => plain::plain_tick(list, out),
-        2 => plain::plain_offer(list, bytes, out),
-        _ => plain::plain_step(list, bytes, out),
+fn plain_step(list: &mut List, input: Input, out: &mut Out) -> u64 {
+    match input {
+        Input::Tick => plain::plain_tick(list, out),
+        Input::Offer(name) => plain::plain_offer(list, name, out),
+        Input::Message(message) => plain::plain_step(list, message, out),
     }
-}
-
-// An input. What the plain engine keeps in its list the store beside it takes too, and nobody sees what it says.
-pub fn take(
-    store: &mut Store,
-    list: &mut List,
-    is_plain: bool,
-    kind: u64,
-    bytes: &[u8],
-    out: &mut Out,
-) -> u64 {
-    if is_plain {
-        let answer = plain_step(list, kind, bytes, out);
-        if keeping::is_taken(answer) {
-            let mut unseen = show::out_buffer();
-            step(store, kind, bytes, &mut unseen);
-        }
-        return answer;
-    }
-    step(store, kind, bytes, out)
-}
-
-// Prints the log.
-pub fn log(rt: &impl Print, store: &Store, list: &List, is_plain: bool, number: u64) {
-    if is_plain {
-        plain_log(rt, number, list);
-        return;
-    }
-    stored::log(rt, number, store);
-}
-
-// The log, as the plain engine tells it.
-fn plain_log(rt: &impl Print, line: u64, list: &List) {
-    let mut out = show::out_buffer();
-    let answer = plain::plain_log(list, &mut out);
-    stored::names(
-        rt,
-        line,
-        show::refusal(answer),
-        answer as usize / stored::NAME,
-        &out,
-    );
 }

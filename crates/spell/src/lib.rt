@@ -6,169 +6,143 @@ use page::Page;
 use wire::{Message, Statement};
 
 // A word and a number.
-pub fn number(rt: &impl Print, page: &mut Page, at: usize, word: &[u8], value: u64) -> usize {
-    let end = page::say(rt, page, at, word);
-    page::decimal(rt, page, end, value)
+pub fn number<P: Print>(page: &mut Page<P>, word: &[u8], value: u64) {
+    page.say(word);
+    page.decimal(value);
 }
 
 // A word of a name, behind what stands before it: zeros in front are left out.
-fn part(rt: &impl Print, page: &mut Page, at: usize, before: u64, value: u64) -> usize {
+fn part<P: Print>(page: &mut Page<P>, before: u64, value: u64) {
     if before != 0 {
-        return page::hex(rt, page, at, value, 16);
+        page.hex(value, 16);
+    } else if value != 0 {
+        page.hex(value, 1);
     }
-    if value == 0 {
-        return at;
-    }
-    page::hex(rt, page, at, value, 1)
 }
 
 // A word and a block's name, in hex without zeros in front; genesis is 0.
-pub fn name(rt: &impl Print, page: &mut Page, at: usize, word: &[u8], value: Name) -> usize {
-    let said = page::say(rt, page, at, word);
+pub fn name<P: Print>(page: &mut Page<P>, word: &[u8], value: Name) {
+    page.say(word);
     if value.is_zero() {
-        return page::put(rt, page, said, b'0');
+        page.put(b'0');
+        return;
     }
-    let first = part(rt, page, said, 0, value.first);
-    let second = part(rt, page, first, value.first, value.second);
+    part(page, 0, value.first);
+    part(page, value.first, value.second);
     let upper = value.first | value.second;
-    let third = part(rt, page, second, upper, value.third);
-    part(rt, page, third, upper | value.third, value.fourth)
+    part(page, upper, value.third);
+    part(page, upper | value.third, value.fourth);
 }
 
 // A word and the stations of a mask, joined by `+`; nobody is a dash.
-pub fn mask(rt: &impl Print, page: &mut Page, at: usize, word: &[u8], mask: u16) -> usize {
-    let mut end = page::say(rt, page, at, word);
+pub fn mask<P: Print>(page: &mut Page<P>, word: &[u8], mask: u16) {
+    page.say(word);
     if mask == 0 {
-        return page::put(rt, page, end, b'-');
+        page.put(b'-');
+        return;
     }
     let mut rest = mask;
-    let mut station: u64 = 0;
-    while station < 16 {
+    for station in 0..16 {
         if rest % 2 == 1 {
-            end = member(rt, page, end, station, rest);
+            member(page, station, rest);
         }
         rest /= 2;
-        station += 1;
     }
-    end
 }
 
 // A station of a mask, and a `+` if others follow.
-fn member(rt: &impl Print, page: &mut Page, at: usize, station: u64, rest: u16) -> usize {
-    let end = page::decimal(rt, page, at, station);
-    if rest == 1 {
-        return end;
+fn member<P: Print>(page: &mut Page<P>, station: u64, rest: u16) {
+    page.decimal(station);
+    if rest != 1 {
+        page.put(b'+');
     }
-    page::put(rt, page, end, b'+')
 }
 
 // A view, height and name: what most messages begin with.
-fn block(
-    rt: &impl Print,
-    page: &mut Page,
-    at: usize,
-    word: &[u8],
-    view: u32,
-    height: u32,
-    block: Name,
-) -> usize {
-    let viewed = number(rt, page, at, word, view as u64);
-    let high = number(rt, page, viewed, b" height ", height as u64);
-    name(rt, page, high, b" name ", block)
+fn block<P: Print>(page: &mut Page<P>, word: &[u8], view: u32, height: u32, block: Name) {
+    number(page, word, u64::from(view));
+    number(page, b" height ", u64::from(height));
+    name(page, b" name ", block);
 }
 
 // A new-view or a propose.
-fn statement(rt: &impl Print, page: &mut Page, at: usize, x: Statement) -> usize {
-    let linked = if x.is_new_view {
+fn statement<P: Print>(page: &mut Page<P>, x: Statement) {
+    if x.is_new_view {
         let link = x.link;
-        let start = block(rt, page, at, b"new-view view ", x.view, x.height, x.name);
-        number(rt, page, start, b" certificate ", link.fourth)
+        block(page, b"new-view view ", x.view, x.height, x.name);
+        number(page, b" certificate ", link.fourth);
     } else {
-        let start = block(rt, page, at, b"propose view ", x.view, x.height, x.name);
-        name(rt, page, start, b" parent ", x.link)
-    };
-    let masked = mask(rt, page, linked, b" mask ", x.mask);
-    number(rt, page, masked, b" author ", x.author as u64)
+        block(page, b"propose view ", x.view, x.height, x.name);
+        name(page, b" parent ", x.link);
+    }
+    mask(page, b" mask ", x.mask);
+    number(page, b" author ", u64::from(x.author));
 }
 
 // A committed block, by its height and its name.
-pub fn committed(rt: &impl Print, page: &mut Page, at: usize, height: u64, block: Name) -> usize {
-    let high = number(rt, page, at, b"committed: height ", height);
-    name(rt, page, high, b" name ", block)
+pub fn committed<P: Print>(page: &mut Page<P>, height: u64, block: Name) {
+    number(page, b"committed: height ", height);
+    name(page, b" name ", block);
 }
 
 // A propose on the wall display. Its ticks left are in two's complement: below zero it is overdue.
-pub fn shown(
-    rt: &impl Print,
-    page: &mut Page,
-    at: usize,
-    height: u64,
-    block: Name,
-    left: u64,
-) -> usize {
-    let high = number(rt, page, at, b"shown: height ", height);
-    let named = name(rt, page, high, b" name ", block);
+pub fn shown<P: Print>(page: &mut Page<P>, height: u64, block: Name, left: u64) {
+    number(page, b"shown: height ", height);
+    name(page, b" name ", block);
     if left == 0 {
-        return page::say(rt, page, named, b", due now");
+        page.say(b", due now");
+    } else if left <= i64::MAX as u64 {
+        ticks(page, b", ", left);
+        page.say(b" left");
+    } else {
+        ticks(page, b", overdue by ", u64::MAX - left + 1);
     }
-    if left <= i64::MAX as u64 {
-        let counted = ticks(rt, page, named, b", ", left);
-        return page::say(rt, page, counted, b" left");
-    }
-    ticks(rt, page, named, b", overdue by ", u64::MAX - left + 1)
 }
 
 // A word and a count of ticks.
-fn ticks(rt: &impl Print, page: &mut Page, at: usize, word: &[u8], count: u64) -> usize {
-    let counted = number(rt, page, at, word, count);
+fn ticks<P: Print>(page: &mut Page<P>, word: &[u8], count: u64) {
+    number(page, word, count);
     if count == 1 {
-        return page::say(rt, page, counted, b" tick");
+        page.say(b" tick");
+    } else {
+        page.say(b" ticks");
     }
-    page::say(rt, page, counted, b" ticks")
 }
 
 // A status: a certificate in words.
-pub fn status(
-    rt: &impl Print,
-    page: &mut Page,
-    at: usize,
-    height: u32,
-    block: Name,
-    cert: u32,
-    voters: u16,
-) -> usize {
-    let high = number(rt, page, at, b"status height ", height as u64);
-    let named = name(rt, page, high, b" name ", block);
-    let certified = number(rt, page, named, b" certificate ", cert as u64);
-    mask(rt, page, certified, b" mask ", voters)
+pub fn status<P: Print>(page: &mut Page<P>, height: u32, block: Name, cert: u32, voters: u16) {
+    number(page, b"status height ", u64::from(height));
+    name(page, b" name ", block);
+    number(page, b" certificate ", u64::from(cert));
+    mask(page, b" mask ", voters);
 }
 
 // A message.
-pub fn message(rt: &impl Print, page: &mut Page, at: usize, said: Message) -> usize {
+pub fn message<P: Print>(page: &mut Page<P>, said: Message) {
     match said {
-        Message::Stated(x) => statement(rt, page, at, x),
+        Message::Stated(x) => statement(page, x),
         Message::Vote {
             view,
             height,
             name,
             author,
         } => {
-            let voted = block(rt, page, at, b"vote view ", view, height, name);
-            number(rt, page, voted, b" author ", author as u64)
+            block(page, b"vote view ", view, height, name);
+            number(page, b" author ", u64::from(author));
         }
         Message::Blame { view, author } => {
-            let blamed = number(rt, page, at, b"blame view ", view as u64);
-            number(rt, page, blamed, b" author ", author as u64)
+            number(page, b"blame view ", u64::from(view));
+            number(page, b" author ", u64::from(author));
         }
         Message::BlameSet { view, mask } => {
-            let blamed = number(rt, page, at, b"blame-set view ", view as u64);
-            crate::mask(rt, page, blamed, b" mask ", mask)
+            number(page, b"blame-set view ", u64::from(view));
+            crate::mask(page, b" mask ", mask);
         }
         Message::Status {
             height,
             name,
             cert,
             mask,
-        } => status(rt, page, at, height, name, cert, mask),
+        } => status(page, height, name, cert, mask),
     }
 }

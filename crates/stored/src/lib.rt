@@ -28,7 +28,7 @@ fn is_good(store: &Store) -> bool {
 // The clock of a store.
 pub fn clock(store: &Store) -> u64 {
     let station = Station::load(store);
-    station.clock as u64
+    u64::from(station.clock)
 }
 
 // How many stations the group of a store has.
@@ -55,87 +55,69 @@ pub fn log(rt: &impl Print, line: u64, store: &Store) {
 
 // A refusal, or so many names that stand one behind another, lowest height first.
 pub fn names(rt: &impl Print, line: u64, refusal: u64, count: usize, names: &[u8]) {
-    let mut page = io::buffer();
-    let started = show::start(rt, &mut page, 0, line, b"log");
-    let end = logged(rt, &mut page, started, refusal, count, names);
-    page::finish(rt, &page, end);
+    let mut page = Page::new(rt);
+    show::start(&mut page, line, b"log");
+    logged(&mut page, refusal, count, names);
+    page.finish();
 }
 
-fn logged(
-    rt: &impl Print,
-    page: &mut Page,
-    at: usize,
-    refusal: u64,
-    count: usize,
-    names: &[u8],
-) -> usize {
+fn logged<P: Print>(page: &mut Page<P>, refusal: u64, count: usize, names: &[u8]) {
     if refusal != 0 {
-        return show::refused(rt, page, at, refusal);
+        show::refused(page, refusal);
+        return;
     }
-    let counted = spell::number(rt, page, at, b": ", count as u64);
-    let told = page::say(rt, page, counted, b" logged\n");
-    entries(rt, page, told, names, count)
-}
-
-// The entries of the log.
-fn entries(rt: &impl Print, page: &mut Page, at: usize, names: &[u8], count: usize) -> usize {
-    let mut end = at;
-    let mut i: usize = 0;
-    while i < count {
-        if names.len() / NAME <= i {
-            break;
-        }
-        end = entry(rt, page, end, names, i);
-        i += 1;
+    spell::number(page, b": ", count as u64);
+    page.say(b" logged\n");
+    for i in 0..count.min(names.len() / NAME) {
+        entry(page, names, i);
     }
-    end
 }
 
 // The entry at height i + 1.
-fn entry(rt: &impl Print, page: &mut Page, at: usize, names: &[u8], i: usize) -> usize
+fn entry<P: Print>(page: &mut Page<P>, names: &[u8], i: usize)
     requires { i < length names.now / 32 }
 {
-    let indented = page::say(rt, page, at, b"  ");
+    page.say(b"  ");
     let name = fields::get_name(names, NAME * i);
-    let said = spell::committed(rt, page, indented, i as u64 + 1, name);
-    page::put(rt, page, said, b'\n')
+    spell::committed(page, i as u64 + 1, name);
+    page.put(b'\n');
 }
 
 // The state: phase, view, entry and clock; then the lock as the status that says it, and when it was certified.
 pub fn state(rt: &impl Print, line: u64, store: &Store) {
-    let mut page = io::buffer();
-    let started = show::start(rt, &mut page, 0, line, b"state");
-    let end = standing(rt, &mut page, started, store);
-    page::finish(rt, &page, end);
+    let mut page = Page::new(rt);
+    show::start(&mut page, line, b"state");
+    standing(&mut page, store);
+    page.finish();
 }
 
 // The state of a store that is well formed.
-fn standing(rt: &impl Print, page: &mut Page, at: usize, store: &Store) -> usize {
+fn standing<P: Print>(page: &mut Page<P>, store: &Store) {
     if !is_good(store) {
-        return show::refused(rt, page, at, 2);
+        show::refused(page, 2);
+        return;
     }
     let station = Station::load(store);
-    let kind = station.phase;
-    let phased = phase(rt, page, at, kind, station.view as u64);
-    let entered = spell::number(rt, page, phased, b", entered at ", station.entry as u64);
-    let timed = spell::number(rt, page, entered, b", clock ", station.clock as u64);
-    let told = lock(rt, page, timed, station.lock);
-    let named = page::say(rt, page, told, b"  lock certified");
-    show::certified(rt, page, named, since(store, station.lock))
+    phase(page, station.phase, u64::from(station.view));
+    spell::number(page, b", entered at ", u64::from(station.entry));
+    spell::number(page, b", clock ", u64::from(station.clock));
+    lock(page, station.lock);
+    page.say(b"  lock certified");
+    show::certified(page, since(store, station.lock));
 }
 
 // The phase, of a view.
-fn phase(rt: &impl Print, page: &mut Page, at: usize, phase: Phase, view: u64) -> usize {
+fn phase<P: Print>(page: &mut Page<P>, phase: Phase, view: u64) {
     match phase {
-        Phase::InView => spell::number(rt, page, at, b": in view ", view),
+        Phase::InView => spell::number(page, b": in view ", view),
         Phase::Waiting(quit) => {
-            let said = spell::number(rt, page, at, b": waiting after view ", view);
-            spell::number(rt, page, said, b", quit at ", quit as u64)
+            spell::number(page, b": waiting after view ", view);
+            spell::number(page, b", quit at ", u64::from(quit));
         }
         Phase::Stopped(cause) => match cause {
-            Cause::Full => spell::number(rt, page, at, b": stopped, full, in view ", view),
-            Cause::Split => spell::number(rt, page, at, b": stopped, split, in view ", view),
-            Cause::Clock => spell::number(rt, page, at, b": stopped, clock, in view ", view),
+            Cause::Full => spell::number(page, b": stopped, full, in view ", view),
+            Cause::Split => spell::number(page, b": stopped, split, in view ", view),
+            Cause::Clock => spell::number(page, b": stopped, clock, in view ", view),
         },
     }
 }
@@ -143,22 +125,13 @@ fn phase(rt: &impl Print, page: &mut Page, at: usize, phase: Phase, view: u64) -
 // When the lock was certified, as a host is told it.
 fn since(store: &Store, lock: Certificate) -> u64 {
     let mut name = [0u8; 32];
-    let block = lock.name;
-    fields::put_name(&mut name, 0, block);
-    certified::station_certified(store, lock.view as u64, lock.height as u64, &name)
+    fields::put_name(&mut name, 0, lock.name);
+    certified::station_certified(store, u64::from(lock.view), u64::from(lock.height), &name)
 }
 
 // The lock.
-fn lock(rt: &impl Print, page: &mut Page, at: usize, lock: Certificate) -> usize {
-    let started = page::say(rt, page, at, b"\n  lock: ");
-    let said = spell::status(
-        rt,
-        page,
-        started,
-        lock.height,
-        lock.name,
-        lock.view,
-        lock.mask,
-    );
-    page::put(rt, page, said, b'\n')
+fn lock<P: Print>(page: &mut Page<P>, lock: Certificate) {
+    page.say(b"\n  lock: ");
+    spell::status(page, lock.height, lock.name, lock.view, lock.mask);
+    page.put(b'\n');
 }

@@ -1,6 +1,6 @@
 -- Runs, words and comparisons, as a loop upward meets them: what is left is the whole. Assumes nothing.
 use Prim.Native.Nat.{ℕ, suc, ◌+◌, ◌-◌, ◌<◌, ◌≤◌}
-use mathlib.Core.Path.{◌≡◌, refl, sym, ap, ap₂, ◌∙◌}
+use mathlib.Core.Path.{◌≡◌, refl, sym, ap, ◌∙◌}
 use mathlib.Core.Bool.{Bool, true, false, ◌&&◌}
 use mathlib.Core.List.{List, [], ◌∷◌, ◌++◌, append_assoc, append-nil}
 use native.Mathlib.Omega.{arith}
@@ -9,13 +9,13 @@ use lib.ListN.{length, take, drop, get_or, length-drop, drop_of_length-le}
 use lib.Seq.{drop-cons, drop-drop, take-suc, get_or-drop, length-take-le}
 use lib.Dec.{eqb}
 use borrow.Author.Tests.{ne_eqb, eq-eqb}
+use Rattle.std.specs.List.{list_all}
+use lib.Pointwise.{pointwise}
 use Rattle.rules.specs.Lists.{all}
 use Rattle.rules.specs.Script.{same_list}
-use Rattle.laws.proofs.Tests.{by_bool, and_right, no_bool}
-use Rattle.text.specs.Words.{front, behind, word, rest, no_word, passes}
+use Rattle.laws.proofs.Tests.{by_bool, no_bool}
+use Rattle.text.specs.Words.{front, behind, word, rest, no_word, is_space, in_word}
 use Rattle.text.specs.Places.{Runs, WordOf, Lists, placed}
-use Rattle.text.specs.declared.Over.{Over}
-use Rattle.text.specs.declared.Over.TheVariants.{Spaces, Word}
 use Rattle.text.specs.declared.Span.{Span}
 
 -- the element at a place and what stands behind it, as a loop counts
@@ -62,9 +62,9 @@ module _ (p : ℕ → Bool) (t : List ℕ) where
       let e = drop_of_length-le t h in stopped n (ap (front p) e) (ap (behind p) e ∙ sym e) r
 
 -- the same at a place of a line
-module _ (over : Over) (s : List ℕ) (from i : ℕ) (l : from ≤ i) where
+module _ (p : ℕ → Bool) (s : List ℕ) (from i : ℕ) (l : from ≤ i) where
   abbrev pub RanTo : Type 0
-  RanTo = Ran (passes over) (drop from s) (i - from)
+  RanTo = Ran p (drop from s) (i - from)
 
   from_to : from + (i - from) ≡ i
   from_to = omega arith
@@ -72,32 +72,32 @@ module _ (over : Over) (s : List ℕ) (from i : ℕ) (l : from ≤ i) where
   at_place : get_or (drop from s) (i - from) 0 ≡ get_or s i 0
   at_place = get_or-drop from s (i - from) 0 ∙ ap (λ (k : ℕ). get_or s k 0) from_to
 
-  runs : i ≤ length s → Stopped (passes over) (drop from s) (i - from) → Runs over s from i
+  runs : i ≤ length s → Stopped p (drop from s) (i - from) → Runs p s from i
   runs h r =
       record { low = l; high = h; is = r.is; after = ap (λ (k : ℕ). drop k s) (sym from_to) ∙ sym (drop-drop (i - from) from s) ∙ r.after }
 
-  pub run_more : i < length s → passes over (get_or s i 0) ≡ true → RanTo → Ran (passes over) (drop from s) (i + 1 - from)
+  pub run_more : i < length s → p (get_or s i 0) ≡ true → RanTo → Ran p (drop from s) (i + 1 - from)
   run_more h e r =
       let n : suc (i - from) ≡ i + 1 - from = omega arith in
-      rw n at (ran_more (passes over) (drop from s) (i - from) (simp length-drop (omega arith)) (ap (passes over) at_place ∙ e) r)
+      rw n at (ran_more p (drop from s) (i - from) (simp length-drop (omega arith)) (ap p at_place ∙ e) r)
 
-  pub run_stop : i < length s → passes over (get_or s i 0) ≡ false → RanTo → Runs over s from i
+  pub run_stop : i < length s → p (get_or s i 0) ≡ false → RanTo → Runs p s from i
   run_stop h e r =
-      runs (omega arith) (ran_stop (passes over) (drop from s) (i - from) (simp length-drop (omega arith)) (ap (passes over) at_place ∙ e) r)
+      runs (omega arith) (ran_stop p (drop from s) (i - from) (simp length-drop (omega arith)) (ap p at_place ∙ e) r)
 
-  pub run_end : i ≤ length s → length s ≤ i → RanTo → Runs over s from i
-  run_end h k r = runs h (ran_end (passes over) (drop from s) (i - from) (simp length-drop (omega arith)) r)
+  pub run_end : i ≤ length s → length s ≤ i → RanTo → Runs p s from i
+  run_end h k r = runs h (ran_end p (drop from s) (i - from) (simp length-drop (omega arith)) r)
 
-pub run_none : (over : Over) (s : List ℕ) (from : ℕ) → Ran (passes over) (drop from s) (from - from)
-run_none over s from =
-    let e : 0 ≡ from - from = omega arith in rw e at (ran_none (passes over) (drop from s))
+pub run_none : (p : ℕ → Bool) (s : List ℕ) (from : ℕ) → Ran p (drop from s) (from - from)
+run_none p s from =
+    let e : 0 ≡ from - from = omega arith in rw e at (ran_none p (drop from s))
 
 -- ---- words
 
-pub word_runs : (s : List ℕ) (from : ℕ) (w : Span) → Runs Spaces s from w.start → Runs Word s w.start w.end → WordOf s (drop from s) w
+pub word_runs : (s : List ℕ) (from : ℕ) (w : Span) → Runs is_space s from w.start → Runs in_word s w.start w.end → WordOf s (drop from s) w
 unfolding word rest
 word_runs s from w a b =
-    record { low = b.low; high = b.high; is = b.is ∙ ap (front (passes Word)) a.after; after = b.after ∙ ap (behind (passes Word)) a.after }
+    record { low = b.low; high = b.high; is = b.is ∙ ap (front in_word) a.after; after = b.after ∙ ap (behind in_word) a.after }
 
 module _ {s t : List ℕ} {w : Span} (r : WordOf s t w) where
   pub word_length : length (word t) ≡ w.end - w.start
@@ -121,42 +121,32 @@ lengths p (b ∷ t) =
 
 pub word_shorter : (t : List ℕ) → length (word t) ≤ length t
 unfolding word
-word_shorter t = omega (arith, lengths (passes Word) (behind (passes Spaces) t), lengths (passes Spaces) t)
+word_shorter t = omega (arith, lengths in_word (behind is_space t), lengths is_space t)
 
 pub rest_shorter : (t : List ℕ) → length (rest t) ≤ length t
 unfolding rest
-rest_shorter t = omega (arith, lengths (passes Word) (behind (passes Spaces) t), lengths (passes Spaces) t)
+rest_shorter t = omega (arith, lengths in_word (behind is_space t), lengths is_space t)
 
 pub word_after : (s : List ℕ) (at : ℕ) (w : Span) → at ≤ length s → WordOf s (drop at s) w → at ≤ w.start
 unfolding word rest
 word_after s at w h r =
-    let t = behind (passes Spaces) (drop at s) in
-    omega (arith, r.low, r.high, word_length r, lengths (passes Word) t, lengths (passes Spaces) (drop at s), length-drop at s, length-drop w.end s, ap length r.after)
+    let t = behind is_space (drop at s) in
+    omega (arith, r.low, r.high, word_length r, lengths in_word t, lengths is_space (drop at s), length-drop at s, length-drop w.end s, ap length r.after)
 
 -- ---- comparisons
 
-same_lengths : (a b : List ℕ) → same_list a b ≡ true → length a ≡ length b
+-- the library's equality of bytes, and its test of each byte, are the rules'
+pub same_is : (a b : List ℕ) → pointwise eqb a b ≡ same_list a b
 unfolding same_list
-same_lengths [] [] e = refl
-same_lengths [] (y ∷ b) e = no_bool (sym e)
-same_lengths (x ∷ a) [] e = no_bool (sym e)
-same_lengths (x ∷ a) (y ∷ b) e = ap suc (same_lengths a b (and_right (eqb x y) (same_list a b) e))
+same_is [] [] = refl
+same_is [] (y ∷ b) = refl
+same_is (x ∷ a) [] = refl
+same_is (x ∷ a) (y ∷ b) = ap (eqb x y &&◌) (same_is a b)
 
-pub same_never : (a b : List ℕ) → (length a ≡ length b → ⊥) → same_list a b ≡ false
-same_never a b n = by_bool (same_list a b) (λ e. absurd (n (same_lengths a b e))) (λ e. e)
-
-module _ (a b : List ℕ) (i : ℕ) (h : i < length a) (k : i < length b) where
-  pub same_step : get_or a i 0 ≡ get_or b i 0 → same_list (drop i a) (drop i b) ≡ same_list (drop (i + 1) a) (drop (i + 1) b)
-  unfolding same_list
-  same_step e = ap₂ same_list (drop_step a i 0 h) (drop_step b i 0 k) ∙ ap (◌&& same_list (drop (i + 1) a) (drop (i + 1) b)) (eq-eqb _ _ e)
-
-  pub same_stop : (get_or a i 0 ≡ get_or b i 0 → ⊥) → same_list (drop i a) (drop i b) ≡ false
-  unfolding same_list
-  same_stop n = ap₂ same_list (drop_step a i 0 h) (drop_step b i 0 k) ∙ ap (◌&& same_list (drop (i + 1) a) (drop (i + 1) b)) (ne_eqb _ _ n)
-
-pub same_end : (a b : List ℕ) (i : ℕ) → length a ≤ i → length b ≤ i → same_list (drop i a) (drop i b) ≡ true
-unfolding same_list
-same_end a b i h k = ap₂ same_list (drop_of_length-le a h) (drop_of_length-le b k)
+pub all_is : (p : ℕ → Bool) (s : List ℕ) → list_all p s ≡ all p s
+unfolding all
+all_is p [] = refl
+all_is p (x ∷ s) = ap (p x &&◌) (all_is p s)
 
 module _ (p : ℕ → Bool) (s : List ℕ) (i : ℕ) where
   pub all_end : length s ≤ i → all p (drop i s) ≡ true

@@ -1,16 +1,15 @@
 -- Runs and words at places of a text, as the code keeps them. Assumes nothing.
-use Rattle.std.specs.Prelude.{ℕ, suc, ◌-◌, ◌≤◌, ◌≡◌, true, false, List, [], ◌∷◌, length, take, drop}
+use Rattle.std.specs.Prelude.{ℕ, Bool, suc, ◌-◌, ◌≤◌, ◌≡◌, true, false, List, [], ◌∷◌, length, take, drop}
 use Rattle.rules.specs.Script.{same_list}
-use Rattle.text.specs.Words.{word, rest, no_word, passes, front, behind}
-use Rattle.text.specs.declared.Over.{Over}
+use Rattle.text.specs.Words.{word, rest, no_word, front, behind}
 use Rattle.text.specs.declared.Span.{Span}
 
--- a run of s from a place up to r
-pub record Runs (over : Over) (s : List ℕ) (from r : ℕ) : Type 0 where
+-- a run of bytes of s that pass, from a place up to r
+pub record Runs (p : ℕ → Bool) (s : List ℕ) (from r : ℕ) : Type 0 where
   pub low : from ≤ r
   pub high : r ≤ length s
-  pub is : take (r - from) (drop from s) ≡ front (passes over) (drop from s)
-  pub after : drop r s ≡ behind (passes over) (drop from s)
+  pub is : take (r - from) (drop from s) ≡ front p (drop from s)
+  pub after : drop r s ≡ behind p (drop from s)
 
 -- a part of s is the first word of t, a text that s ends with
 pub record WordOf (s t : List ℕ) (w : Span) : Type 0 where

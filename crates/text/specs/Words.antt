@@ -6,8 +6,6 @@ use Rattle.std.proofs.Math.Option.{Option, none, some}
 use Rattle.rules.specs.Lists.{within, all}
 use Rattle.rules.specs.Script.{same_list}
 use Rattle.rules.specs.Sizes.{only, joined}
-use Rattle.text.specs.declared.Over.{Over}
-use Rattle.text.specs.declared.Over.TheVariants.{Spaces, Word, Station}
 
 -- the bytes of a text
 unfoldable pub bytes : String → List ℕ
@@ -20,12 +18,13 @@ bytes (c ∷ᵗ s) = code c ∷ bytes s
 unfoldable pub is_space : ℕ → Bool
 is_space b = eqb b 32 || eqb b 9 || eqb b 13
 
--- the spaces before a word; the bytes of a word, which end at a space or at a comment; the bytes up to a '+'
-unfoldable pub passes : Over → ℕ → Bool
+-- the bytes of a word, which end at a space or at a comment; the bytes up to a '+'
+unfoldable pub in_word : ℕ → Bool
 unfolding is_space
-passes Spaces b = is_space b
-passes Word b = not (is_space b || eqb b 35)
-passes Station b = not (eqb b 43)
+in_word b = not (is_space b || eqb b 35)
+
+unfoldable pub in_station : ℕ → Bool
+in_station b = not (eqb b 43)
 
 -- the run of bytes in front, and what stands behind it
 module _ (p : ℕ → Bool) where
@@ -39,12 +38,12 @@ module _ (p : ℕ → Bool) where
 
 -- the first word of a text, empty if there is none, and what stands behind it
 unfoldable pub word : List ℕ → List ℕ
-unfolding front behind passes
-word s = front (passes Word) (behind (passes Spaces) s)
+unfolding front behind in_word is_space
+word s = front in_word (behind is_space s)
 
 unfoldable pub rest : List ℕ → List ℕ
-unfolding behind passes
-rest s = behind (passes Word) (behind (passes Spaces) s)
+unfolding behind in_word is_space
+rest s = behind in_word (behind is_space s)
 
 unfoldable pub no_word : List ℕ → Bool
 unfolding word

@@ -1,9 +1,8 @@
 // Runs of bytes, and the words of a line.
 #![tactic(auto)]
 
-ghost use Rattle.std.specs.Prelude.{List, ◌≡◌, ℕ, ◌≤◌, length, drop};
-ghost use Rattle.rules.specs.Script.{same_list};
-ghost use Rattle.text.specs.Words.{is_space, passes as passed};
+ghost use Rattle.std.specs.Prelude.{Bool, List, ◌≡◌, ℕ, ◌<◌, ◌≤◌, length, drop};
+ghost use Rattle.text.specs.Words.{is_space, in_word, is_dash};
 ghost use Rattle.text.specs.Places.{Runs, WordOf, Lists, placed};
 
 // A part of a line, from start up to end: empty where no word was found.
@@ -13,14 +12,6 @@ pub struct Span {
     pub end: usize,
 }
 
-// What a run goes over: the spaces before a word, the bytes of a word, the bytes up to a '+'.
-#[derive(Clone, Copy)]
-pub enum Over {
-    Spaces,
-    Word,
-    Station,
-}
-
 // Whether a byte parts words.
 fn is_space(b: u8) -> bool
     ensures { result ≡ is_space b }
@@ -28,30 +19,26 @@ fn is_space(b: u8) -> bool
     (b == b' ') | (b == b'\t') | (b == b'\r')
 }
 
-// Whether a run goes over a byte.
-fn passes(over: Over, b: u8) -> bool
-    ensures { result ≡ passed over b }
+// Whether a byte goes on with a word, which ends at a space or at a comment.
+fn in_word(b: u8) -> bool
+    ensures { result ≡ in_word b }
 {
-    match over {
-        Over::Spaces => is_space(b),
-        Over::Word => !(is_space(b) | (b == b'#')),
-        Over::Station => b != b'+',
-    }
+    !(is_space(b) | (b == b'#'))
 }
 
-// Where a run that starts at a place ends.
-pub fn run(s: &[u8], from: usize, over: Over) -> usize
-    requires { from ≤ length s.now }
-    ensures { Runs over s.now from result }
+// Where a run of bytes that pass ends, from a place on.
+pub fn run<F: Fn(u8) -> bool>(s: &[u8], from: usize, passes: F) -> usize
+    requires place { from ≤ length s.now }
+    requires callable { F.IsAlwaysCallable passes }
+    ensures bound { (from ≤ result) × (result ≤ length s.now) }
+    ensures runs { (p : ℕ → Bool) → ((b : ℕ) (r : Bool) → b < 256 → F.post passes b r → r ≡ p b) → Runs p s.now from result }
 {
-    let mut i = from;
-    while i < s.len() {
-        if !passes(over, s[i]) {
+    for i in from..s.len() {
+        if !passes(s[i]) {
             return i;
         }
-        i += 1;
     }
-    i
+    s.len()
 }
 
 // The next word from a place on.
@@ -59,26 +46,16 @@ pub fn word(s: &[u8], from: usize) -> Span
     requires { from ≤ length s.now }
     ensures { WordOf s.now (drop from s.now) result }
 {
-    let start = run(s, from, Over::Spaces);
-    let end = run(s, start, Over::Word);
+    let start = run(s, from, |b| is_space(b));
+    let end = run(s, start, |b| in_word(b));
     Span { start, end }
 }
 
-// Whether two runs of bytes are the same.
-pub fn same(a: &[u8], b: &[u8]) -> bool
-    ensures { result ≡ same_list a.now b.now }
+// Whether a word is '-', which says that there is nothing.
+pub fn is_dash(word: &[u8]) -> bool
+    ensures { result ≡ is_dash word.now }
 {
-    if a.len() != b.len() {
-        return false;
-    }
-    let mut i: usize = 0;
-    while i < a.len() {
-        if a[i] != b[i] {
-            return false;
-        }
-        i += 1;
-    }
-    true
+    word == b"-".as_slice()
 }
 
 // Which word of a list this is, counted from 1; 0 if it is none.
@@ -87,6 +64,7 @@ pub fn which(list: &[u8], it: &[u8]) -> usize
 {
     let mut at: usize = 0;
     let mut k: usize = 0;
+    // A turn goes on by a word, whose length no range knows.
     loop {
         let next = word(list, at);
         let start = next.start;
@@ -94,7 +72,7 @@ pub fn which(list: &[u8], it: &[u8]) -> usize
         if start == end {
             return 0;
         }
-        if same(&list[start..end], it) {
+        if &list[start..end] == it {
             return k + 1;
         }
         at = end;

@@ -1,5 +1,5 @@
 -- `hex_words::write_bytes` meets its contract. The invariant: what is left to write makes the whole. Assumes nothing.
-use Prim.Native.Nat.{◌+◌, ◌≤◌, ◌-◌, ◌*◌, ◌/◌}
+use Prim.Native.Nat.{◌+◌, ◌*◌}
 use mathlib.Core.Path.{◌≡◌}
 use lib.ListN.{length, drop}
 use Rattle.outgoing.specs.Wrote.{wrote}
@@ -8,7 +8,4 @@ use Rattle.hex_words.proofs.write_bytes.Given as goal
 
 abbrev pub invariant-loop-i : goal.invariant-loop-i
 invariant-loop-i l =
-    (l.i ≤ l.count) × (l.count ≡ length l.word / 2) × (length l.bytes ≡ length l.initial.bytes) × (wrote l.initial.bytes l.at (pairs l.word) ≡ wrote l.bytes (l.at + l.i) (pairs (drop (2 * l.i) l.word)))
-
-abbrev pub decreases-loop-i : goal.decreases-loop-i
-decreases-loop-i l = l.count - l.i
+    (length l.bytes ≡ length l.initial.bytes) × (wrote l.initial.bytes l.at (pairs l.word) ≡ wrote l.bytes (l.at + l.i) (pairs (drop (2 * l.i) l.word)))

@@ -1,19 +1,21 @@
 -- `lines::tick` meets its contract. Assumes nothing.
 use Rattle.text.proofs.Runs.{word_none, word_some}
-use Rattle.lines.proofs.Replies.{nothing_bad, nothing_tick, tick_one, tick_good, tick_wrong}
+use Rattle.parts.proofs.Fields.{before}
+use Rattle.lines.proofs.Replies.{nothing_refused, nothing_tick, tick_one, tick_good, tick_wrong}
 use Rattle.lines.proofs.tick.Goals as goal
 
 pub returns-then-word : goal.returns-then-word
-returns-then-word c =
-    nothing_tick _ _ (tick_one _ (word_none c.word-word.ensures c.if-word.true))
+returns-then-word c = nothing_tick _ _ (tick_one _ (word_none c.word-word.ensures c.if-word.true))
 
-pub returns-in-Wrong : goal.returns-in-Wrong
-returns-in-Wrong c =
-    let word = c.word-word in let if1 = c.if-word in
-    let field = c.field-count in let ending = c.ending in
-    nothing_bad _ _ (tick_wrong _ _ _ _ _ (word_some word.ensures if1.false) field.ensures ending.ensures _ c.in-Wrong.is)
+pub returns-in_err-count : goal.returns-in_err-count
+returns-in_err-count c =
+    nothing_refused _ c.from_residual.ensures (tick_wrong c.args.line.now c.args.at (word_some c.word-word.ensures c.if-word.false) _ (c.in_err-count.ensures _))
+
+pub returns-in_err-ending : goal.returns-in_err-ending
+returns-in_err-ending c =
+    nothing_refused _ c.from_residual-in_err-ending.ensures
+    (tick_wrong c.args.line.now c.args.at (word_some c.word-word.ensures c.if-word.false) _ (before c.in_ok-count.ensures _ _ c.in_err-ending.ensures))
 
 pub returns : goal.returns
 returns c =
-    let word = c.word-word in let if1 = c.if-word in let field = c.field-count in
-    nothing_tick _ _ (tick_good _ _ _ _ _ (word_some word.ensures if1.false) field.ensures c.ending.ensures _ c.in_default.is)
+    nothing_tick _ _ (tick_good c.args.line.now c.args.at (word_some c.word-word.ensures c.if-word.false) c.in_ok-count.ensures c.in_ok-ending.ensures)

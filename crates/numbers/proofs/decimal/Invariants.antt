@@ -1,14 +1,11 @@
 -- `numbers::decimal` meets its contract. The invariant: the digits read so far say the value, and the rest decides. Assumes nothing.
-use Prim.Native.Nat.{◌≤◌, ◌<◌, ◌-◌}
+use Prim.Native.Nat.{◌≤◌, ◌<◌}
 use mathlib.Core.Path.{◌≡◌}
 use lib.ListN.{length, drop}
 use Rattle.rules.specs.Lists.{all}
 use Rattle.text.specs.Words.{is_decimal, value as said}
 use Rattle.numbers.proofs.decimal.Given as goal
 
-abbrev pub invariant-loop-i : goal.invariant-loop-i
-invariant-loop-i l =
-    (l.i ≤ length l.word) × (0 < length l.word) × (l.value ≤ l.most) × (all is_decimal l.word ≡ all is_decimal (drop l.i l.word)) × (said 10 0 l.word ≡ said 10 l.value (drop l.i l.word))
-
-abbrev pub decreases-loop-i : goal.decreases-loop-i
-decreases-loop-i l = length l.word - l.i
+abbrev pub invariant-loop-b : goal.invariant-loop-b
+invariant-loop-b l =
+    (0 < length l.word) × (l.value ≤ l.most) × (all is_decimal l.word ≡ all is_decimal (drop l.b-index l.word)) × (said 10 0 l.word ≡ said 10 l.value (drop l.b-index l.word))

@@ -1,14 +1,16 @@
 -- `parts::field` meets its contract. Assumes nothing.
-use Rattle.parts.proofs.Fields.{field_wrong}
-use mathlib.Core.Path.{refl}
+use Rattle.parts.proofs.Fields.{field_missing, field_not, field_is, gives}
 use Rattle.parts.proofs.field.Goals as goal
 
-pub field_at-requires : goal.field_at-requires
-field_at-requires c = rw c.in-At.is at c.requires
+pub returns-then-start-next : goal.returns-then-start-next
+returns-then-start-next c =
+    field_missing _ _ _ _ c.word_of-word.ensures c.if-start-next.true
 
-pub returns-in-At : goal.returns-in-At
-returns-in-At c = rw c.in-At.is c.field_at.ensures
+pub returns-in_err-value : goal.returns-in_err-value
+returns-in_err-value c =
+    rw (gives _ _ c.from_residual.ensures)
+    (field_not _ _ _ _ c.word_of-word.ensures c.if-start-next.false _ (rw c.sort_of.ensures at c.in_err-value.ensures))
 
-pub returns-in-Wrong : goal.returns-in-Wrong
-returns-in-Wrong c =
-    rw c.in-Wrong.is (field_wrong _ _ _ _ _ _ c.wrong.ensures.0 c.wrong.ensures.1 (λ ts. refl))
+pub returns : goal.returns
+returns c =
+    field_is _ _ _ _ c.word_of-word.ensures c.if-start-next.false _ (rw c.sort_of.ensures at c.in_ok-value.ensures)

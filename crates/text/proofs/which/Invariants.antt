@@ -6,9 +6,9 @@ use mathlib.Core.List.{List}
 use lib.ListN.{length}
 use Rattle.text.proofs.which.Given as goal
 
-abbrev pub invariant-loop-at : goal.invariant-loop-at
-invariant-loop-at l =
+abbrev pub invariant-loop-it : goal.invariant-loop-it
+invariant-loop-it l =
     (l.at ≤ length l.list) × (l.k ≤ l.at) × ((ws : List (List ℕ)) → Lists ws l.list → Passed ws l.list l.it l.at l.k)
 
-abbrev pub decreases-loop-at : goal.decreases-loop-at
-decreases-loop-at l = length l.list - l.at
+abbrev pub decreases-loop-it : goal.decreases-loop-it
+decreases-loop-it l = length l.list - l.at

@@ -1,7 +1,0 @@
--- `page::pair` types two digits. Assumes nothing.
-use Rattle.page.specs.Page.{typed}
-use Rattle.page.proofs.pair.Goals as goal
-
-pub returns : goal.returns
-unfolding typed
-returns g c = cc
