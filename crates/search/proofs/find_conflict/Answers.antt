@@ -1,8 +1,6 @@
 -- `search::find_conflict` meets its contract. Assumes nothing.
 use mathlib.Core.Path.{◌∙◌, ap}
 use mathlib.Core.Option.{none}
-use borrow.Author.Rules.{rules}
-use Rattle.store.proofs.Counts.{long}
 use native.Mathlib.Omega.{arith}
 use Rattle.rules.specs.Words.{conflict}
 use Rattle.wire.specs.Meaning.{statement_of}
@@ -12,11 +10,8 @@ use Rattle.store.specs.Searches.{first_from}
 use Rattle.store.proofs.Rows.{rows_whole}
 use Rattle.search.proofs.find_conflict.Goals as goal
 
-pub first_from-requires-clause-callable : goal.first_from-requires-clause-callable
-first_from-requires-clause-callable c = let k = long c.requires in λ i l. search rules
-
 pub returns : goal.returns
 unfolding statements
 returns c =
     let a = c.args in
-    c.first_from.ensures (conflict (statement_of a.x none)) (λ i b h. search rules) ∙ ap (first_from (conflict (statement_of a.x none)) 0) (rows_whole (statement_at a.store.now) (count_of statement_table a.store.now) 0 (omega arith))
+    c.conflict_from.ensures ∙ ap (first_from (conflict (statement_of a.x none)) 0) (rows_whole (statement_at a.store.now) (count_of statement_table a.store.now) 0 (omega arith))

@@ -1,7 +1,6 @@
 -- `search::rival_of` meets its contract. Assumes nothing.
 use mathlib.Core.Path.{sym, ◌∙◌}
 use mathlib.Core.Option.{none}
-use borrow.Author.Rules.{rules}
 use native.Mathlib.Omega.{arith}
 use Rattle.rules.specs.Words.{conflict}
 use Rattle.wire.specs.Meaning.{statement_of}
@@ -29,9 +28,6 @@ pub overflow_add-i : goal.overflow_add-i
 overflow_add-i c =
     omega (arith, c.requires.1, few_statements_lem c.requires.0)
 
-pub first_from-requires-clause-callable : goal.first_from-requires-clause-callable
-first_from-requires-clause-callable c = let k = long c.requires.0 in λ i l. search rules
-
 pub returns : goal.returns
 returns c =
     let a = c.args in let pre = c.requires in let view-at = c.view_at in
@@ -44,5 +40,5 @@ returns c =
     (sym view-at.ensures ∙ c.if-view_at-view.false)
     (conflict (statement_of c.statement_at-x.result none))
     (read_conflicts c.statement_at-x.result (statement_at a.store.now a.i) c.statement_at-x.ensures)
-    c.first_from.result
-    (c.first_from.ensures (conflict (statement_of c.statement_at-x.result none)) (λ i b h. search rules))
+    c.conflict_from.result
+    c.conflict_from.ensures
