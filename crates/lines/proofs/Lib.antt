@@ -1,3 +1,4 @@
 pub mod Messages
 pub mod Replies
 pub mod Room
+pub mod TwoWords

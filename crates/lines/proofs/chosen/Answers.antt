@@ -2,16 +2,14 @@
 use Rattle.outgoing.proofs.Writing.{wrote_append}
 use Rattle.outgoing.specs.Wrote.{wrote}
 use Rattle.text.specs.Words.{word, pairs}
-use Rattle.lines.specs.Script.{hex}
-use Rattle.text.proofs.Runs.{word_length}
-use Rattle.hex_words.proofs.Hex.{length_pairs}
-use Rattle.lines.proofs.Replies.{refused, too_long, written_good, chosen_wrong, chosen_both}
-use Prim.Native.Nat.{ℕ, ◌/◌}
-use mathlib.Core.Path.{◌≡◌, sym, ap, ap₂, ◌∙◌}
+use Rattle.lines.proofs.TwoWords.{first_long, second_long, both_long, both_meant}
+use Rattle.lines.proofs.Replies.{refused, too_long, written_good, chosen_wrong}
+use Prim.Native.Nat.{ℕ}
+use mathlib.Core.Path.{◌≡◌, sym, ap₂, ◌∙◌}
 use native.Mathlib.Omega.{arith}
 use native.Mathlib.Nat.{zero-add}
 use mathlib.Core.List.{List, ◌++◌}
-use lib.ListN.{drop, length-append}
+use lib.ListN.{drop}
 use Rattle.lines.proofs.chosen.Goals as goal
 
 pub returns-in_err-word : goal.returns-in_err-word
@@ -27,24 +25,22 @@ returns-then-bytes-len c =
     let a = c.args in
     let w = c.in_ok-word.ensures in
     let v = c.in_ok-other.ensures in
-    let t = drop a.at a.line.now in
-    let u = drop c.in_ok-word.word.end a.line.now in
-    let n = length_pairs (word t) ∙ ap (λ (k : ℕ). k / 2) (word_length w.0) in
-    let m = length_pairs (word u) ∙ ap (λ (k : ℕ). k / 2) (word_length v.0) in
-    let is = chosen_both t w.1 w.2 _ (sym n) (pairs (word u)) (sym (ap hex w.0.after) ∙ v.1) in
-    let all = length-append (pairs (word t)) (pairs (word u)) in
-    too_long (pairs (word t) ++ pairs (word u)) _ _ _ is (omega (arith, n, m, all, c.if-bytes-len.true))
+    let s = a.line.now in
+    let n = first_long s a.at w.0 w.1 w.2 v.0 v.1 in
+    let m = second_long s a.at w.0 w.1 w.2 v.0 v.1 in
+    let all = both_long s a.at w.0 w.1 w.2 v.0 v.1 in
+    too_long _ _ _ _ (both_meant s a.at w.0 w.1 w.2 v.0 v.1) (omega (arith, n, m, all, c.if-bytes-len.true))
 
 pub returns : goal.returns
 returns c =
     let a = c.args in
     let w = c.in_ok-word.ensures in
     let v = c.in_ok-other.ensures in
-    let t = drop a.at a.line.now in
-    let u = drop c.in_ok-word.word.end a.line.now in
-    let n = length_pairs (word t) ∙ ap (λ (k : ℕ). k / 2) (word_length w.0) in
-    let m = length_pairs (word u) ∙ ap (λ (k : ℕ). k / 2) (word_length v.0) in
-    let is = chosen_both t w.1 w.2 _ (sym n) (pairs (word u)) (sym (ap hex w.0.after) ∙ v.1) in
-    let all = length-append (pairs (word t)) (pairs (word u)) in
+    let s = a.line.now in
+    let t = drop a.at s in
+    let u = drop c.in_ok-word.word.end s in
+    let n = first_long s a.at w.0 w.1 w.2 v.0 v.1 in
+    let m = second_long s a.at w.0 w.1 w.2 v.0 v.1 in
+    let all = both_long s a.at w.0 w.1 w.2 v.0 v.1 in
     let both : _ ≡ wrote a.bytes.now 0 (pairs (word t) ++ pairs (word u)) = (rw v.0.is at c.write_bytes-2.ensures) ∙ ap₂ (λ (l : List ℕ) (k : ℕ). wrote l k (pairs (word u))) (rw w.0.is at c.write_bytes.ensures) (sym n ∙ sym (zero-add _)) ∙ sym (wrote_append a.bytes.now 0 (pairs (word t)) (pairs (word u))) in
-    written_good (pairs (word t) ++ pairs (word u)) _ _ _ is (omega (arith, n, m, all, c.if-bytes-len.false)) _ _ (omega (arith, n, m, all)) both
+    written_good _ _ _ _ (both_meant s a.at w.0 w.1 w.2 v.0 v.1) (omega (arith, n, m, all, c.if-bytes-len.false)) _ _ (omega (arith, n, m, all)) both
