@@ -1,11 +1,11 @@
 -- Tables of places: the names that they stand for, and how one is copied. Assumes nothing.
-use Prim.Native.Nat.{ℕ, ◌+◌, ◌-◌, ◌<◌, ◌≤◌}
-use mathlib.Core.Path.{◌≡◌, sym, ap, ◌∙◌}
-use mathlib.Core.List.{List, ◌++◌}
+use Prim.Native.Nat.{ℕ, ◌+◌, ◌<◌, ◌≤◌}
+use mathlib.Core.Path.{◌≡◌, refl, sym, ap, ◌∙◌, subst}
+use mathlib.Core.List.{List}
 use native.Mathlib.Omega.{arith}
 use native.Mathlib.Decide.{dec_lt}
-use lib.ListN.{length, get_or, take, drop, get_or-append, length-drop}
-use lib.Seq.{length-take-le, get_or-append_right, get_or-take, get_or-drop}
+use lib.ListN.{length, get_or, set}
+use lib.Seq.{get_or-set_same, get_or-set_other}
 use borrow.Author.Tests.{lt-ltb, le-ltb}
 use Rattle.store.specs.Layout.{log_table, count_of}
 use Rattle.store.specs.Decode.{statement_at, name_at}
@@ -33,26 +33,21 @@ so_far_same b t t' k e =
       | no l ↦ so_far_new b t k (omega arith) ∙ sym (so_far_new b t' k (omega arith) ∙ name_same b t t' k e)
     ]
 
--- ---- the places that are copied: those from one to another, in the middle of a table
+-- ---- the loop that copies
 
-module _ (from to mid post : List ℕ) (start end : ℕ) (s : start ≤ end) (e : end ≤ length from) (t : start ≤ length to) (q : mid ≡ take (end - start) (drop start from)) where
-  short : length (take start to) ≡ start
-  short = length-take-le start to t
+module _ (from to : List ℕ) (start : ℕ) where
+  pub copied_none : Copied from to to start start
+  copied_none = record { below = λ k l. refl; within = λ k l m. absurd (omega arith) }
 
-  many : length mid ≡ end - start
-  many = ap length q ∙ length-take-le (end - start) (drop start from) (omega (arith, length-drop start from))
+  pub copied_next : (left : List ℕ) (k : ℕ) → start ≤ k → k < length left → Copied from to left start k → Copied from to (set left k (get_or from k 0)) start (k + 1)
+  copied_next left k s l c = record {
+    below = λ j m. get_or-set_other left k j (get_or from k 0) 0 (λ z. omega arith) ∙ c.below j m;
+    within = λ j m n.
+        elim (dec_lt j k) [
+          | yes u ↦ get_or-set_other left k j (get_or from k 0) 0 (λ z. omega arith) ∙ c.within j m u
+          | no u ↦ (let z : k ≡ j = omega arith in subst (λ (j : ℕ). get_or (set left k (get_or from k 0)) j 0 ≡ get_or from j 0) z (get_or-set_same left k (get_or from k 0) 0 l))
+        ];
+  }
 
-  pub copied_part : Copied from to (take start to ++ (mid ++ post)) start end
-  copied_part =
-      record {
-        below = λ k l. get_or-append (take start to) (mid ++ post) 0 k (omega (arith, short)) ∙ get_or-take start to k 0 l;
-        within = λ k l m.
-            let on : start + (k - start) ≡ k = omega (arith, l) in
-            get_or-append_right (take start to) (mid ++ post) k 0 (omega (arith, short))
-            ∙ ap (λ (j : ℕ). get_or (mid ++ post) (k - j) 0) short
-            ∙ get_or-append mid post 0 (k - start) (omega (arith, many))
-            ∙ ap (λ (xs : List ℕ). get_or xs (k - start) 0) q
-            ∙ get_or-take (end - start) (drop start from) (k - start) 0 (omega (arith, l, m))
-            ∙ get_or-drop start from (k - start) 0
-            ∙ ap (λ (j : ℕ). get_or from j 0) on;
-      }
+  pub copied_end : (left : List ℕ) (k end : ℕ) → end ≤ k → Copied from to left start k → Copied from to left start end
+  copied_end left k end l c = record { below = c.below; within = λ j m n. c.within j m (omega arith) }

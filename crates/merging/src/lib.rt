@@ -7,7 +7,7 @@ ghost use Rattle.rules.specs.Limits.{most_statements};
 ghost use Rattle.fields.specs.Names.{name_of};
 ghost use Rattle.store.specs.Layout.{size_in, log_table, store_length, count_of};
 ghost use Rattle.glance.specs.Tables.{name_in, Known};
-ghost use Rattle.merging.specs.Joins.{name_so_far, WholeChain, Agree, JoinedWith};
+ghost use Rattle.merging.specs.Joins.{name_so_far, WholeChain, Agree, Copied, JoinedWith};
 
 use fields::Name;
 
@@ -55,6 +55,16 @@ fn agrees(
     true
 }
 
+// Copies the places from one height up to another, one by one: std's copy would want a name from outside of whoever links the archive.
+fn copy_places(from: &[u16], to: &mut [u16], start: usize, end: usize)
+    requires { (end ≤ length from.now) × (end ≤ length to.old) }
+    ensures { Copied from.now to.old to.new start end }
+{
+    for k in start..end {
+        to[k] = from[k];
+    }
+}
+
 // A whole chain joins the log so far: how long the log is then, or nothing where the chain differs from it. The lengths stand beside
 // the tables, for there is no heap: the log's table grows in place, and the chain's is walked into again.
 pub fn join(
@@ -84,6 +94,6 @@ pub fn join(
     if height <= len {
         return Some(len);
     }
-    gained[len..height].copy_from_slice(&chain[len..height]);
+    copy_places(chain, gained, len, height);
     Some(height)
 }

@@ -1,12 +1,13 @@
 -- A record's bytes: how many they are, and that writing its parts one after another leaves them. Assumes nothing.
 use Prim.Native.Nat.{ℕ, zero, suc, ◌+◌, ◌-◌, ◌^◌, ◌<◌, ◌≤◌}
-use mathlib.Core.Path.{◌≡◌, refl, sym, ap, ap₂, ◌∙◌}
+use mathlib.Core.Path.{◌≡◌, refl, ap, ap₂, ◌∙◌}
 use mathlib.Core.List.{List, [], ◌∷◌, ◌++◌, append-nil}
 use native.Mathlib.Omega.{arith}
 use native.Mathlib.Nat.{zero-div, zero-mod}
-use lib.ListN.{length, set, replicate, length-append, length-replicate, drop_of_length-le}
+use native.Mathlib.Numerals.{add-one}
+use lib.ListN.{length, drop, set, get_or, replicate, length-append, length-replicate, drop_of_length-le}
+use lib.Seq.{drop-cons}
 use lib.Dec.{lit<}
-use borrow.Rule.Slice.PartMut.{put_mid}
 use Rattle.fields.specs.Places.{put}
 use Rattle.rules.specs.Lists.{unbe}
 use Rattle.rules.specs.Messages.{field}
@@ -31,17 +32,17 @@ length_record q k bs h =
     let z : length pad ≡ n = length-replicate n 0 in
     omega (arith, length-append (field 0x20 (unbe 4 q)) (field 0x21 (k ∷ bs) ++ (pad ++ 0x5A ∷ [])), length-append (field 0x21 (k ∷ bs)) (pad ++ 0x5A ∷ []), length-append pad (0x5A ∷ []), length_field 0x20 (unbe 4 q), length_unbe 4 q, length_field 0x21 (k ∷ bs))
 
--- bytes written behind another byte
-wrote_behind : (x : ℕ) (s : List ℕ) (at : ℕ) (bs : List ℕ) → wrote (x ∷ s) (suc at) bs ≡ x ∷ wrote s at bs
+-- bytes copied so far, and those left
+pub wrote_step : (s : List ℕ) (at k : ℕ) (bs : List ℕ) → k < length bs
+    → wrote s (at + k) (drop k bs) ≡ wrote (set s (at + k) (get_or bs k 0)) (at + (k + 1)) (drop (k + 1) bs)
 unfolding wrote
-wrote_behind x s at [] = refl
-wrote_behind x s at (b ∷ bs) = wrote_behind x (set s at b) (suc at) bs
+wrote_step s at k bs h =
+    let n : suc (at + k) ≡ at + (k + 1) = omega arith in
+    rw (drop-cons bs k 0 h) (rw (add-one k) (ap (λ (i : ℕ). wrote (set s (at + k) (get_or bs k 0)) i (drop (suc k) bs)) (n ∙ rw (add-one k))))
 
--- bytes over a part of others are written there
-pub wrote_mid : (s : List ℕ) (at k : ℕ) (bs : List ℕ) → length bs ≡ k → at + k ≤ length s → put_mid at k s bs ≡ wrote s at bs
-wrote_mid s zero k bs e h = rw (← e) (sym (wrote_prefix s bs (omega arith)))
-wrote_mid [] (suc at) k bs e h = absurd (omega arith)
-wrote_mid (x ∷ s) (suc at) k bs e h = ap (x ∷◌) (wrote_mid s at k bs e (omega arith)) ∙ sym (wrote_behind x s at bs)
+pub wrote_end : (s : List ℕ) (at k : ℕ) (bs : List ℕ) → length bs ≤ k → wrote s at (drop k bs) ≡ s
+unfolding wrote
+wrote_end s at k bs h = rw (drop_of_length-le bs h)
 
 -- the parts of a record, written in their order
 pub record_wrote : {s₁ s₂ s₃ s₄ s₅ s₆ s₇ : List ℕ} (s : List ℕ) (q k : ℕ) (bs : List ℕ) → length s ≡ slot_length → q < 2 ^ 32 → k < 256 → length bs ≤ most_input

@@ -37,12 +37,14 @@ pub fn is_input(kind: u64, input: &[u8]) -> bool
     }
 }
 
-// Copies bytes to a place.
+// Copies bytes to a place, one by one: std's copy would want a name from outside of whoever links the archive.
 pub fn copy(slot: &mut [u8], at: usize, input: &[u8])
     requires { at + length input.now ≤ length slot.old }
     ensures { slot.new ≡ wrote slot.old at input.now }
 {
-    slot[at..at + input.len()].copy_from_slice(input);
+    for k in 0..input.len() {
+        slot[at + k] = input[k];
+    }
 }
 
 // Writes the record of a number and an input over a slot.

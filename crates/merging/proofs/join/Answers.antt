@@ -1,5 +1,4 @@
 -- `merging::join` meets its contract. Assumes nothing.
-use Rattle.merging.proofs.Places.{copied_part}
 use Rattle.merging.proofs.Joining.{join_differs, join_stays, join_grows}
 use Prim.Native.Nat.{◌≤◌}
 use native.Mathlib.Omega.{arith}
@@ -22,10 +21,14 @@ returns-then-height-len c =
     let short = c.if-height-len.true in
     join_stays _ _ _ _ _ _ c.requires.0 _ agrees.result agrees.ensures short (omega (arith, short, c.min.ensures)) c.if-not-agrees.false
 
+pub copy_places-requires : goal.copy_places-requires
+copy_places-requires c =
+    let pre = c.requires.0 in
+    (omega (arith, pre.high, pre.whole), omega (arith, pre.high, pre.long))
+
 pub returns : goal.returns
 returns c =
     let pre = c.requires.0 in
     let agrees = c.agrees in
     let long : c.args.len ≤ c.args.height = omega (arith, c.if-height-len.false) in
-    let copied = copied_part c.args.chain.now c.args.gained.now _ _ _ _ long (omega (arith, pre.high, pre.whole)) (omega (arith, pre.fits, pre.long)) c.copy_from_slice.ensures.after in
-    join_grows _ _ _ _ _ _ pre _ agrees.result agrees.ensures long (omega (arith, long, c.min.ensures)) c.if-not-agrees.false _ copied
+    join_grows _ _ _ _ _ _ pre _ agrees.result agrees.ensures long (omega (arith, long, c.min.ensures)) c.if-not-agrees.false _ c.copy_places.ensures
