@@ -1,3 +1,2 @@
-mod Same
 pub mod Judging
 pub mod OneForm

@@ -186,7 +186,7 @@ bytes_wrote s b at [] c = b
 bytes_wrote s b at (x ∷ bs) c = bytes_wrote (set s at x) (bytes_set s b at x (c 0).fits) (suc at) bs (λ i. c (suc i))
 
 -- a record is bytes
-pub bytes_record : (s : List ℕ) → Bytes s → length s ≡ slot_length → (q k : ℕ) (bs : List ℕ) → q < 2 ^ 32 → k < 256 → length bs ≤ most_input → Bytes bs → Bytes (record_bytes q k bs)
+bytes_record : (s : List ℕ) → Bytes s → length s ≡ slot_length → (q k : ℕ) (bs : List ℕ) → q < 2 ^ 32 → k < 256 → length bs ≤ most_input → Bytes bs → Bytes (record_bytes q k bs)
 bytes_record s b n q k bs hq hk hb c =
     let s₁ = put s 0 3 (0x20 * 65_536 + 4) in
     let s₂ = put s₁ 3 4 q in
