@@ -4,7 +4,7 @@
 ghost use Rattle.std.specs.Prelude.{◌≡◌};
 ghost use Rattle.lent_list.specs.Plain.{left, plain_fresh};
 
-use answer::Refusal;
+use lent_list::Refusal;
 use settings::{Settings, Size};
 
 // Makes a fresh list of whatever was in it.

@@ -1,3 +1,4 @@
 pub mod Lists
 pub mod Plain
 pub mod Meaning
+pub mod Numbers

@@ -1,13 +1,14 @@
 // The list that a host lends to the plain engine, as it is read: its length, its form, and the inputs that it holds.
 #![tactic(auto)]
 
-ghost use Rattle.std.specs.Prelude.{◌≡◌, true, ◌<◌};
+ghost use Rattle.std.specs.Prelude.{◌≡◌, true, ◌*◌, ◌^◌, ◌<◌};
 ghost use Rattle.settings.specs.Made.{settings_of};
 ghost use Rattle.settings.specs.declared.Size.TheVariants.{Small};
 ghost use Rattle.slots.specs.Slots.{judged};
 ghost use Rattle.journal.specs.Journal.{slot_at, slots_of};
 ghost use Rattle.lent_list.specs.Lists.{records_in, slots_in, has_length, settings_in, is_placed, are_placed, has_form};
 ghost use Rattle.lent_list.specs.Meaning.{Stands};
+ghost use Rattle.lent_list.specs.Numbers.{number_of};
 
 use settings::{Settings, Size};
 use slot_reader::Slot;
@@ -113,4 +114,43 @@ pub fn held_at(list: &[u8], place: usize) -> Option<Held<'_>>
         Slot::Bad => None,
         Slot::Whole { kind, input, .. } => Some(Held { kind, input }),
     }
+}
+
+// Why the plain engine refuses an input before the rules are asked, or has no slot for it. These refusals are its own: above settings and
+// messages it shares no code with the working station.
+#[derive(Clone, Copy, Debug, PartialEq, Eq)]
+pub enum Refusal {
+    Lengths,
+    Malformed,
+    BadSettings,
+    NoSlot,
+}
+
+impl Refusal {
+    // Its number.
+    fn number(self) -> u64
+        ensures { result ≡ number_of self }
+    {
+        match self {
+            Refusal::Lengths => 1,
+            Refusal::Malformed => 2,
+            Refusal::BadSettings => 10,
+            Refusal::NoSlot => 13,
+        }
+    }
+
+    // What a host is told: the number times 2^32, and no count.
+    pub fn answer(self) -> u64
+        ensures { result ≡ number_of self * 2 ^ 32 }
+    {
+        refuse(self.number())
+    }
+}
+
+// What a host is told of a refusal by its number.
+pub fn refuse(number: u64) -> u64
+    requires { number < 2 ^ 32 }
+    ensures { result ≡ number * 2 ^ 32 }
+{
+    number << 32
 }

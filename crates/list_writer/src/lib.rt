@@ -6,7 +6,7 @@ ghost use Rattle.slots.specs.Slots.{is_input, is_kept};
 ghost use Rattle.lent_list.specs.Lists.{has_length, is_full, added};
 ghost use Rattle.lent_list.specs.Plain.{entering, Gives};
 
-use answer::Refusal;
+use lent_list::Refusal;
 
 // Adds an input: its record behind the last one, and the number of records in the head.
 fn add(list: &mut [u8], kind: u64, input: &[u8])
@@ -46,11 +46,11 @@ pub fn enter(
 {
     if slots::is_kept(number) {
         if is_full(list) {
-            return Refusal::Journal.answer();
+            return Refusal::NoSlot.answer();
         }
         add(list, kind, input);
         slots::copy(out, 0, said);
-        return answer::refuse(number) + said.len() as u64;
+        return lent_list::refuse(number) + said.len() as u64;
     }
-    answer::refuse(number)
+    lent_list::refuse(number)
 }

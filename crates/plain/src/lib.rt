@@ -4,7 +4,7 @@
 ghost use Rattle.std.specs.Prelude.{◌≡◌};
 ghost use Rattle.lent_list.specs.Plain.{plain_step, plain_tick, plain_offer, Gives as Answers, left, plain_log};
 
-use answer::Refusal;
+use lent_list::Refusal;
 use plain_answers::answered;
 
 // A tick.

@@ -6,7 +6,7 @@ ghost use Rattle.lent_list.specs.Lists.{has_length, has_form, input_of};
 ghost use Rattle.lent_list.specs.Plain.{held, plainly, Gives as Answers, left, plain_log};
 ghost use Rattle.plain_answers.specs.Meaning.{FoldedTo, Comes};
 
-use answer::Refusal;
+use lent_list::Refusal;
 use plain_tables::Engine;
 use settings::Settings;
 
@@ -40,7 +40,7 @@ pub fn answered(list: &mut [u8], out: &mut [u8], kind: u64, input: &[u8]) -> u64
 {
     let number = plain_lists::barred(list, out);
     if number != 0 {
-        return answer::refuse(number);
+        return lent_list::refuse(number);
     }
     let Some(engine) = fold(list) else {
         return Refusal::Malformed.answer();
@@ -56,7 +56,7 @@ pub fn log_of(list: &[u8], out: &mut [u8]) -> u64
 {
     let number = plain_lists::barred(list, out);
     if number != 0 {
-        return answer::refuse(number);
+        return lent_list::refuse(number);
     }
     let Some(engine) = fold(list) else {
         return Refusal::Malformed.answer();
