@@ -1,4 +1,7 @@
 // The station of a script: the working one, whose state is the store; or the plain engine, whose state is a list of all inputs.
+ghost use Rattle.std.specs.Prelude.{◌≡◌, true};
+ghost use Rattle.lent_list.specs.Plain.{left, plain_fresh};
+
 use said::show;
 use said::show::Out;
 use stored::Store;
@@ -35,15 +38,18 @@ impl Engine {
         }
     }
 
-    // A fresh store, or a fresh list.
-    pub fn fresh(&mut self, n: u64, delay: u64, own: u64) -> u64 {
-        if self.is_plain {
-            let answer = fresh_list::plain_fresh(&mut self.list, n, delay, own);
-            if answer != 0 {
-                return answer;
-            }
+    // A fresh store, or a fresh list, whose own answer it is.
+    pub fn fresh(&mut self, n: u64, delay: u64, own: u64) -> u64
+        ensures { self.old.is_plain ≡ true → left result self.new.list ≡ plain_fresh self.old.list n delay own }
+    {
+        if !self.is_plain {
+            return station::station_fresh(&mut self.store, n, delay, own);
         }
-        station::station_fresh(&mut self.store, n, delay, own)
+        let answer = fresh_list::plain_fresh(&mut self.list, n, delay, own);
+        if answer == 0 {
+            station::station_fresh(&mut self.store, n, delay, own);
+        }
+        answer
     }
 
     // An input. What the plain engine keeps in its list the store beside it takes too, and nobody sees what it says.
