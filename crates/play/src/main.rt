@@ -43,16 +43,6 @@ impl Script {
         }
     }
 
-    // A byte of a line is kept, if there is room.
-    fn keep(&mut self, byte: u8) {
-        if self.used < LONGEST {
-            self.line[self.used] = byte;
-            self.used += 1;
-        } else {
-            self.is_long = true;
-        }
-    }
-
     // Plays the line, and says whether it was one.
     fn play(&mut self, rt: &impl Print) -> bool {
         // A line is never longer than its room; the second test shows it where the slice is taken.
@@ -73,15 +63,23 @@ impl Script {
         self.is_long = false;
     }
 
-    // A piece of the script: lines, and parts of lines.
+    // A piece of the script: lines, and parts of lines. A byte of a line is kept, if there is room. How much of the line is used is
+    // counted beside the script, where each byte takes fewer instructions.
     fn read_on(&mut self, rt: &impl Print, piece: &[u8]) {
+        let mut used = self.used;
         for &byte in piece {
             if byte == b'\n' {
+                self.used = used;
                 self.end(rt);
+                used = 0;
+            } else if used < LONGEST {
+                self.line[used] = byte;
+                used += 1;
             } else {
-                self.keep(byte);
+                self.is_long = true;
             }
         }
+        self.used = used;
     }
 }
 
