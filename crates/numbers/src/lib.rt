@@ -6,7 +6,7 @@ ghost use Rattle.text.specs.Words.{is_decimal, digit, decimal, mask};
 ghost use Rattle.numbers.specs.Meaning.{number_of};
 
 // Whether a byte is a decimal digit.
-fn is_decimal(b: u8) -> bool
+pub fn is_decimal(b: u8) -> bool
     ensures { result ≡ is_decimal b }
 {
     b.is_ascii_digit()

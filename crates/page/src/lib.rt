@@ -1,9 +1,11 @@
 // Text is put on a page, which is written when it is full or an answer is whole.
 #![tactic(auto)]
 
-ghost use Rattle.std.specs.Prelude.{◌+◌, ◌/◌, ◌%◌, ◌<◌, min, max, ◌≡◌, [], ◌∷◌, set, replicate};
+ghost use Rattle.std.specs.Prelude.{◌+◌, ◌/◌, ◌%◌, ◌<◌, min, max, ◌≡◌, [], ◌∷◌, set, replicate, ⊤};
 ghost use Rattle.io.specs.Digits.{hex_digit_ascii};
 ghost use Rattle.page.specs.Page.{place, typed, in_hex, Spelt};
+
+use std::alloc::AllocError;
 
 // The bytes in use stand first. Where they go when they are written is lent with the page.
 #[derive(Drop)]
@@ -11,6 +13,18 @@ pub struct Page<'p, P: Print> {
     pub rt: &'p P,
     pub text: [u8; 4096],
     pub used: usize,
+}
+
+impl<'p, P: Print> Copy for Page<'p, P> {}
+
+impl<'p, P: Print> Clone for Page<'p, P> {
+    ghost is_clone = { λ own other. (other.text ≡ own.text) × (other.used ≡ own.used) };
+
+    ghost is_infallible = { λ _. ⊤ };
+
+    fn clone(&self) -> Result<Self, AllocError> {
+        Ok(*self)
+    }
 }
 
 impl<'p, P: Print> Page<'p, P> {
@@ -22,16 +36,16 @@ impl<'p, P: Print> Page<'p, P> {
         Page { rt, text, used: 0 }
     }
 
-    // Writes what the page has. What cannot be written is lost.
-    fn write_out(&self) {
-        if self.used <= 4096 {
-            let _ = self.rt.write_all(&self.text[..self.used]);
+    // Writes the first bytes of the page. What cannot be written is lost.
+    fn write_out(&self, end: usize) {
+        if end <= 4096 {
+            let _ = self.rt.write_all(&self.text[..end]);
         }
     }
 
     // Writes what the page has, and ends it.
     pub fn finish(self) {
-        self.write_out();
+        self.write_out(self.used);
     }
 
     // A byte behind the others, or first on the next page where this one is full.
@@ -43,7 +57,7 @@ impl<'p, P: Print> Page<'p, P> {
             self.used += 1;
             return;
         }
-        self.write_out();
+        self.write_out(4096);
         self.text[0] = byte;
         self.used = 1;
     }
